@@ -1,0 +1,6 @@
+-- Laws that the crates above cite.
+pub mod Places
+pub mod Reader
+pub mod Writer
+pub mod RoundTrip
+pub mod Outcomes

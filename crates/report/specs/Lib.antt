@@ -1,0 +1,2 @@
+-- A report and its payload: what the functions of `report` are held to.
+pub mod Payload
