@@ -31,6 +31,8 @@ use Rattle.wire.proofs.put_field16.Kinds as put-field16-kinds
 use Rattle.wire.proofs.put_field16.Reads as put-field16-reads
 use Rattle.wire.proofs.put_field32.Kinds as put-field32-kinds
 use Rattle.wire.proofs.put_field32.Reads as put-field32-reads
+use Rattle.wire.proofs.read24.Kinds as read24-kinds
+use Rattle.wire.proofs.read24.Reads as read24-reads
 
 -- Two results that a contract allows for the same arguments are equal.
 abbrev pub OneAnswer : (n : ℕ) (ps : List (PK n)) (r : RK n) → Out n ps r → Type 0
@@ -77,3 +79,6 @@ put-field16-once κs a x y s t p q = p ∙ sym q
 
 put-field32-once : OneLeft 1 put-field32-kinds.ps put-field32-kinds.r put-field32-reads.Post (List ℕ) (λ κs s. now (s .0))
 put-field32-once κs a x y s t p q = p ∙ sym q
+
+read24-once : OneAnswer 1 read24-kinds.ps read24-kinds.r read24-reads.Post
+read24-once κs a x y s t p q = p ∙ sym q

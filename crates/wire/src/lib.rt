@@ -71,6 +71,16 @@ pub fn read16(s: &[u8], at: usize) -> u16
     }
 }
 
+// The three-byte number at `at`.
+pub fn read24(s: &[u8], at: usize) -> u32
+    ensures { λ r. ⌜ r ≡ number (part at 3 (now (s .entry))) ⌝ }
+{
+    if s.len() <= at {
+        return 0;
+    }
+    (byte(s, at) as u32) + 256 * (read16(s, at + 1) as u32)
+}
+
 // The four-byte number at `at`.
 pub fn read32(s: &[u8], at: usize) -> u32
     ensures { λ r. ⌜ r ≡ number (part at 4 (now (s .entry))) ⌝ }
