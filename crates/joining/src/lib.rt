@@ -1,0 +1,364 @@
+// Frames of the bus joined into reports: a session for each sender, by the broadcast rules of SAE J1939-21.
+ghost use mathlib.Core.Path.{_≡_};
+ghost use mathlib.Core.Bool.{true};
+ghost use Prim.Native.Nat.{_≤_};
+ghost use lib.ListN.{length};
+ghost use Rattle.joining.specs.Frame.{foreign, frameRefusal, senderIn};
+ghost use Rattle.joining.specs.Joining.{packets, carries, freshSession, isOpen, fit, closed, opened, stored, finishes, refused, sound, announce, packet, take-frame, sizeHeld, payloadHeld};
+use report::Payload;
+use report::Reading;
+use report::Report;
+
+// Whose session a frame is for, 0 to 253, or why it is for none.
+pub enum Sender {
+    Of(u8),
+    Refused(u8),
+}
+
+// What a frame is answered: the refusal's number; kept, as it opened a session or was its next packet; or the report that
+// its last packet completed.
+pub enum Answer {
+    Refused(u8),
+    Kept,
+    Complete(Report),
+}
+
+// What one sender has sent of a report: the payload's bytes so far, its size and packet count, and the packet that is due.
+// All three numbers are 0 where no report is under way.
+pub struct Session {
+    pub bytes: [u8; 84],
+    pub size: u8,
+    pub count: u8,
+    pub next: u8,
+}
+
+// A frame's answer and the session that it leaves.
+pub struct Taken {
+    pub answer: Answer,
+    pub session: Session,
+}
+
+// An identifier and the data bytes, as they come from the bus.
+pub struct Frame {}
+
+impl Frame {
+    pub const IDENTIFIERS: u32 = 536870912;
+
+    pub const DATA: usize = 8;
+
+    pub const ANNOUNCEMENT: u32 = 236;
+
+    pub const PACKET: u32 = 235;
+
+    pub const EVERYONE: u32 = 255;
+
+    pub const LARGEST_SENDER: u32 = 253;
+
+    pub const MALFORMED: u8 = 1;
+
+    pub const FOREIGN: u8 = 2;
+
+    pub const NO_SUCH_SENDER: u8 = 3;
+
+    // Whose session the frame is for. Refusals 1 to 3 are for none.
+    pub fn sender(id: u32, data: &[u8]) -> Sender
+        ensures { λ r. ⌜ r ≡ senderIn id (now («data» .entry)) ⌝ }
+    {
+        let n = frame_refusal(id, data);
+        if n != 0 {
+            return Sender::Refused(n);
+        }
+        Sender::Of((id % 256) as u8)
+    }
+}
+
+// What a frame is refused for before any session is looked at, or 0.
+fn frame_refusal(id: u32, data: &[u8]) -> u8
+    ensures { λ r. ⌜ r ≡ frameRefusal id (now («data» .entry)) ⌝ }
+{
+    if Frame::IDENTIFIERS <= id {
+        return Frame::MALFORMED;
+    }
+    if data.len() != Frame::DATA {
+        return Frame::MALFORMED;
+    }
+    if foreign(id) {
+        return Frame::FOREIGN;
+    }
+    if Frame::LARGEST_SENDER < id % 256 {
+        return Frame::NO_SUCH_SENDER;
+    }
+    0
+}
+
+// Whether the identifier is of another kind than a broadcast announcement or data packet.
+fn foreign(id: u32) -> bool
+    ensures { λ r. ⌜ r ≡ foreign id ⌝ }
+{
+    if id / 16777216 % 4 != 0 {
+        return true;
+    }
+    let format = id / 65536 % 256;
+    if format != Frame::ANNOUNCEMENT {
+        if format != Frame::PACKET {
+            return true;
+        }
+    }
+    id / 256 % 256 != Frame::EVERYONE
+}
+
+impl Session {
+    pub const UNFIT: u8 = 24;
+    pub const NOT_AN_ANNOUNCEMENT: u8 = 4;
+    pub const BAD_SIZE: u8 = 5;
+    pub const OTHER_GROUP: u8 = 6;
+    pub const OTHER_SIZE: u8 = 7;
+    pub const NOT_OPEN: u8 = 8;
+    pub const OUT_OF_SEQUENCE: u8 = 9;
+
+    // The first byte of an announcement, the sizes that one can name, and the group of our reports.
+    pub const BROADCAST: u8 = 32;
+    pub const SMALLEST: u16 = 9;
+    pub const LARGEST: u16 = 1785;
+    pub const GROUP: u32 = 65300;
+    // The payload bytes of a packet.
+    pub const PART: usize = 7;
+
+    // A session with no report under way and every byte 255.
+    pub fn fresh() -> Session
+        ensures { λ r. ⌜ r ≡ freshSession ⌝ }
+    {
+        let bytes = [255u8; 84];
+        Session {
+            bytes,
+            size: 0,
+            count: 0,
+            next: 0,
+        }
+    }
+
+    // Whether the three numbers are those of a session that is closed, or open with its next packet within its count.
+    pub fn fit(self) -> bool
+        ensures { λ r. ⌜ r ≡ fit self ⌝ }
+    {
+        let size = self.size;
+        let count = self.count;
+        let next = self.next;
+        if size == 0 {
+            return count == 0 && next == 0;
+        }
+        if !carries(size as u16) {
+            return false;
+        }
+        if count as u16 != packets(size as u16) {
+            return false;
+        }
+        0 < next && next <= count
+    }
+
+    // Takes a frame of this session's sender. The order of refusals is 1, 2, 3, 24, then 4 to 7 or 8 to 10.
+    pub fn frame(self, id: u32, data: &[u8]) -> Taken
+        ensures { λ r. ⌜ r ≡ take-frame self id (now («data» .entry)) ⌝ }
+    {
+        let n = frame_refusal(id, data);
+        if n != 0 {
+            return Taken {
+                answer: Answer::Refused(n),
+                session: self,
+            };
+        }
+        if !self.fit() {
+            return Taken {
+                answer: Answer::Refused(Session::UNFIT),
+                session: self,
+            };
+        }
+        if id / 65536 % 256 == Frame::ANNOUNCEMENT {
+            announced(self, data)
+        } else {
+            packet(self, data)
+        }
+    }
+
+    // The payload of a finished report as a part of its session's bytes; `report::Payload` has its note.
+    pub fn payload(bytes: &[u8]) -> &[u8]
+        ensures { λ r. ⌜ now r ≡ payloadHeld (now (bytes .entry)) ⌝ }
+    {
+        let size = size_held(bytes);
+        if size <= bytes.len() {
+            &bytes[..size]
+        } else {
+            &bytes[..bytes.len()]
+        }
+    }
+}
+
+// How many packets carry a payload of this size.
+fn packets(size: u16) -> u16
+    requires { ⌜ size ≤ 1785 ⌝ }
+    ensures { λ r. ⌜ r ≡ packets size ⌝ }
+{
+    (size + 6) / 7
+}
+
+// Whether a payload of ours can have this size.
+fn carries(size: u16) -> bool
+    ensures { λ r. ⌜ r ≡ carries size ⌝ }
+{
+    if size == 17 {
+        return true;
+    }
+    20 <= size && size <= 84
+}
+
+// The session with no report under way; its bytes stay.
+fn closed(s: Session) -> Session
+    ensures { λ r. ⌜ r ≡ closed s ⌝ }
+{
+    let bytes = s.bytes;
+    Session {
+        bytes,
+        size: 0,
+        count: 0,
+        next: 0,
+    }
+}
+
+// Whether an announcement's size is one that a broadcast can have, with the count that belongs to it.
+fn sound(data: &[u8]) -> bool
+    ensures { λ r. ⌜ r ≡ sound (now («data» .entry)) ⌝ }
+{
+    let size = wire::read16(data, 1);
+    if size < Session::SMALLEST {
+        return false;
+    }
+    if Session::LARGEST < size {
+        return false;
+    }
+    wire::byte(data, 3) as u16 == packets(size)
+}
+
+// The session that an announcement opens, replacing what was under way.
+fn opened(size: u16) -> Session
+    requires { ⌜ size ≤ 84 ⌝ }
+    ensures { λ r. ⌜ r ≡ opened size ⌝ }
+{
+    let bytes = [255u8; 84];
+    Session {
+        bytes,
+        size: size as u8,
+        count: packets(size) as u8,
+        next: 1,
+    }
+}
+
+// An announcement of the session's sender.
+fn announced(s: Session, data: &[u8]) -> Taken
+    ensures { λ r. ⌜ r ≡ announce s (now («data» .entry)) ⌝ }
+{
+    if wire::byte(data, 0) != Session::BROADCAST {
+        return refused(Session::NOT_AN_ANNOUNCEMENT, s);
+    }
+    if !sound(data) {
+        return refused(Session::BAD_SIZE, closed(s));
+    }
+    if wire::read24(data, 5) != Session::GROUP {
+        return refused(Session::OTHER_GROUP, closed(s));
+    }
+    let size = wire::read16(data, 1);
+    if !carries(size) {
+        return refused(Session::OTHER_SIZE, closed(s));
+    }
+    Taken {
+        answer: Answer::Kept,
+        session: opened(size),
+    }
+}
+
+fn refused(n: u8, s: Session) -> Taken
+    ensures { λ r. ⌜ r ≡ refused n s ⌝ }
+{
+    Taken {
+        answer: Answer::Refused(n),
+        session: s,
+    }
+}
+
+// A data packet of the session's sender.
+fn packet(s: Session, data: &[u8]) -> Taken
+    requires { ⌜ fit s ≡ true ⌝ }
+    requires { ⌜ length (now «data») ≡ 8 ⌝ }
+    ensures { λ r. ⌜ r ≡ packet s (now («data» .entry)) ⌝ }
+{
+    let size = s.size;
+    let count = s.count;
+    let next = s.next;
+    if size == 0 {
+        return refused(Session::NOT_OPEN, s);
+    }
+    if wire::byte(data, 0) != next {
+        return refused(Session::OUT_OF_SEQUENCE, closed(s));
+    }
+    let bytes = stored(s, data);
+    if next < count {
+        return Taken {
+            answer: Answer::Kept,
+            session: Session {
+                bytes,
+                size,
+                count,
+                next: next + 1,
+            },
+        };
+    }
+    finished(bytes, size)
+}
+
+// The session's bytes with the expected packet's among them, those past the size left out.
+fn stored(s: Session, data: &[u8]) -> [u8; 84]
+    requires { ⌜ isOpen s ≡ true ⌝ }
+    requires { ⌜ length (now «data») ≡ 8 ⌝ }
+    ensures { λ r. ⌜ r ≡ stored s (now («data» .entry)) ⌝ }
+{
+    let mut bytes = s.bytes;
+    let at = Session::PART * ((s.next - 1) as usize);
+    let left = (s.size as usize) - at;
+    if left < Session::PART {
+        wire::put_all(&mut bytes, at, &data[1..1 + left]);
+    } else {
+        wire::put_all(&mut bytes, at, &data[1..]);
+    }
+    bytes
+}
+
+// What the last packet answers, and the session that it closes.
+fn finished(bytes: [u8; 84], size: u8) -> Taken
+    requires { ⌜ size ≤ 84 ⌝ }
+    ensures { λ r. ⌜ r ≡ finishes bytes size ⌝ }
+{
+    let n = size as usize;
+    let answer = match Payload::read(&bytes[..n]) {
+        Reading::Accepted(report) => Answer::Complete(report),
+        Reading::Refused(number) => Answer::Refused(number),
+    };
+    Taken {
+        answer,
+        session: Session {
+            bytes,
+            size: 0,
+            count: 0,
+            next: 0,
+        },
+    }
+}
+
+// The size of the payload that a finished session's bytes hold.
+fn size_held(bytes: &[u8]) -> usize
+    ensures { λ r. ⌜ r ≡ sizeHeld (now (bytes .entry)) ⌝ }
+{
+    if wire::byte(bytes, 17) == 4 {
+        20 + (wire::read16(bytes, 18) as usize)
+    } else {
+        17
+    }
+}
