@@ -162,7 +162,8 @@ fn note_name(noted: bool, note: &[u8]) {
     }
 }
 
-// Where several refusals apply, the first of 12, 19 and 20.
+// Where several refusals apply, the first of 12, 19 and 20. The last call writes no note, so the length of its note is no
+// fault.
 fn faults() {
     let note = [0u8; 65];
     let mut space = [0u8; 16];
