@@ -1,0 +1,151 @@
+-- Laws of lists that the ranking cites, each by induction on its list: membership, what holds of each pair, those that pass a test, the last entry.
+-- Assumes nothing.
+use mathlib.Core.Path.{_≡_, refl, sym, ap, _∙_, subst}
+use mathlib.Core.Logic.{_⊎_, inl, inr, ⊎-elim}
+use mathlib.Core.Bool.{Bool, true, false, not, true≢false}
+use mathlib.Core.List.{List, [], _∷_, _++_, map, List·Memᴰ, List·Memᴰ·head, List·Memᴰ·tail, List·Memᴰ·not-nil, List·Memᴰ·cases-cons, Memᴰ·append-left, Memᴰ·append-right}
+use Prim.Native.Nat.{ℕ, zero, suc, _-_, _≤_, _<_}
+use native.Mathlib.Nat.{eq-or-lt-of-le}
+use lib.Seq.{take-take}
+use native.Mathlib.Omega.{arith}
+use lib.ListN.{length, take, drop, getD, take-append-drop}
+use Rattle.ranking.specs.Best.{onLast, only}
+
+infix 50 _∈_
+-- x is one of the list's members
+abbrev pub _∈_ {ℓ} : {A : Type ℓ} → A → List A → Type ℓ
+x ∈ l = List·Memᴰ x l
+
+-- a Boolean test and its outcome
+pub data Tested (b : Bool) : Type 0 where
+  passed : b ≡ true → Tested b
+  failed : b ≡ false → Tested b
+
+pub tested : (b : Bool) → Tested b
+tested true = passed refl
+tested false = failed refl
+
+pub clash {ℓ} : {X : Type ℓ} {b : Bool} → b ≡ true → b ≡ false → X
+clash p q = absurd (true≢false (sym p ∙ q))
+
+pub not-true : (b : Bool) → b ≡ false → not b ≡ true
+not-true b e = ap not e
+
+pub lt-or-eq : {m n : ℕ} → m ≤ n → (m < n) ⊎ (m ≡ n)
+lt-or-eq h = ⊎-elim (λ e. inr e) (λ l. inl l) (eq-or-lt-of-le h)
+
+module _ {A : Type 0} where
+  pub here : {x : A} {xs : List A} → x ∈ x ∷ xs
+  here = List·Memᴰ·head refl
+
+  pub there : {x y : A} {xs : List A} → x ∈ xs → x ∈ y ∷ xs
+  there m = List·Memᴰ·tail m
+
+  pub none-in : {x : A} → x ∈ [] → ⊥
+  none-in m = List·Memᴰ·not-nil m
+
+  -- a member's place
+  pub moved : {x y : A} {l : List A} → x ≡ y → x ∈ l → y ∈ l
+  moved {l} e m = subst (λ z. z ∈ l) e m
+
+  -- all members of the one are members of the other
+  infix 50 _⊆_
+  abbrev pub _⊆_ : List A → List A → Type 0
+  xs ⊆ ys = (x : A) → x ∈ xs → x ∈ ys
+
+  abbrev pub Same : List A → List A → Type 0
+  Same xs ys = (xs ⊆ ys) × (ys ⊆ xs)
+
+  pub ⊆-cons : {x : A} {xs ys : List A} → x ∈ ys → xs ⊆ ys → (x ∷ xs) ⊆ ys
+  ⊆-cons {ys} h k z m = ⊎-elim (λ e. moved (sym e) h) (k z) (List·Memᴰ·cases-cons m)
+
+  pub ++-cases : {x : A} (xs : List A) {ys : List A} → x ∈ xs ++ ys → (x ∈ xs) ⊎ (x ∈ ys)
+  ++-cases xs m = mathlib.Core.List.List·Memᴰ·append-cases xs m
+
+  pub take-⊆ : (n : ℕ) (l : List A) → take n l ⊆ l
+  take-⊆ zero l x m = absurd (none-in m)
+  take-⊆ (suc n) [] x m = m
+  take-⊆ (suc n) (y ∷ ys) x m = ⊎-elim (λ e. List·Memᴰ·head e) (λ k. there (take-⊆ n ys x k)) (List·Memᴰ·cases-cons m)
+
+  pub take-more : {m n : ℕ} (l : List A) → m ≤ n → take m l ⊆ take n l
+  take-more {m} {n} l h x k = take-⊆ m (take n l) x (subst (λ s. x ∈ s) (sym (take-take m n l h)) k)
+
+  pub drop-⊆ : (n : ℕ) (l : List A) → drop n l ⊆ l
+  drop-⊆ zero l x m = m
+  drop-⊆ (suc n) [] x m = m
+  drop-⊆ (suc n) (y ∷ ys) x m = there (drop-⊆ n ys x m)
+
+  -- what R says of each member and each later one
+  abbrev pub Pairwise : (A → A → Type 0) → List A → Type 0
+  Pairwise R [] = Unit {0}
+  Pairwise R (x ∷ xs) = ((y : A) → y ∈ xs → R x y) × Pairwise R xs
+
+  -- each once
+  abbrev pub Distinct : List A → Type 0
+  Distinct l = Pairwise (λ x y. x ≡ y → ⊥) l
+
+  pub pairwise-map : {R S : A → A → Type 0} → ((x y : A) → R x y → S x y) → (l : List A) → Pairwise R l → Pairwise S l
+  pairwise-map f [] p = tt
+  pairwise-map f (x ∷ xs) p = (λ y m. f x y (p .0 y m), pairwise-map f xs (p .1))
+
+  pub pairwise-split : (R : A → A → Type 0) (xs ys : List A) → Pairwise R (xs ++ ys) → (x y : A) → x ∈ xs → y ∈ ys → R x y
+  pairwise-split R [] ys p x y m k = absurd (none-in m)
+  pairwise-split R (z ∷ zs) ys p x y m k =
+      ⊎-elim (λ e. subst (λ v. R v y) (sym e) (p .0 y (Memᴰ·append-right zs k)))
+      (λ n. pairwise-split R zs ys (p .1) x y n k)
+      (List·Memᴰ·cases-cons m)
+
+  pub pairwise-take : (R : A → A → Type 0) (n : ℕ) (l : List A) → Pairwise R l → Pairwise R (take n l)
+  pairwise-take R zero l p = tt
+  pairwise-take R (suc n) [] p = tt
+  pairwise-take R (suc n) (x ∷ xs) p = (λ y m. p .0 y (take-⊆ n xs y m), pairwise-take R n xs (p .1))
+
+  -- before and after the place n
+  pub pairwise-at : (R : A → A → Type 0) (n : ℕ) (l : List A) → Pairwise R l → (x y : A) → x ∈ take n l → y ∈ drop n l → R x y
+  pairwise-at R n l p = pairwise-split R (take n l) (drop n l) (subst (Pairwise R) (sym (take-append-drop n l)) p)
+
+  pub pairwise-drop : (R : A → A → Type 0) (n : ℕ) (l : List A) → Pairwise R l → Pairwise R (drop n l)
+  pairwise-drop R zero l p = p
+  pairwise-drop R (suc n) [] p = tt
+  pairwise-drop R (suc n) (x ∷ xs) p = pairwise-drop R n xs (p .1)
+
+  -- those that pass a test
+  pub only-in : (p : A → Bool) (l : List A) {x : A} → x ∈ l → p x ≡ true → x ∈ only p l
+  only-in p [] m t = m
+  only-in p (y ∷ ys) {x} m t = go (tested (p y)) (List·Memᴰ·cases-cons m) (λ k. only-in p ys k t)
+    where
+      go : Tested (p y) → (x ≡ y) ⊎ (x ∈ ys) → (x ∈ ys → x ∈ only p ys) → x ∈ only p (y ∷ ys)
+      go (passed e) (inl q) f = rw (e, only) (List·Memᴰ·head q)
+      go (passed e) (inr k) f = rw (e, only) (there (f k))
+      go (failed e) (inl q) f = clash (sym (ap p q) ∙ t) e
+      go (failed e) (inr k) f = rw (e, only) (f k)
+
+  pub only-of : (p : A → Bool) (l : List A) {x : A} → x ∈ only p l → (x ∈ l) × (p x ≡ true)
+  only-of p [] m = absurd (none-in m)
+  only-of p (y ∷ ys) {x} m = go (tested (p y)) (λ k. only-of p ys k)
+    where
+      ends : p y ≡ true → (x ∈ only p ys → (x ∈ ys) × (p x ≡ true)) → (x ≡ y) ⊎ (x ∈ only p ys) → (x ∈ y ∷ ys) × (p x ≡ true)
+      ends e f (inl q) = (List·Memᴰ·head q, ap p q ∙ e)
+      ends e f (inr k) = (there (f k .0), f k .1)
+
+      go : Tested (p y) → (x ∈ only p ys → (x ∈ ys) × (p x ≡ true)) → (x ∈ y ∷ ys) × (p x ≡ true)
+      go (passed e) f = ends e f (List·Memᴰ·cases-cons (rw (e, only) at m))
+      go (failed e) f = let r : (x ∈ ys) × (p x ≡ true) = f (rw (e, only) at m) in (there (r .0), r .1)
+
+  pub pairwise-only : (R : A → A → Type 0) (p : A → Bool) (l : List A) → Pairwise R l → Pairwise R (only p l)
+  pairwise-only R p [] w = tt
+  pairwise-only R p (x ∷ xs) w = go (tested (p x)) (pairwise-only R p xs (w .1))
+    where
+      go : Tested (p x) → Pairwise R (only p xs) → Pairwise R (only p (x ∷ xs))
+      go (passed e) r = rw (e, only) (λ y m. w .0 y (only-of p xs m .0), r)
+      go (failed e) r = rw (e, only) r
+
+  -- the last entry
+  pub last-not : (p : A → Bool) (x : A) (l : List A) → onLast (λ y. not (p y)) (x ∷ l) ≡ not (onLast p (x ∷ l))
+  last-not p x [] = refl
+  last-not p x (y ∷ ys) = last-not p y ys
+
+  -- where a list has entries, its last one is the one at its length less one
+  pub last-at : (p : A → Bool) (d x : A) (l : List A) → onLast p (x ∷ l) ≡ p (getD (x ∷ l) (length l) d)
+  last-at p d x [] = refl
+  last-at p d x (y ∷ ys) = last-at p d y ys
