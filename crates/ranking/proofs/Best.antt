@@ -24,6 +24,17 @@ module _ {E : Type 0} (above : E → E → Bool) where
   abbrev pub Falling : List E → Type 0
   Falling l = Pairwise (λ x y. above x y ≡ true) l
 
+  -- a list that isn't empty has a last entry, and every other entry ranks above it
+  pub record Lowest (l : List E) : Type 0 where
+    pub entry : E
+    pub listed : entry ∈ l
+    pub is-last : (p : E → Bool) → onLast p l ≡ p entry
+    pub rest : (z : E) → z ∈ l → (z ≡ entry) ⊎ (above z entry ≡ true)
+
+  -- x enters exactly where the list is short, has x already, or x ranks above its last
+  abbrev pub Enters : ℕ → E → List E → Type 0
+  Enters k x l = (length (best above k l) < k) ⊎ ((x ∈ best above k l) ⊎ (onLast (above x) (best above k l) ≡ true))
+
   -- how two stand to each other
   data Stand (x y : E) : Type 0 where
     first : above x y ≡ true → Stand x y
@@ -232,13 +243,6 @@ module _ {E : Type 0} (above : E → E → Bool) where
         falling-same (place above x l) l (place-falling x l w) w
         (λ z k. ⊎-elim (λ q. moved (sym q) m) (λ j. j) (place-of x l k), place-keeps x l)
 
-    -- a list that isn't empty has a last entry, and every other entry ranks above it
-    pub record Lowest (l : List E) : Type 0 where
-      pub entry : E
-      pub listed : entry ∈ l
-      pub is-last : (p : E → Bool) → onLast p l ≡ p entry
-      pub rest : (z : E) → z ∈ l → (z ≡ entry) ⊎ (above z entry ≡ true)
-
     pub lowest : (x : E) (l : List E) → Falling (x ∷ l) → Lowest (x ∷ l)
     lowest x [] w =
         record {
@@ -268,7 +272,7 @@ module _ {E : Type 0} (above : E → E → Bool) where
         let e : above (r .entry) x ≡ true = sym (r .is-last (λ v. above v x)) ∙ h in
         ⊎-elim (λ q. subst (λ v. above v x ≡ true) (sym q) e) (λ q. order .transitive z (r .entry) x q e) (r .rest z m)
 
-    length-best-le : (k : ℕ) (l : List E) → length (best above k l) ≤ k
+    pub length-best-le : (k : ℕ) (l : List E) → length (best above k l) ≤ k
     length-best-le k l = simp length-take (omega arith)
 
     -- below the last of a full list: nothing changes
@@ -327,10 +331,6 @@ module _ {E : Type 0} (above : E → E → Bool) where
         go (first e) ih = rw (place-first x y (u ∷ us) e) here
         go (later e f) ih = rw (place-later x y (u ∷ us) e f) (there ih)
         go (same e f) ih = rw (place-same x y (u ∷ us) e f) (List·Memᴰ·head (order .total x y e f))
-
-    -- x enters exactly where the list is short, has x already, or x ranks above its last
-    abbrev pub Enters : ℕ → E → List E → Type 0
-    Enters k x l = (length (best above k l) < k) ⊎ ((x ∈ best above k l) ⊎ (onLast (above x) (best above k l) ≡ true))
 
     pub enters : (k : ℕ) (x : E) (l : List E) → Enters k x l → x ∈ best above k (x ∷ l)
     enters k x l (inl short) =
