@@ -10,8 +10,8 @@ use native.Mathlib.Nat.{suc-ne-zero}
 use native.Mathlib.Omega.{arith}
 use lib.ListN.{length, take, length-append, length-take}
 use lib.Seq.{take-all, take-take, take-nil, take-append-seam}
-use Rattle.ranking.specs.Best.{place, rank, best, onLast}
-use Rattle.ranking.proofs.Lists.{_∈_, _⊆_, Same, Pairwise, Distinct, Tested, passed, failed, tested, clash, here, there, none-in, moved, ⊆-cons, ++-cases, take-⊆, pairwise-map, pairwise-take, take-more, lt-or-eq}
+use Rattle.ranking.specs.Best.{_∈_, place, rank, best, onLast}
+use Rattle.ranking.proofs.Lists.{_⊆_, Same, Pairwise, Distinct, Tested, passed, failed, tested, clash, here, there, none-in, moved, ⊆-cons, ++-cases, take-⊆, pairwise-map, pairwise-take, take-more, lt-or-eq}
 
 -- "ranks above" orders all: none above itself, and of two different ones one above the other
 pub record StrictTotal {E : Type 0} (above : E → E → Bool) : Type 0 where

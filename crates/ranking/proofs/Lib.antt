@@ -1,3 +1,4 @@
 pub mod Lists
 pub mod Best
 pub mod Search
+pub mod Whole

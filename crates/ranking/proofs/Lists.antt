@@ -9,12 +9,7 @@ use native.Mathlib.Nat.{eq-or-lt-of-le}
 use lib.Seq.{take-take}
 use native.Mathlib.Omega.{arith}
 use lib.ListN.{length, take, drop, getD, take-append-drop}
-use Rattle.ranking.specs.Best.{onLast, only}
-
-infix 50 _∈_
--- x is one of the list's members
-abbrev pub _∈_ {ℓ} : {A : Type ℓ} → A → List A → Type ℓ
-x ∈ l = List·Memᴰ x l
+use Rattle.ranking.specs.Best.{_∈_, onLast, only}
 
 -- a Boolean test and its outcome
 pub data Tested (b : Bool) : Type 0 where

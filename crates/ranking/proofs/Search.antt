@@ -12,9 +12,9 @@ use borrow.Author.Tests.{eq-eqb, eqb-true, lt-ltb, ltb-true, ltb-false, le-ltb}
 use lib.Dec.{eqb, ltb}
 use lib.ListN.{length, take, drop, take-append-drop}
 use lib.Seq.{drop-length, length-take-le, take-nil}
-use Rattle.ranking.specs.Best.{best, onLast, only}
+use Rattle.ranking.specs.Best.{_∈_, best, onLast, only}
 use Rattle.ranking.specs.Search.{Search, has, least, entries, heldIn, listAfter, stops, ended, steps, found, marks, matters}
-use Rattle.ranking.proofs.Lists.{_∈_, _⊆_, Same, Pairwise, Distinct, Tested, passed, failed, tested, clash, here, there, none-in, moved, ++-cases, take-⊆, take-more, lt-or-eq, pairwise-drop, pairwise-take, pairwise-only, only-in, only-of}
+use Rattle.ranking.proofs.Lists.{_⊆_, Same, Pairwise, Distinct, Tested, passed, failed, tested, clash, here, there, none-in, moved, ++-cases, take-⊆, take-more, lt-or-eq, pairwise-drop, pairwise-take, pairwise-only, only-in, only-of}
 use Rattle.ranking.proofs.Best.{StrictTotal, Falling, Lowest, lowest, lowest-of, opposite, differs, best-falling, best-of, best-same, best-append, best-part, best-below-all, length-best-le, length-same, Enters, enters, entered}
 
 -- ---- the least number that passes a test

@@ -1,8 +1,14 @@
 -- The best k of some things, over any carrier and any test `above x y`: "x ranks above y".
 use mathlib.Core.Bool.{Bool, true, false}
-use mathlib.Core.List.{List, [], _∷_}
+use mathlib.Core.List.{List, [], _∷_, List·Memᴰ}
 use Prim.Native.Nat.{ℕ}
 use lib.ListN.{take}
+
+infix 50 _∈_
+
+-- x is one of the list's members
+abbrev pub _∈_ {ℓ} : {A : Type ℓ} → A → List A → Type ℓ
+x ∈ l = List·Memᴰ x l
 
 module _ {E : Type 0} (above : E → E → Bool) where
   -- x put in its rank into a ranked list, and not put where it already stands: "each once"

@@ -1,2 +1,4 @@
 pub mod Best
 pub mod Search
+pub mod Grid
+pub mod Standing
