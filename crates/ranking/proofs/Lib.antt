@@ -2,3 +2,4 @@ pub mod Lists
 pub mod Best
 pub mod Search
 pub mod Whole
+pub mod Grid

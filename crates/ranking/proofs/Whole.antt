@@ -61,11 +61,11 @@ up-le {a} {b} u = subst (λ z. ltZ z a ≡ false) (u .is) (sum-not-less a (u .mo
 pub up-sum : {a b c d : ℤ} → Up a b → Up c d → Up (a +ℤ c) (b +ℤ d)
 up-sum {a} {b} {c} {d} u v =
     record {
-        more = u .more + v .more;
-        is =
-            regroup a c (pos (u .more)) (pos (v .more))
-            ∙ ap (λ z. z +ℤ (c +ℤ pos (v .more))) (u .is)
-            ∙ ap (λ z. b +ℤ z) (v .is)
+      more = u .more + v .more;
+      is =
+          regroup a c (pos (u .more)) (pos (v .more))
+          ∙ ap (λ z. z +ℤ (c +ℤ pos (v .more))) (u .is)
+          ∙ ap (λ z. b +ℤ z) (v .is);
     }
   where
     regroup : (a c m n : ℤ) → (a +ℤ c) +ℤ (m +ℤ n) ≡ (a +ℤ m) +ℤ (c +ℤ n)
@@ -82,13 +82,13 @@ up-times a v d = record { more = a * d; is = ap pos (sym (mul-add a v d)) }
 pub down-times : (a v d : ℕ) → Up (negsuc a *ℤ pos (v + d)) (negsuc a *ℤ pos v)
 down-times a v d =
     record {
-        more = suc a * d;
-        is =
-            ap (λ n. negℤ (pos n) +ℤ pos (suc a * d)) (mul-add (suc a) v d)
-            ∙ ap (λ z. z +ℤ pos (suc a * d)) (negℤ-+ℤ (pos (suc a * v)) (pos (suc a * d)))
-            ∙ +ℤ-assoc (negℤ (pos (suc a * v))) (negℤ (pos (suc a * d))) (pos (suc a * d))
-            ∙ ap (λ z. negℤ (pos (suc a * v)) +ℤ z) (+ℤ-invl (pos (suc a * d)))
-            ∙ +ℤ-idr (negℤ (pos (suc a * v)))
+      more = suc a * d;
+      is =
+          ap (λ n. negℤ (pos n) +ℤ pos (suc a * d)) (mul-add (suc a) v d)
+          ∙ ap (λ z. z +ℤ pos (suc a * d)) (negℤ-+ℤ (pos (suc a * v)) (pos (suc a * d)))
+          ∙ +ℤ-assoc (negℤ (pos (suc a * v))) (negℤ (pos (suc a * d))) (pos (suc a * d))
+          ∙ ap (λ z. negℤ (pos (suc a * v)) +ℤ z) (+ℤ-invl (pos (suc a * d)))
+          ∙ +ℤ-idr (negℤ (pos (suc a * v)));
     }
 
 -- ---- how large

@@ -5,7 +5,6 @@ use Prim.Native.Nat.{ℕ}
 use lib.ListN.{take}
 
 infix 50 _∈_
-
 -- x is one of the list's members
 abbrev pub _∈_ {ℓ} : {A : Type ℓ} → A → List A → Type ℓ
 x ∈ l = List·Memᴰ x l

@@ -36,11 +36,11 @@ reaches w c e = not (ltZ (bestScore w c) (e .score))
 abbrev pub searchOf : Weights → Search Entry Held
 searchOf w =
     record {
-        above = above;
-        entry = entry w;
-        cellOf = λ r. cell (r .loss) (r .shake);
-        reaches = reaches w;
-        order = visiting w
+      above = above;
+      entry = entry w;
+      cellOf = λ r. cell (r .loss) (r .shake);
+      reaches = reaches w;
+      order = visiting w;
     }
 
 -- "Loss and shake are 0 to 4095"
