@@ -3,3 +3,4 @@ pub mod Best
 pub mod Search
 pub mod Whole
 pub mod Grid
+pub mod Standing
