@@ -4,3 +4,4 @@ pub mod Search
 pub mod Whole
 pub mod Grid
 pub mod Standing
+pub mod Examples

@@ -5,12 +5,12 @@ use mathlib.Core.Path.{_≡_, refl, sym, ap, _∙_, subst}
 use mathlib.Core.Logic.{_⊎_, inl, inr, ⊎-elim, _↔_}
 use mathlib.Core.Bool.{Bool, true, false, not, _&&_, _||_}
 use mathlib.Core.List.{List, [], _∷_, _++_, map, append-nil, nil≢cons, head-eq-of-cons-eq, List·Memᴰ·head, List·Memᴰ·cases-cons, Memᴰ·append-left, Memᴰ·append-right, Memᴰ·map, Memᴰ·of-map}
-use Prim.Native.Nat.{ℕ, zero, suc, _+_, _≤_, _<_}
+use Prim.Native.Nat.{ℕ, zero, suc, _+_, _-_, _≤_, _<_}
 use native.Mathlib.Nat.{suc-ne-zero, add-zero, zero-add, add-suc, suc-add}
 use native.Mathlib.Omega.{arith}
 use borrow.Author.Tests.{eq-eqb, eqb-true, lt-ltb, ltb-true, ltb-false, le-ltb}
 use lib.Dec.{eqb, ltb}
-use lib.ListN.{length, take, drop, take-append-drop}
+use lib.ListN.{length, take, drop, take-append-drop, length-drop}
 use lib.Seq.{drop-length, length-take-le, take-nil}
 use Rattle.ranking.specs.Best.{_∈_, best, onLast, only}
 use Rattle.ranking.specs.Search.{Search, has, least, entries, heldIn, listAfter, stops, ended, steps, found, marks, matters}
@@ -269,6 +269,31 @@ module _ {E I : Type 0} (s : Search E I) where
 
       pub local-found : found s k hs ≡ found s k hs′
       local-found = list-local (steps s k hs) (omega arith) ∙ ap (listAfter s k hs′) local-steps
+
+-- where every cell reaches every entry, all cells are taken
+pub all-steps : {E I : Type 0} (s : Search E I) → StrictTotal (s .above) → (k : ℕ) (hs : List I) → ((c : ℕ) (e : E) → e ∈ entries s hs → s .reaches c e ≡ true) → steps s k hs ≡ length (s .order)
+all-steps {E} s strict k hs h = ⊎-elim (λ short. absurd (go (drop n (s .order)) refl (ends s k hs) short)) (λ e. e) (lt-or-eq (steps-le s k hs))
+  where
+    n : ℕ
+    n = steps s k hs
+
+    taken : List ℕ
+    taken = take n (s .order)
+
+    L : List E
+    L = found s k hs
+
+    rest : (a b : ℕ) → b - a ≡ 0 → a < b → ⊥
+    rest a b e l = omega arith
+
+    go : (left : List ℕ) → drop n (s .order) ≡ left → stops s k L left ≡ true → n < length (s .order) → ⊥
+    go [] q e short = rest n (length (s .order)) (sym (length-drop n (s .order)) ∙ ap length q) short
+    go (c ∷ left) q e short =
+        let both = and-both (eqb (length L) k) (onLast (λ z. not (s .reaches c z)) L) e in
+        let low = lowest-of (s .above) strict (λ z. not (s .reaches c z)) L (best-falling (s .above) strict k (entries s (heldIn s taken hs))) (both .1) in
+        clash
+        (h c (low .entry) (held-part s taken hs (low .entry) (best-of (s .above) strict k (entries s (heldIn s taken hs)) (low .entry) (low .listed))))
+        (not-reached (s .reaches c (low .entry)) (sym (low .is-last (λ z. not (s .reaches c z))) ∙ both .1))
 
 -- ---- the end
 
