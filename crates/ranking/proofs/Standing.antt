@@ -13,14 +13,14 @@ use lib.IntN.{ℤ}
 use lib.Signed.{ltZ}
 use Rattle.ranking.specs.Best.{_∈_, best, only}
 use Rattle.ranking.specs.Search.{Search, entries, steps, found, marks, matters, heldIn}
-use Rattle.ranking.specs.Grid.{score, cell, corner, bestScore, greater, before, cells, visiting}
+use Rattle.ranking.specs.Cells.{score, cell, corner, bestScore, greater, before, cells, visiting}
 use Rattle.ranking.specs.Standing.{Held, Entry, above, entry, reaches, searchOf, Permitted, Wanted}
 use Rattle.ranking.specs.declared.Weights.{Weights}
 use Rattle.ranking.proofs.Lists.{Pairwise, Distinct, Same, Tested, passed, failed, tested, clash, moved, pairwise-map, pairwise-take}
 use Rattle.ranking.proofs.Best.{StrictTotal, ahead, behind, opposite}
 use Rattle.ranking.proofs.Search.{All, Sound, Newest, ltb-strict, found-is, marked, mattering, steps-count, steps-le, length-marks, wanted}
 use Rattle.ranking.proofs.Whole.{ltZ-strict}
-use Rattle.ranking.proofs.Grid.{greater-by, greater-tie, greater-of, Numbers, more, less, equal, numbers, greater-strict, Ties, visiting-in, visiting-of, visiting-same, visiting-falling, visiting-distinct, length-visiting, cells-in, cells-of, cells-distinct, before-best, score-bound, corner-cell, corner-loss, corner-shake, cell-fits}
+use Rattle.ranking.proofs.Cells.{greater-by, greater-tie, greater-of, Numbers, more, less, equal, numbers, greater-strict, Ties, visiting-in, visiting-of, visiting-same, visiting-falling, visiting-distinct, length-visiting, cells-in, cells-of, cells-distinct, before-best, score-bound, corner-cell, corner-loss, corner-shake, cell-fits}
 
 -- reports are ranked strictly and totally
 pub above-strict : StrictTotal above

@@ -1,4 +1,4 @@
 pub mod Best
 pub mod Search
-pub mod Grid
+pub mod Cells
 pub mod Standing

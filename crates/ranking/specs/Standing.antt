@@ -8,7 +8,7 @@ use lib.IntN.{ℤ}
 use lib.Signed.{ltZ}
 use Rattle.ranking.specs.Best.{best, _∈_}
 use Rattle.ranking.specs.Search.{Search}
-use Rattle.ranking.specs.Grid.{score, cell, bestScore, greater, visiting}
+use Rattle.ranking.specs.Cells.{score, cell, bestScore, greater, visiting}
 use Rattle.ranking.specs.declared.Weights.{Weights}
 
 -- a report that a window holds

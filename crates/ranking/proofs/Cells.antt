@@ -15,7 +15,7 @@ use lib.Signed.{ltZ, mag, natAbs-le}
 use mir.Syntax.{w16, w32}
 use mir.Val.{SFits}
 use Rattle.ranking.specs.Best.{_∈_, rank}
-use Rattle.ranking.specs.Grid.{score, cell, corner, bestScore, greater, before, count, cells, visiting}
+use Rattle.ranking.specs.Cells.{score, cell, corner, bestScore, greater, before, count, cells, visiting}
 use Rattle.ranking.specs.declared.Weights.{Weights}
 use Rattle.ranking.proofs.Lists.{Pairwise, Distinct, Same, Tested, passed, failed, tested, clash, here, there, none-in, moved, pairwise-map, lt-or-eq}
 use Rattle.ranking.proofs.Best.{StrictTotal, Falling, one-way, rank-in, rank-of, rank-falling, falling-distinct, length-rank}
