@@ -1,12 +1,16 @@
 -- Scores, the grid's cells, and the order in which a search takes them.
-use mathlib.Core.Bool.{Bool, true, false}
+use mathlib.Core.Bool.{Bool, true, false, _&&_}
 use mathlib.Core.List.{List, [], _∷_}
 use Prim.Native.Nat.{ℕ, zero, suc, _+_, _*_, _/_, _%_}
 use lib.Dec.{ltb}
-use lib.IntN.{ℤ, pos, _+ℤ_, _*ℤ_}
-use lib.Signed.{ltZ}
+use lib.IntN.{ℤ, pos, negsuc, _+ℤ_, _*ℤ_}
+use lib.Signed.{ltZ, leZ}
 use Rattle.ranking.specs.Best.{rank}
 use Rattle.ranking.specs.declared.Weights.{Weights}
+
+-- "weights a for loss, b for shake, each -1,000 to 1,000"
+abbrev pub inRange : ℤ → Bool
+inRange weight = leZ (negsuc 999) weight && leZ weight (pos 1000)
 
 -- "Score = a x loss + b x shake"
 abbrev pub score : Weights → ℕ → ℕ → ℤ

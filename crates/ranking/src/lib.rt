@@ -1,9 +1,11 @@
 // Scores, the rank order, the grid and the order in which a search takes its cells.
 
 ghost use mathlib.Core.Path.{_≡_};
-ghost use Prim.Native.Nat.{_%_};
+ghost use mathlib.Core.Bool.{_&&_};
+ghost use Prim.Native.Nat.{_%_, _<_};
 ghost use lib.IntN.{pos, _*ℤ_};
-ghost use Rattle.ranking.specs.Cells.{score, cell, bestScore, before};
+ghost use Rattle.ranking.specs.Cells.{score, cell, corner, bestScore, greater, before, inRange};
+ghost use Rattle.ranking.specs.Standing.{above};
 
 // A question's weights: a for loss, b for shake.
 pub struct Weights {
@@ -17,12 +19,43 @@ impl Weights {
 
     pub const LARGEST: i16 = 1000;
 
+    // Both weights are in their range.
+    pub fn fit(self) -> bool
+        ensures { λ r. ⌜ r ≡ (inRange (self .loss) && inRange (self .shake)) ⌝ }
+    {
+        in_range(self.loss) && in_range(self.shake)
+    }
+
     // The score of a pair of values, of which the low 12 bits count.
     pub fn score(self, loss: u16, shake: u16) -> i32
         ensures { λ r. ⌜ r ≡ score self (loss % 4096) (shake % 4096) ⌝ }
     {
         part(self.loss, loss) + part(self.shake, shake)
     }
+
+    // A cell's best possible score.
+    pub fn best(self, cell: u8) -> i32
+        ensures { λ r. ⌜ r ≡ bestScore self cell ⌝ }
+    {
+        let column = (cell % 16) as u16;
+        let row = (cell / 16) as u16;
+        let x = corner(self.loss, column);
+        let y = corner(self.shake, row);
+        self.score(x, y)
+    }
+
+    // A search takes the cell c before the cell d.
+    pub fn before(self, c: u8, d: u8) -> bool
+        ensures { λ r. ⌜ r ≡ before self c d ⌝ }
+    {
+        greater(self.best(c), self.best(d), c < d)
+    }
+}
+
+fn in_range(weight: i16) -> bool
+    ensures { λ r. ⌜ r ≡ inRange weight ⌝ }
+{
+    Weights::SMALLEST <= weight && weight <= Weights::LARGEST
 }
 
 // What a value counts for by its weight.
@@ -32,6 +65,40 @@ fn part(weight: i16, value: u16) -> i32
     let a = weight as i32;
     let v = (value % 4096) as i32;
     a * v
+}
+
+// The value of a column or a row that counts for most by its weight.
+fn corner(weight: i16, index: u16) -> u16
+    requires { ⌜ index < 16 ⌝ }
+    ensures { λ r. ⌜ r ≡ corner weight index ⌝ }
+{
+    if 0 < weight {
+        Grid::SIDE * index + (Grid::SIDE - 1)
+    } else {
+        Grid::SIDE * index
+    }
+}
+
+// The greater of two numbers goes first, and of equal ones the tie says.
+fn greater(a: i32, b: i32, tie: bool) -> bool
+    ensures { λ r. ⌜ r ≡ greater a b tie ⌝ }
+{
+    if b < a {
+        return true;
+    }
+    if a < b {
+        return false;
+    }
+    tie
+}
+
+// A report ranks above another: its score is greater, or equal with the greater number.
+pub fn ranks_above(score: i32, number: u32, other_score: i32, other_number: u32) -> bool
+    ensures { λ r. ⌜
+        r ≡ above (record { number = number; score = score }) (record { number = «other_number»; score = «other_score» })
+        ⌝ }
+{
+    greater(score, other_score, other_number < number)
 }
 
 // The grid over loss and shake: COLUMNS by ROWS cells of SIDE by SIDE values.

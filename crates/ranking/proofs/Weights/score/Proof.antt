@@ -38,8 +38,8 @@ module _ (c : tie.After-part2) where
   unfolding w loss shake
   sum =
       ap₂ (λ x y. x +ℤ y)
-      (kept w32 (c .before .before .part .ok) ∙ c .before .before .part .ensures ∙ ap (λ z. z *ℤ pos loss) (toZ-ofZ loss-weight))
-      (kept w32 (c .part2 .ok) ∙ c .part2 .ensures ∙ ap (λ z. z *ℤ pos shake) (toZ-ofZ shake-weight))
+      (kept w32 (c .before .before .part .result) (c .before .before .part .ok) ∙ c .before .before .part .ensures ∙ ap (λ z. z *ℤ pos loss) (toZ-ofZ loss-weight))
+      (kept w32 (c .part2 .result) (c .part2 .ok) ∙ c .part2 .ensures ∙ ap (λ z. z *ℤ pos shake) (toZ-ofZ shake-weight))
 
   fits : SFits w32 (score w loss shake)
   unfolding loss shake
