@@ -6,12 +6,12 @@ use mathlib.Core.Logic.{_⊎_, inl, inr, ⊎-elim}
 use mathlib.Core.Bool.{Bool, true, false}
 use mathlib.Core.List.{List, [], _∷_, _++_, List·Memᴰ·head, List·Memᴰ·cases-cons, Memᴰ·append-left, Memᴰ·append-right}
 use Prim.Native.Nat.{ℕ, zero, suc, min, _≤_, _<_}
-use native.Mathlib.Nat.{suc-ne-zero}
+use native.Mathlib.Nat.{suc-ne-zero, le-of-suc-le-suc}
 use native.Mathlib.Omega.{arith}
-use lib.ListN.{length, take, length-append, length-take}
+use lib.ListN.{length, take, getD, length-take}
 use lib.Seq.{take-all, take-take, take-nil, take-append-seam}
-use Rattle.ranking.specs.Best.{_∈_, place, rank, best, onLast}
-use Rattle.ranking.proofs.Lists.{_⊆_, Same, Pairwise, Distinct, Tested, passed, failed, tested, clash, here, there, none-in, moved, ⊆-cons, ++-cases, take-⊆, pairwise-map, pairwise-take, take-more, lt-or-eq}
+use Rattle.ranking.specs.Best.{_∈_, place, rank, best, onLast, only}
+use Rattle.ranking.proofs.Lists.{_⊆_, Same, Pairwise, Distinct, Tested, passed, failed, tested, clash, here, there, none-in, moved, ⊆-cons, ++-cases, take-⊆, pairwise-map, pairwise-take, take-more, lt-or-eq, getD-in, only-all-fail}
 
 -- "ranks above" orders all: none above itself, and of two different ones one above the other
 pub record StrictTotal {E : Type 0} (above : E → E → Bool) : Type 0 where
@@ -384,3 +384,17 @@ module _ {E : Type 0} (above : E → E → Bool) where
             inl
             (moved (sym (order .total x (r .entry) (sym (r .is-last (above x)) ∙ h′) (sym (r .is-last (λ z. above z x)) ∙ h)))
             (r .listed))
+
+    -- in a strictly falling list as many rank above an entry as stand before it
+    pub falling-place : (d : E) (l : List E) (n : ℕ) → Falling l → n < length l → length (only (λ y. above y (getD l n d)) l) ≡ n
+    falling-place d [] n w h = absurd (no n h)
+      where
+        no : (n : ℕ) → n < 0 → ⊥
+        no n h = omega arith
+    falling-place d (x ∷ xs) zero w h =
+        let e : above x x ≡ false = order .irreflexive x in
+        rw (e, only) (ap length (only-all-fail (λ y. above y x) xs (λ y m. one-way x y (w .0 y m))))
+    falling-place d (x ∷ xs) (suc n) w h =
+        let g : n < length xs = le-of-suc-le-suc h in
+        let e : above x (getD xs n d) ≡ true = w .0 (getD xs n d) (getD-in d xs n g) in
+        rw (e, only) (ap suc (falling-place d xs n (w .1) g))

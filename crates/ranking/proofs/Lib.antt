@@ -6,3 +6,4 @@ pub mod Cells
 pub mod Standing
 pub mod Examples
 pub mod Words
+pub mod Scan

@@ -3,9 +3,9 @@
 use mathlib.Core.Path.{_≡_, refl, sym, ap, _∙_, subst}
 use mathlib.Core.Logic.{_⊎_, inl, inr, ⊎-elim}
 use mathlib.Core.Bool.{Bool, true, false, not, true≢false}
-use mathlib.Core.List.{List, [], _∷_, _++_, map, List·Memᴰ, List·Memᴰ·head, List·Memᴰ·tail, List·Memᴰ·not-nil, List·Memᴰ·cases-cons, Memᴰ·append-left, Memᴰ·append-right}
+use mathlib.Core.List.{List, [], _∷_, _++_, nil≢cons, head-eq-of-cons-eq, List·Memᴰ, List·Memᴰ·head, List·Memᴰ·tail, List·Memᴰ·not-nil, List·Memᴰ·cases-cons, Memᴰ·append-left, Memᴰ·append-right}
 use Prim.Native.Nat.{ℕ, zero, suc, _-_, _≤_, _<_}
-use native.Mathlib.Nat.{eq-or-lt-of-le}
+use native.Mathlib.Nat.{eq-or-lt-of-le, le-of-suc-le-suc}
 use lib.Seq.{take-take}
 use native.Mathlib.Omega.{arith}
 use lib.ListN.{length, take, drop, getD, take-append-drop}
@@ -144,3 +144,49 @@ module _ {A : Type 0} where
   pub last-at : (p : A → Bool) (d x : A) (l : List A) → onLast p (x ∷ l) ≡ p (getD (x ∷ l) (length l) d)
   last-at p d x [] = refl
   last-at p d x (y ∷ ys) = last-at p d y ys
+
+  -- a member has a place
+  pub index-of : (d : A) (l : List A) {x : A} → x ∈ l → (n : ℕ) × (n < length l) × (getD l n d ≡ x)
+  index-of d [] m = absurd (none-in m)
+  index-of d (y ∷ ys) {x} m = go (List·Memᴰ·cases-cons m) (λ k. index-of d ys k)
+    where
+      go : (x ≡ y) ⊎ (x ∈ ys) → (x ∈ ys → (n : ℕ) × (n < length ys) × (getD ys n d ≡ x)) → (n : ℕ) × (n < suc (length ys)) × (getD (y ∷ ys) n d ≡ x)
+      go (inl e) f = (0, omega arith, sym e)
+      go (inr k) f =
+          let r = f k in
+          let h : r .0 < length ys = r .1 in
+          (suc (r .0), omega arith, r .2)
+
+  pub getD-in : (d : A) (l : List A) (n : ℕ) → n < length l → getD l n d ∈ l
+  getD-in d [] n h = absurd (no n h)
+    where
+      no : (n : ℕ) → n < 0 → ⊥
+      no n h = omega arith
+  getD-in d (x ∷ xs) zero h = here
+  getD-in d (x ∷ xs) (suc n) h = there (getD-in d xs n (le-of-suc-le-suc h))
+
+  -- what stands at a place begins what is left from there
+  pub getD-left : (d : A) (l : List A) (n : ℕ) {x : A} {left : List A} → drop n l ≡ x ∷ left → getD l n d ≡ x
+  getD-left d [] zero e = absurd (nil≢cons e)
+  getD-left d [] (suc n) e = absurd (nil≢cons e)
+  getD-left d (y ∷ ys) zero e = head-eq-of-cons-eq e
+  getD-left d (y ∷ ys) (suc n) e = getD-left d ys n e
+
+  pub getD-past : (d : A) (l : List A) (n : ℕ) → drop n l ≡ [] → getD l n d ≡ d
+  getD-past d [] n e = refl
+  getD-past d (y ∷ ys) zero e = absurd (nil≢cons (sym e))
+  getD-past d (y ∷ ys) (suc n) e = getD-past d ys n e
+
+  pub only-append : (p : A → Bool) (xs ys : List A) → only p (xs ++ ys) ≡ only p xs ++ only p ys
+  only-append p [] ys = refl
+  only-append p (x ∷ xs) ys = go (tested (p x)) (only-append p xs ys)
+    where
+      go : Tested (p x) → only p (xs ++ ys) ≡ only p xs ++ only p ys → only p (x ∷ (xs ++ ys)) ≡ only p (x ∷ xs) ++ only p ys
+      go (passed e) ih = rw (e, only) (ap (λ l. x ∷ l) ih)
+      go (failed e) ih = rw (e, only) ih
+
+  pub only-all-fail : (p : A → Bool) (l : List A) → ((x : A) → x ∈ l → p x ≡ false) → only p l ≡ []
+  only-all-fail p [] h = refl
+  only-all-fail p (x ∷ xs) h =
+      let e : p x ≡ false = h x here in
+      rw (e, only) (only-all-fail p xs (λ y m. h y (there m)))

@@ -3,9 +3,10 @@ use mathlib.Core.Bool.{Bool, true, false, _&&_}
 use mathlib.Core.List.{List, [], _∷_}
 use Prim.Native.Nat.{ℕ, zero, suc, _+_, _*_, _/_, _%_}
 use lib.Dec.{ltb}
+use lib.ListN.{length, getD}
 use lib.IntN.{ℤ, pos, negsuc, _+ℤ_, _*ℤ_}
 use lib.Signed.{ltZ, leZ}
-use Rattle.ranking.specs.Best.{rank}
+use Rattle.ranking.specs.Best.{rank, only}
 use Rattle.ranking.specs.declared.Weights.{Weights}
 
 -- "weights a for loss, b for shake, each -1,000 to 1,000"
@@ -48,3 +49,11 @@ cells = count 256 []
 -- all cells, in the order in which they are taken
 unfoldable pub visiting : Weights → List ℕ
 visiting w = rank (before w) cells
+
+-- how many cells stand before c in that order
+abbrev pub placeOf : Weights → ℕ → ℕ
+placeOf w c = length (only (λ d. before w d c) cells)
+
+-- the cell that is taken after n steps; 256, where none is left
+abbrev pub cellAt : Weights → ℕ → ℕ
+cellAt w n = getD (visiting w) n 256

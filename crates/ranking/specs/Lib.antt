@@ -2,3 +2,4 @@ pub mod Best
 pub mod Search
 pub mod Cells
 pub mod Standing
+pub mod Scan

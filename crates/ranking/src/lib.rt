@@ -2,9 +2,10 @@
 
 ghost use mathlib.Core.Path.{_≡_};
 ghost use mathlib.Core.Bool.{_&&_};
-ghost use Prim.Native.Nat.{_%_, _<_};
+ghost use Prim.Native.Nat.{_+_, _%_, _<_};
 ghost use lib.IntN.{pos, _*ℤ_};
-ghost use Rattle.ranking.specs.Cells.{score, cell, corner, bestScore, greater, before, inRange};
+ghost use Rattle.ranking.specs.Cells.{score, cell, corner, bestScore, greater, before, inRange, placeOf, cellAt};
+ghost use Rattle.ranking.specs.Scan.{leads, nearer, placeAfter};
 ghost use Rattle.ranking.specs.Standing.{above};
 
 // A question's weights: a for loss, b for shake.
@@ -49,6 +50,72 @@ impl Weights {
         ensures { λ r. ⌜ r ≡ before self c d ⌝ }
     {
         greater(self.best(c), self.best(d), c < d)
+    }
+
+    // How many cells a search takes before this one.
+    pub fn rank(self, cell: u8) -> u16
+        ensures { λ r. ⌜ r ≡ placeOf self cell ⌝ }
+    {
+        let mut n: u16 = 0;
+        let mut d: u16 = 0;
+        while d < Grid::CELLS {
+            if self.before(d as u8, cell) {
+                n += 1;
+            }
+            d += 1;
+        }
+        n
+    }
+
+    // The cell that a search takes first.
+    pub fn first(self) -> u8
+        ensures { λ r. ⌜ r ≡ cellAt self 0 ⌝ }
+    {
+        self.seek(Grid::CELLS) as u8
+    }
+
+    // The cell that a search takes after this one; CELLS, where it is the last.
+    pub fn next(self, cell: u8) -> u16
+        ensures { λ r. ⌜ r ≡ cellAt self (placeOf self cell + 1) ⌝ }
+    {
+        self.seek(cell as u16)
+    }
+
+    // The cell that is taken next after `from`, or first where `from` is no cell.
+    fn seek(self, from: u16) -> u16
+        ensures { λ r. ⌜ r ≡ cellAt self (placeAfter self from) ⌝ }
+    {
+        let mut found: u16 = Grid::CELLS;
+        let mut d: u16 = 0;
+        while d < Grid::CELLS {
+            found = self.nearer(from, found, d);
+            d += 1;
+        }
+        found
+    }
+
+    // Of the cell found so far and d, the one that follows `from` sooner.
+    fn nearer(self, from: u16, found: u16, d: u16) -> u16
+        ensures { λ r. ⌜ r ≡ nearer self from found d ⌝ }
+    {
+        if self.leads(from, d) {
+            if self.leads(d, found) {
+                return d;
+            }
+        }
+        found
+    }
+
+    // c is taken before d, or one of them is no cell.
+    fn leads(self, c: u16, d: u16) -> bool
+        ensures { λ r. ⌜ r ≡ leads self c d ⌝ }
+    {
+        if c < Grid::CELLS {
+            if d < Grid::CELLS {
+                return self.before(c as u8, d as u8);
+            }
+        }
+        true
     }
 }
 
