@@ -3,15 +3,18 @@
 -- Assumes nothing.
 use mathlib.Core.Path.{_≡_, refl, sym, ap, _∙_, subst}
 use mathlib.Core.Logic.{_⊎_, inl, inr, ⊎-elim}
-use mathlib.Core.Bool.{Bool, true, false}
+use mathlib.Core.Bool.{Bool, true, false, cond, _||_}
 use mathlib.Core.List.{List, [], _∷_, _++_, List·Memᴰ·head, List·Memᴰ·cases-cons, Memᴰ·append-left, Memᴰ·append-right}
 use Prim.Native.Nat.{ℕ, zero, suc, min, _≤_, _<_}
 use native.Mathlib.Nat.{suc-ne-zero, le-of-suc-le-suc}
 use native.Mathlib.Omega.{arith}
+use borrow.Author.Tests.{lt-ltb}
+use lib.Dec.{ltb}
 use lib.ListN.{length, take, getD, length-take}
-use lib.Seq.{take-all, take-take, take-nil, take-append-seam}
+use lib.Seq.{take-all, take-take, take-append-seam}
 use Rattle.ranking.specs.Best.{_∈_, place, rank, best, onLast, only}
-use Rattle.ranking.proofs.Lists.{_⊆_, Same, Pairwise, Distinct, Tested, passed, failed, tested, clash, here, there, none-in, moved, ⊆-cons, ++-cases, take-⊆, pairwise-map, pairwise-take, take-more, lt-or-eq, getD-in, only-all-fail}
+use Rattle.ranking.proofs.Tests.{Tested, passed, failed, tested, clash, or-left, or-right}
+use Rattle.ranking.proofs.Lists.{_⊆_, Same, Pairwise, Distinct, here, there, none-in, moved, ++-cases, take-⊆, pairwise-map, pairwise-take, take-more, lt-or-eq, getD-in, only-all-fail}
 
 -- "ranks above" orders all: none above itself, and of two different ones one above the other
 pub record StrictTotal {E : Type 0} (above : E → E → Bool) : Type 0 where
@@ -398,3 +401,26 @@ module _ {E : Type 0} (above : E → E → Bool) where
         let g : n < length xs = le-of-suc-le-suc h in
         let e : above x (getD xs n d) ≡ true = w .0 (getD xs n d) (getD-in d xs n g) in
         rw (e, only) (ap suc (falling-place d xs n (w .1) g))
+
+    -- one more that is new: it is put in its rank and the list is cut to k where the list is short or it ranks above the last, and else nothing changes
+    pub best-rule : (k : ℕ) (x : E) (l : List E) → (x ∈ l → ⊥) → best above k (x ∷ l) ≡ cond (ltb (length (best above k l)) k || onLast (above x) (best above k l)) (take k (place above x (best above k l))) (best above k l)
+    best-rule k x l new = go (tested (short || over))
+      where
+        L : List E
+        L = best above k l
+
+        short : Bool
+        short = ltb (length L) k
+
+        over : Bool
+        over = onLast (above x) L
+
+        refused : short || over ≡ false → x ∈ best above k (x ∷ l) → ⊥
+        refused e m =
+            ⊎-elim (λ h. clash (or-left short over (lt-ltb (length L) k h)) e)
+            (⊎-elim (λ h. new (best-of k l x h)) (λ h. clash (or-right short over h) e))
+            (entered k x l m)
+
+        go : Tested (short || over) → best above k (x ∷ l) ≡ cond (short || over) (take k (place above x L)) L
+        go (passed e) = rw (e, cond) (best-cons k x l)
+        go (failed e) = rw (e, cond) (best-leave k x l (refused e))

@@ -4,20 +4,21 @@ use mathlib.Core.Path.{_≡_, refl, sym, ap, _∙_, subst}
 use mathlib.Core.Logic.{_⊎_, inl, inr, ⊎-elim}
 use mathlib.Core.Bool.{Bool, true, false}
 use mathlib.Core.List.{List, [], _∷_, List·Memᴰ·head, List·Memᴰ·cases-cons}
-use Prim.Native.Nat.{ℕ, zero, suc, _+_, _*_, _-_, _/_, _%_, _^_, _≤_, _<_}
+use Prim.Native.Nat.{ℕ, zero, suc, _+_, _*_, _-_, _/_, _%_, _≤_, _<_}
 use native.Mathlib.Nat.{le-of-suc-le-suc, mul-le-mul}
 use native.Mathlib.Omega.{arith}
 use borrow.Author.Tests.{lt-ltb}
-use lib.Dec.{ltb, lit<}
+use lib.Dec.{ltb}
 use lib.ListN.{length}
-use lib.IntN.{ℤ, pos, negsuc, natAbs, _+ℤ_, _*ℤ_}
-use lib.Signed.{ltZ, mag, natAbs-le}
+use lib.IntN.{ℤ, pos, negsuc, natAbs, _*ℤ_}
+use lib.Signed.{ltZ, natAbs-le}
 use mir.Syntax.{w16, w32}
 use mir.Val.{SFits}
-use Rattle.ranking.specs.Best.{_∈_, rank}
+use Rattle.ranking.specs.Best.{_∈_}
 use Rattle.ranking.specs.Cells.{score, cell, corner, bestScore, greater, before, count, cells, visiting}
 use Rattle.ranking.specs.declared.Weights.{Weights}
-use Rattle.ranking.proofs.Lists.{Pairwise, Distinct, Same, Tested, passed, failed, tested, clash, here, there, none-in, moved, pairwise-map, lt-or-eq}
+use Rattle.ranking.proofs.Tests.{Tested, passed, failed, tested, clash}
+use Rattle.ranking.proofs.Lists.{Pairwise, Distinct, Same, there, none-in, pairwise-map, lt-or-eq}
 use Rattle.ranking.proofs.Best.{StrictTotal, Falling, one-way, rank-in, rank-of, rank-falling, falling-distinct, length-rank}
 use Rattle.ranking.proofs.Search.{ltb-strict}
 use Rattle.ranking.proofs.Whole.{ltZ-strict, Up, up-le, up-sum, up-times, down-times, mag-le, abs-times, abs-sum}
@@ -235,7 +236,7 @@ cell-fits loss shake h g = omega arith
 
 -- no value of a cell's column or row counts for more than the corner
 pub corner-up : (a : ℤ) (v : ℕ) → Up (a *ℤ pos v) (a *ℤ pos (corner a (v / 256)))
-corner-up (pos zero) v = record { more = 0; is = ap pos nought }
+corner-up (pos zero) v = record { gap = 0; is = ap pos nought }
   where
     nought : 0 * v + 0 ≡ 0 * (256 * (v / 256))
     nought = omega arith

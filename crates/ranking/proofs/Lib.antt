@@ -1,9 +1,11 @@
+pub mod Tests
 pub mod Lists
 pub mod Best
+pub mod Least
 pub mod Search
 pub mod Whole
 pub mod Cells
 pub mod Standing
-pub mod Examples
-pub mod Words
 pub mod Scan
+pub mod Words
+pub mod Examples

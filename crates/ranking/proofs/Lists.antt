@@ -2,29 +2,15 @@
 -- Assumes nothing.
 use mathlib.Core.Path.{_≡_, refl, sym, ap, _∙_, subst}
 use mathlib.Core.Logic.{_⊎_, inl, inr, ⊎-elim}
-use mathlib.Core.Bool.{Bool, true, false, not, true≢false}
-use mathlib.Core.List.{List, [], _∷_, _++_, nil≢cons, head-eq-of-cons-eq, List·Memᴰ, List·Memᴰ·head, List·Memᴰ·tail, List·Memᴰ·not-nil, List·Memᴰ·cases-cons, Memᴰ·append-left, Memᴰ·append-right}
-use Prim.Native.Nat.{ℕ, zero, suc, _-_, _≤_, _<_}
+use mathlib.Core.Bool.{Bool, true, false, not}
+use mathlib.Core.List.{List, [], _∷_, _++_, nil≢cons, head-eq-of-cons-eq, List·Memᴰ·head, List·Memᴰ·tail, List·Memᴰ·not-nil, List·Memᴰ·cases-cons, Memᴰ·append-right}
+use Prim.Native.Nat.{ℕ, zero, suc, _≤_, _<_}
 use native.Mathlib.Nat.{eq-or-lt-of-le, le-of-suc-le-suc}
-use lib.Seq.{take-take}
+use lib.Seq.{take-take, take-length}
 use native.Mathlib.Omega.{arith}
 use lib.ListN.{length, take, drop, getD, take-append-drop}
+use Rattle.ranking.proofs.Tests.{Tested, passed, failed, tested, clash}
 use Rattle.ranking.specs.Best.{_∈_, onLast, only}
-
--- a Boolean test and its outcome
-pub data Tested (b : Bool) : Type 0 where
-  passed : b ≡ true → Tested b
-  failed : b ≡ false → Tested b
-
-pub tested : (b : Bool) → Tested b
-tested true = passed refl
-tested false = failed refl
-
-pub clash {ℓ} : {X : Type ℓ} {b : Bool} → b ≡ true → b ≡ false → X
-clash p q = absurd (true≢false (sym p ∙ q))
-
-pub not-true : (b : Bool) → b ≡ false → not b ≡ true
-not-true b e = ap not e
 
 pub lt-or-eq : {m n : ℕ} → m ≤ n → (m < n) ⊎ (m ≡ n)
 lt-or-eq h = ⊎-elim (λ e. inr e) (λ l. inl l) (eq-or-lt-of-le h)
@@ -145,17 +131,24 @@ module _ {A : Type 0} where
   last-at p d x [] = refl
   last-at p d x (y ∷ ys) = last-at p d y ys
 
-  -- a member has a place
-  pub index-of : (d : A) (l : List A) {x : A} → x ∈ l → (n : ℕ) × (n < length l) × (getD l n d ≡ x)
-  index-of d [] m = absurd (none-in m)
-  index-of d (y ∷ ys) {x} m = go (List·Memᴰ·cases-cons m) (λ k. index-of d ys k)
+  -- a member of the first n stands at a place below n
+  pub placed : (n : ℕ) (l : List A) {x : A} → x ∈ take n l → (m : ℕ) × (m < n) × (rest : List A) × (drop m l ≡ x ∷ rest)
+  placed zero l m = absurd (none-in m)
+  placed (suc n) [] m = absurd (none-in m)
+  placed (suc n) (y ∷ ys) {x} m = go (List·Memᴰ·cases-cons m) (placed n ys)
     where
-      go : (x ≡ y) ⊎ (x ∈ ys) → (x ∈ ys → (n : ℕ) × (n < length ys) × (getD ys n d ≡ x)) → (n : ℕ) × (n < suc (length ys)) × (getD (y ∷ ys) n d ≡ x)
-      go (inl e) f = (0, omega arith, sym e)
-      go (inr k) f =
-          let r = f k in
-          let h : r .0 < length ys = r .1 in
-          (suc (r .0), omega arith, r .2)
+      go : (x ≡ y) ⊎ (x ∈ take n ys) → (x ∈ take n ys → (m : ℕ) × (m < n) × (rest : List A) × (drop m ys ≡ x ∷ rest)) → (m : ℕ) × (m < suc n) × (rest : List A) × (drop m (y ∷ ys) ≡ x ∷ rest)
+      go (inl e) ih = (0, omega arith, ys, ap (λ z. z ∷ ys) (sym e))
+      go (inr k) ih =
+          let r = ih k in
+          let h : r .0 < n = r .1 in
+          (suc (r .0), omega arith, r .2, r .3)
+
+  pub take-next : (n : ℕ) (l : List A) {x : A} {rest : List A} → drop n l ≡ x ∷ rest → take (suc n) l ≡ take n l ++ (x ∷ [])
+  take-next zero [] e = absurd (nil≢cons e)
+  take-next zero (y ∷ ys) e = ap (λ z. z ∷ []) (head-eq-of-cons-eq e)
+  take-next (suc n) [] e = absurd (nil≢cons e)
+  take-next (suc n) (y ∷ ys) e = ap (λ l. y ∷ l) (take-next n ys e)
 
   pub getD-in : (d : A) (l : List A) (n : ℕ) → n < length l → getD l n d ∈ l
   getD-in d [] n h = absurd (no n h)
@@ -176,6 +169,12 @@ module _ {A : Type 0} where
   getD-past d [] n e = refl
   getD-past d (y ∷ ys) zero e = absurd (nil≢cons (sym e))
   getD-past d (y ∷ ys) (suc n) e = getD-past d ys n e
+
+  -- a member has a place
+  pub index-of : (d : A) (l : List A) {x : A} → x ∈ l → (n : ℕ) × (n < length l) × (getD l n d ≡ x)
+  index-of d l {x} m =
+      let r = placed (length l) l (subst (λ s. x ∈ s) (sym (take-length l)) m) in
+      (r .0, r .1, getD-left d l (r .0) (r .3))
 
   pub only-append : (p : A → Bool) (xs ys : List A) → only p (xs ++ ys) ≡ only p xs ++ only p ys
   only-append p [] ys = refl

@@ -3,21 +3,22 @@
 use mathlib.Core.Path.{_≡_, refl, sym, ap, _∙_, subst}
 use mathlib.Core.Logic.{_⊎_, inl, inr, ⊎-elim, _↔_}
 use mathlib.Core.Bool.{Bool, true, false, _&&_}
-use mathlib.Core.List.{List, [], _∷_, _++_, append-assoc, append-nil, List·Memᴰ·head, List·Memᴰ·cases-cons, List·Memᴰ·eq-of-singleton, Memᴰ·append-right}
+use mathlib.Core.List.{List, [], _∷_, _++_, append-assoc, List·Memᴰ·head, List·Memᴰ·cases-cons, List·Memᴰ·eq-of-singleton, Memᴰ·append-right}
 use Prim.Native.Nat.{ℕ, zero, suc, _+_, _≤_, _<_}
 use native.Mathlib.Omega.{arith}
 use native.Mathlib.Numerals.{add-one}
 use borrow.Author.Tests.{lt-ltb, le-ltb, ltb-true, ltb-false}
 use lib.Dec.{ltb}
-use lib.ListN.{length, take, drop, getD, length-append, take-append-drop}
+use lib.ListN.{length, take, drop, length-append, take-append-drop}
 use lib.Seq.{take-suc, drop-cons}
 use Rattle.ranking.specs.Best.{_∈_, only}
 use Rattle.ranking.specs.Cells.{before, count, cells, visiting, placeOf, cellAt}
 use Rattle.ranking.specs.Scan.{leads, nearer, placeAfter}
 use Rattle.ranking.specs.declared.Weights.{Weights}
-use Rattle.ranking.proofs.Lists.{Tested, passed, failed, tested, clash, Pairwise, here, there, none-in, moved, ++-cases, drop-⊆, lt-or-eq, pairwise-at, pairwise-drop, pairwise-only, only-in, only-of, index-of, getD-in, getD-left, getD-past, only-append}
+use Rattle.ranking.proofs.Tests.{Tested, passed, failed, tested, clash, and-both, and-true}
+use Rattle.ranking.proofs.Lists.{Pairwise, here, none-in, ++-cases, drop-⊆, lt-or-eq, pairwise-at, pairwise-drop, pairwise-only, only-in, only-of, index-of, getD-in, getD-left, getD-past, only-append}
 use Rattle.ranking.proofs.Best.{opposite, differs, falling-place, length-same}
-use Rattle.ranking.proofs.Search.{and-both, and-true, ltb-strict}
+use Rattle.ranking.proofs.Search.{ltb-strict}
 use Rattle.ranking.proofs.Cells.{before-strict, visiting-in, visiting-of, visiting-same, visiting-falling, visiting-distinct, length-visiting, cells-distinct}
 
 -- ---- counting

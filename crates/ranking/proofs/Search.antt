@@ -3,75 +3,21 @@
 -- Assumes nothing.
 use mathlib.Core.Path.{_≡_, refl, sym, ap, _∙_, subst}
 use mathlib.Core.Logic.{_⊎_, inl, inr, ⊎-elim, _↔_}
-use mathlib.Core.Bool.{Bool, true, false, not, _&&_, _||_}
-use mathlib.Core.List.{List, [], _∷_, _++_, map, append-nil, nil≢cons, head-eq-of-cons-eq, List·Memᴰ·head, List·Memᴰ·cases-cons, Memᴰ·append-left, Memᴰ·append-right, Memᴰ·map, Memᴰ·of-map}
-use Prim.Native.Nat.{ℕ, zero, suc, _+_, _-_, _≤_, _<_}
-use native.Mathlib.Nat.{suc-ne-zero, add-zero, zero-add, add-suc, suc-add}
+use mathlib.Core.Bool.{true, false, not}
+use mathlib.Core.List.{List, [], _∷_, _++_, List·Memᴰ·head, List·Memᴰ·cases-cons, Memᴰ·append-left, Memᴰ·append-right, Memᴰ·map, Memᴰ·of-map}
+use Prim.Native.Nat.{ℕ, suc, _-_, _≤_, _<_}
+use native.Mathlib.Nat.{zero-add}
 use native.Mathlib.Omega.{arith}
-use borrow.Author.Tests.{eq-eqb, eqb-true, lt-ltb, ltb-true, ltb-false, le-ltb}
+use borrow.Author.Tests.{not-true, eq-eqb, eqb-true, lt-ltb, ltb-true, ltb-false, le-ltb}
 use lib.Dec.{eqb, ltb}
 use lib.ListN.{length, take, drop, take-append-drop, length-drop}
 use lib.Seq.{drop-length, length-take-le, take-nil}
 use Rattle.ranking.specs.Best.{_∈_, best, onLast, only}
-use Rattle.ranking.specs.Search.{Search, has, least, entries, heldIn, listAfter, stops, ended, steps, found, marks, matters}
-use Rattle.ranking.proofs.Lists.{_⊆_, Same, Pairwise, Distinct, Tested, passed, failed, tested, clash, here, there, none-in, moved, ++-cases, take-⊆, take-more, lt-or-eq, pairwise-drop, pairwise-take, pairwise-only, only-in, only-of}
-use Rattle.ranking.proofs.Best.{StrictTotal, Falling, Lowest, lowest, lowest-of, opposite, differs, best-falling, best-of, best-same, best-append, best-part, best-below-all, length-best-le, length-same, Enters, enters, entered}
-
--- ---- the least number that passes a test
-
-pub least-from : (p : ℕ → Bool) (f n : ℕ) → n ≤ least p f n
-least-from p zero n = omega arith
-least-from p (suc f) n = go (tested (p n)) (least-from p f (suc n))
-  where
-    go : Tested (p n) → suc n ≤ least p f (suc n) → n ≤ least p (suc f) n
-    go (passed e) ih = rw (e, least) (omega arith)
-    go (failed e) ih = rw (e, least) (omega arith)
-
-pub least-le : (p : ℕ → Bool) (f n : ℕ) → least p f n ≤ n + f
-least-le p zero n = omega arith
-least-le p (suc f) n = go (tested (p n)) (least-le p f (suc n))
-  where
-    go : Tested (p n) → least p f (suc n) ≤ suc n + f → least p (suc f) n ≤ n + suc f
-    go (passed e) ih = rw (e, least) (omega arith)
-    go (failed e) ih = rw (e, least) (omega arith)
-
-pub least-holds : (p : ℕ → Bool) (f n : ℕ) → p (n + f) ≡ true → p (least p f n) ≡ true
-least-holds p zero n h = rw add-zero at h
-least-holds p (suc f) n h = go (tested (p n)) (least-holds p f (suc n))
-  where
-    go : Tested (p n) → (p (suc n + f) ≡ true → p (least p f (suc n)) ≡ true) → p (least p (suc f) n) ≡ true
-    go (passed e) ih = subst (λ m. p m ≡ true) (rw (e, least)) e
-    go (failed e) ih = subst (λ m. p m ≡ true) (rw (e, least)) (ih (subst (λ m. p m ≡ true) (add-suc n f ∙ sym (suc-add n f)) h))
-
-pub least-before : (p : ℕ → Bool) (f n m : ℕ) → n ≤ m → m < least p f n → p m ≡ false
-least-before p zero n m l h = absurd (no n m l h)
-  where
-    no : (n m : ℕ) → n ≤ m → m < n → ⊥
-    no n m l h = omega arith
-least-before p (suc f) n m l h = go (tested (p n)) (lt-or-eq l) (least-before p f (suc n) m)
-  where
-    no : (a b c : ℕ) → a ≤ b → b < c → c ≡ a → ⊥
-    no a b c l h e = omega arith
-
-    go : Tested (p n) → (n < m) ⊎ (n ≡ m) → (suc n ≤ m → m < least p f (suc n) → p m ≡ false) → p m ≡ false
-    go (passed e) t ih = absurd (no n m (least p (suc f) n) l h (rw (e, least)))
-    go (failed e) (inl g) ih = ih g (subst (λ z. m < z) (rw (e, least)) h)
-    go (failed e) (inr g) ih = ap p (sym g) ∙ e
-
-pub least-same : (p q : ℕ → Bool) (f n : ℕ) → ((m : ℕ) → m ≤ least p f n → p m ≡ q m) → least p f n ≡ least q f n
-least-same p q zero n h = refl
-least-same p q (suc f) n h = go (tested (p n)) (least-same p q f (suc n))
-  where
-    agree : p n ≡ q n
-    agree = h n (least-from p (suc f) n)
-
-    go : Tested (p n) → (((m : ℕ) → m ≤ least p f (suc n) → p m ≡ q m) → least p f (suc n) ≡ least q f (suc n)) → least p (suc f) n ≡ least q (suc f) n
-    go (passed e) ih =
-        let e′ : q n ≡ true = sym agree ∙ e in
-        rw (e, e′, least)
-    go (failed e) ih =
-        let e′ : q n ≡ false = sym agree ∙ e in
-        rw (e, e′, least) (ih (λ m l. h m (subst (λ z. m ≤ z) (rw (e, least)) l)))
+use Rattle.ranking.specs.Search.{Search, has, entries, heldIn, listAfter, stops, ended, steps, found, marks, matters}
+use Rattle.ranking.proofs.Tests.{Tested, passed, failed, tested, clash, and-both, and-true, or-either, or-left, or-right}
+use Rattle.ranking.proofs.Lists.{_⊆_, Same, Pairwise, Distinct, there, none-in, moved, ++-cases, take-⊆, take-more, lt-or-eq, pairwise-drop, pairwise-take, pairwise-only, only-in, only-of, only-all-fail, placed, take-next}
+use Rattle.ranking.proofs.Best.{StrictTotal, Falling, Lowest, lowest, lowest-of, opposite, differs, best-falling, best-of, best-same, best-append, best-part, best-below-all, length-best-le, length-same, enters, entered}
+use Rattle.ranking.proofs.Least.{least-before, least-holds, least-le, least-same}
 
 -- ---- cells and tests
 
@@ -100,51 +46,6 @@ in-has c (d ∷ ds) m = go (tested (eqb c d)) (List·Memᴰ·cases-cons m) (in-h
     go (passed e) k ih = rw (e, has)
     go (failed e) (inl q) ih = clash (eq-eqb c d q) e
     go (failed e) (inr k) ih = rw (e, has) (ih k)
-
-pub and-both : (a b : Bool) → a && b ≡ true → (a ≡ true) × (b ≡ true)
-and-both true b h = (refl, h)
-and-both false b h = clash {b = false} h refl
-
-pub or-either : (a b : Bool) → a || b ≡ true → (a ≡ true) ⊎ (b ≡ true)
-or-either true b h = inl refl
-or-either false b h = inr h
-
-pub or-left : (a b : Bool) → a ≡ true → a || b ≡ true
-or-left a b e = rw e
-
-pub or-right : (a b : Bool) → b ≡ true → a || b ≡ true
-or-right true b e = refl
-or-right false b e = e
-
-pub and-true : {a b : Bool} → a ≡ true → b ≡ true → a && b ≡ true
-and-true {a} {b} p q = rw (p, q)
-
-not-reached : (b : Bool) → not b ≡ true → b ≡ false
-not-reached true h = sym h
-not-reached false h = refl
-
--- a member of the first n stands at a place below n
-pub placed : {A : Type 0} (n : ℕ) (l : List A) {x : A} → x ∈ take n l → (m : ℕ) × (m < n) × (rest : List A) × (drop m l ≡ x ∷ rest)
-placed zero l m = absurd (none-in m)
-placed (suc n) [] m = absurd (none-in m)
-placed {A} (suc n) (y ∷ ys) {x} m = go (List·Memᴰ·cases-cons m) (placed n ys)
-  where
-    go : (x ≡ y) ⊎ (x ∈ take n ys) → (x ∈ take n ys → (m : ℕ) × (m < n) × (rest : List A) × (drop m ys ≡ x ∷ rest)) → (m : ℕ) × (m < suc n) × (rest : List A) × (drop m (y ∷ ys) ≡ x ∷ rest)
-    go (inl e) ih = (0, omega arith, ys, ap (λ z. z ∷ ys) (sym e))
-    go (inr k) ih =
-        let r = ih k in
-        let h : r .0 < n = r .1 in
-        (suc (r .0), omega arith, r .2, r .3)
-
-pub only-none : {A : Type 0} (l : List A) → only (λ x. false) l ≡ []
-only-none [] = refl
-only-none (x ∷ xs) = only-none xs
-
-pub take-next : {A : Type 0} (n : ℕ) (l : List A) {x : A} {rest : List A} → drop n l ≡ x ∷ rest → take (suc n) l ≡ take n l ++ (x ∷ [])
-take-next zero [] e = absurd (nil≢cons e)
-take-next zero (y ∷ ys) e = ap (λ z. z ∷ []) (head-eq-of-cons-eq e)
-take-next (suc n) [] e = absurd (nil≢cons e)
-take-next (suc n) (y ∷ ys) e = ap (λ l. y ∷ l) (take-next n ys e)
 
 -- ---- what a search rests on
 
@@ -208,7 +109,7 @@ module _ {E I : Type 0} (s : Search E I) where
 
   -- in the beginning the list is empty
   pub list-zero : (k : ℕ) (hs : List I) → listAfter s k hs 0 ≡ []
-  list-zero k hs = ap (λ l. best (s .above) k (entries s l)) (only-none hs) ∙ take-nil k
+  list-zero k hs = ap (λ l. best (s .above) k (entries s l)) (only-all-fail (λ i. false) hs (λ i m. refl)) ∙ take-nil k
 
   -- what is held in two parts of the cells
   held-append : (cs ds : List ℕ) (hs : List I) → Same (entries s (heldIn s (cs ++ ds) hs)) (entries s (heldIn s cs hs) ++ entries s (heldIn s ds hs))
@@ -293,7 +194,7 @@ all-steps {E} s strict k hs h = ⊎-elim (λ short. absurd (go (drop n (s .order
         let low = lowest-of (s .above) strict (λ z. not (s .reaches c z)) L (best-falling (s .above) strict k (entries s (heldIn s taken hs))) (both .1) in
         clash
         (h c (low .entry) (held-part s taken hs (low .entry) (best-of (s .above) strict k (entries s (heldIn s taken hs)) (low .entry) (low .listed))))
-        (not-reached (s .reaches c (low .entry)) (sym (low .is-last (λ z. not (s .reaches c z))) ∙ both .1))
+        (not-true (s .reaches c (low .entry)) (sym (low .is-last (λ z. not (s .reaches c z))) ∙ both .1))
 
 -- ---- the end
 
@@ -352,7 +253,7 @@ module _ {E I : Type 0} (s : Search E I) {Good : I → Type 0} (sound : Sound s 
             let q = only-of (λ i. not (has (s .cellOf i) taken)) hs (r .1) in (
               r .0,
               q .0,
-              ⊎-elim (λ z. clash (in-has (s .cellOf (r .0)) taken z) (not-reached (has (s .cellOf (r .0)) taken) (q .1))) (λ z. z) (sides n (r .0) (q .0)),
+              ⊎-elim (λ z. clash (in-has (s .cellOf (r .0)) taken z) (not-true (has (s .cellOf (r .0)) taken) (q .1))) (λ z. z) (sides n (r .0) (q .0)),
               r .2,
             )
 
@@ -380,7 +281,7 @@ module _ {E I : Type 0} (s : Search E I) {Good : I → Type 0} (sound : Sound s 
         go (c ∷ left) q h =
             let both = and-both (eqb (length F) k) (onLast (λ e. not (s .reaches c e)) F) h in
             let low = lowest-of (s .above) (sound .strict) (λ e. not (s .reaches c e)) F fall (both .1) in
-            let under = not-reached (s .reaches c (low .entry)) (sym (low .is-last (λ e. not (s .reaches c e))) ∙ both .1) in
+            let under = not-true (s .reaches c (low .entry)) (sym (low .is-last (λ e. not (s .reaches c e))) ∙ both .1) in
             sym
             (best-below-all (s .above) (sound .strict) k others inside (eqb-true (length F) k (both .0))
             (λ x m.
@@ -470,7 +371,7 @@ module _ {E I : Type 0} (s : Search E I) {Good : I → Type 0} (sound : Sound s 
               let both = and-both (eqb (length L) k) (onLast (λ z. not (s .reaches d z)) L) (subst (λ l. stops s k l (d ∷ left) ≡ true) (found-is k) e) in
               let full = eqb-true (length L) k (both .0) in
               let low = lowest-full L fall full in
-              let under = not-reached (s .reaches d (low .entry)) (sym (low .is-last (λ z. not (s .reaches d z))) ∙ both .1) in
+              let under = not-true (s .reaches d (low .entry)) (sym (low .is-last (λ z. not (s .reaches d z))) ∙ both .1) in
               ⊎-elim (λ short. absurd (no (length L) full (ltb-true (length L) k short)))
               (λ r. clash (sym (low .is-last (s .reaches c)) ∙ r) (unreached d left n q (low .entry) under c t))
               (or-either (ltb (length L) k) (onLast (s .reaches c) L) h)

@@ -1,26 +1,26 @@
 -- The search of a question finds the best k of the window, and its marks are the wanted cells: reports and cells meet what the search's laws ask.
 -- Assumes nothing.
 use mathlib.Core.Path.{_≡_, refl, sym, ap, _∙_, subst}
-use mathlib.Core.Logic.{_⊎_, inl, inr, ⊎-elim, _↔_}
-use mathlib.Core.Bool.{Bool, true, false, not}
-use mathlib.Core.List.{List, [], _∷_, map, Memᴰ·of-map}
+use mathlib.Core.Logic.{_↔_}
+use mathlib.Core.Bool.{true, false, not}
+use mathlib.Core.List.{List, _∷_, map, Memᴰ·of-map}
 use Prim.Native.Nat.{ℕ, _%_, _/_, _≤_, _<_}
 use native.Mathlib.Omega.{arith}
-use borrow.Author.Tests.{lt-ltb, le-ltb, ltb-true, ltb-false}
+use borrow.Author.Tests.{not-true, not-false, lt-ltb}
 use lib.Dec.{ltb}
 use lib.ListN.{length}
-use lib.IntN.{ℤ}
 use lib.Signed.{ltZ}
 use Rattle.ranking.specs.Best.{_∈_, best, only}
-use Rattle.ranking.specs.Search.{Search, entries, steps, found, marks, matters, heldIn}
+use Rattle.ranking.specs.Search.{entries, steps, found, marks, matters}
 use Rattle.ranking.specs.Cells.{score, cell, corner, bestScore, greater, before, cells, visiting}
 use Rattle.ranking.specs.Standing.{Held, Entry, above, entry, reaches, searchOf, Permitted, Wanted}
 use Rattle.ranking.specs.declared.Weights.{Weights}
-use Rattle.ranking.proofs.Lists.{Pairwise, Distinct, Same, Tested, passed, failed, tested, clash, moved, pairwise-map, pairwise-take}
-use Rattle.ranking.proofs.Best.{StrictTotal, ahead, behind, opposite}
-use Rattle.ranking.proofs.Search.{All, Sound, Newest, ltb-strict, found-is, marked, mattering, steps-count, steps-le, length-marks, wanted}
+use Rattle.ranking.proofs.Tests.{Tested, passed, failed, tested, clash}
+use Rattle.ranking.proofs.Lists.{Distinct, pairwise-map, pairwise-take}
+use Rattle.ranking.proofs.Best.{StrictTotal, ahead}
+use Rattle.ranking.proofs.Search.{All, Sound, Newest, ltb-strict, found-is, marked, mattering, steps-count, steps-le, wanted}
 use Rattle.ranking.proofs.Whole.{ltZ-strict}
-use Rattle.ranking.proofs.Cells.{greater-by, greater-tie, greater-of, Numbers, more, less, equal, numbers, greater-strict, Ties, visiting-in, visiting-of, visiting-same, visiting-falling, visiting-distinct, length-visiting, cells-in, cells-of, cells-distinct, before-best, score-bound, corner-cell, corner-loss, corner-shake, cell-fits}
+use Rattle.ranking.proofs.Cells.{more, greater-by, greater-tie, Numbers, less, equal, numbers, greater-strict, visiting-in, visiting-of, visiting-same, visiting-falling, visiting-distinct, length-visiting, cells-distinct, before-best, score-bound, corner-cell, corner-loss, corner-shake, cell-fits}
 
 -- reports are ranked strictly and totally
 pub above-strict : StrictTotal above
@@ -35,14 +35,6 @@ above-strict =
     both : (e f : Entry) → e .number ≡ f .number → e .score ≡ f .score → e ≡ f
     both e f p q i = record { number = p i; score = q i }
 
-not-below : (b : Bool) → not b ≡ true → b ≡ false
-not-below true h = sym h
-not-below false h = refl
-
-below : (b : Bool) → not b ≡ false → b ≡ true
-below true h = refl
-below false h = sym h
-
 module _ (w : Weights) where
   -- ltZ a b is "a is below b": the chain of three, with the middle step not strict
   later : (c d : ℕ) → before w c d ≡ true → (e : Entry) → reaches w d e ≡ true → reaches w c e ≡ true
@@ -52,14 +44,14 @@ module _ (w : Weights) where
       go (failed f) = ap not f
       go (passed f) =
           clash (ahead ltZ ltZ-strict (bestScore w d) (bestScore w c) (e .score) (before-best w c d h) f)
-          (not-below (ltZ (bestScore w d) (e .score)) r)
+          (not-true (ltZ (bestScore w d) (e .score)) r)
 
   under : (r : Held) → Permitted r → (e : Entry) → reaches w (cell (r .loss) (r .shake)) e ≡ false → above e (entry w r) ≡ true
   under r p e h =
       let s = score w (r .loss) (r .shake) in
       let c = cell (r .loss) (r .shake) in
       greater-by (e .score) s (ltb (r .number) (e .number))
-      (ahead ltZ ltZ-strict s (bestScore w c) (e .score) (score-bound w (r .loss) (r .shake) (p .loss-fits)) (below (ltZ (bestScore w c) (e .score)) h))
+      (ahead ltZ ltZ-strict s (bestScore w c) (e .score) (score-bound w (r .loss) (r .shake) (p .loss-fits)) (not-false (ltZ (bestScore w c) (e .score)) h))
 
   -- what the search's laws ask
   pub sound : Sound (searchOf w) Permitted
@@ -96,7 +88,7 @@ module _ (w : Weights) where
       where
         go : Numbers (bestScore w c) (x .score) → greater (bestScore w c) (x .score) (ltb (x .number) new) ≡ true
         go (more e) = greater-by (bestScore w c) (x .score) (ltb (x .number) new) e
-        go (less e) = clash e (not-below (ltZ (bestScore w c) (x .score)) h)
+        go (less e) = clash e (not-true (ltZ (bestScore w c) (x .score)) h)
         go (equal e) = greater-tie (bestScore w c) (x .score) (ltb (x .number) new) e ∙ lt-ltb (x .number) new (newer x m)
 
     corner-new : (c : ℕ) → c < 256 → New c (entry w (at-corner c))

@@ -2,15 +2,15 @@
 -- "a is at most b" is said as `ltZ b a ≡ false`, which is what the tests say.
 -- Assumes nothing.
 use mathlib.Core.Path.{_≡_, refl, sym, ap, _∙_, subst}
-use mathlib.Core.Bool.{Bool, true, false, cond}
-use Prim.Native.Nat.{ℕ, zero, suc, _+_, _*_, _-_, _≤_, _<_}
+use mathlib.Core.Bool.{true, false, cond}
+use Prim.Native.Nat.{ℕ, zero, suc, _+_, _*_, _≤_}
 use native.Mathlib.Nat.{mul-add}
 use native.Mathlib.Omega.{arith}
 use borrow.Author.Tests.{lt-ltb, le-ltb, ltb-true, ltb-false}
 use lib.Dec.{ltb}
 use lib.IntN.{ℤ, pos, negsuc, sucℤ, negℤ, natAbs, subℕ, _+ℤ_, _*ℤ_, +ℤ-sucℤ, +ℤ-idr, +ℤ-assoc, +ℤ-comm, +ℤ-invl, negℤ-+ℤ}
 use lib.Signed.{ltZ, mag}
-use Rattle.ranking.proofs.Lists.{Tested, passed, failed, tested, clash}
+use Rattle.ranking.proofs.Tests.{Tested, passed, failed, tested, clash}
 use Rattle.ranking.proofs.Best.{StrictTotal}
 
 irrefl : (a : ℤ) → ltZ a a ≡ false
@@ -40,8 +40,8 @@ ltZ-strict = record { irreflexive = irrefl; transitive = trans; total = total }
 
 -- ---- b is n more than a
 pub record Up (a b : ℤ) : Type 0 where
-  pub more : ℕ
-  pub is : a +ℤ pos more ≡ b
+  pub gap : ℕ
+  pub is : a +ℤ pos gap ≡ b
 
 next-not-less : (x a : ℤ) → ltZ x a ≡ false → ltZ (sucℤ x) a ≡ false
 next-not-less (pos x) (pos a) h = le-ltb (suc x) a (omega (arith, ltb-false x a h))
@@ -56,15 +56,15 @@ sum-not-less a zero = ap (λ z. ltZ z a) (+ℤ-idr a) ∙ irrefl a
 sum-not-less a (suc n) = ap (λ z. ltZ z a) (+ℤ-sucℤ a (pos n)) ∙ next-not-less (a +ℤ pos n) a (sum-not-less a n)
 
 pub up-le : {a b : ℤ} → Up a b → ltZ b a ≡ false
-up-le {a} {b} u = subst (λ z. ltZ z a ≡ false) (u .is) (sum-not-less a (u .more))
+up-le {a} {b} u = subst (λ z. ltZ z a ≡ false) (u .is) (sum-not-less a (u .gap))
 
 pub up-sum : {a b c d : ℤ} → Up a b → Up c d → Up (a +ℤ c) (b +ℤ d)
 up-sum {a} {b} {c} {d} u v =
     record {
-      more = u .more + v .more;
+      gap = u .gap + v .gap;
       is =
-          regroup a c (pos (u .more)) (pos (v .more))
-          ∙ ap (λ z. z +ℤ (c +ℤ pos (v .more))) (u .is)
+          regroup a c (pos (u .gap)) (pos (v .gap))
+          ∙ ap (λ z. z +ℤ (c +ℤ pos (v .gap))) (u .is)
           ∙ ap (λ z. b +ℤ z) (v .is);
     }
   where
@@ -76,13 +76,13 @@ up-sum {a} {b} {c} {d} u v =
 
 -- a number that isn't negative, times more
 pub up-times : (a v d : ℕ) → Up (pos a *ℤ pos v) (pos a *ℤ pos (v + d))
-up-times a v d = record { more = a * d; is = ap pos (sym (mul-add a v d)) }
+up-times a v d = record { gap = a * d; is = ap pos (sym (mul-add a v d)) }
 
 -- a negative number, times less
 pub down-times : (a v d : ℕ) → Up (negsuc a *ℤ pos (v + d)) (negsuc a *ℤ pos v)
 down-times a v d =
     record {
-      more = suc a * d;
+      gap = suc a * d;
       is =
           ap (λ n. negℤ (pos n) +ℤ pos (suc a * d)) (mul-add (suc a) v d)
           ∙ ap (λ z. z +ℤ pos (suc a * d)) (negℤ-+ℤ (pos (suc a * v)) (pos (suc a * d)))

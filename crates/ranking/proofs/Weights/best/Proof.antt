@@ -1,12 +1,11 @@
 -- The best possible score is the score at the cell's corner, whose values have 12 bits.
 -- Assumes nothing.
 use mathlib.Core.Path.{_≡_, ap, ap₂, _∙_}
-use Prim.Native.Nat.{ℕ, _%_, _/_, _≤_, _<_}
+use Prim.Native.Nat.{ℕ, _%_, _/_, _≤_}
 use native.Mathlib.Omega.{arith}
 use borrow.Author.Needs.{needs}
 use mir.Syntax.{w16, w32}
 use Rattle.ranking.specs.Cells.{score, corner}
-use Rattle.ranking.specs.declared.Weights.{Weights}
 use Rattle.ranking.proofs.Cells.{corner-loss, corner-shake}
 use Rattle.ranking.proofs.Words.{kept}
 use Rattle.ranking.proofs.Weights.best.Statement.{statement}
