@@ -6,7 +6,7 @@ use mathlib.Core.Logic.{_⊎_, inl, inr, ⊎-elim}
 use mathlib.Core.Bool.{Bool, true, false, cond, _||_}
 use mathlib.Core.List.{List, [], _∷_, _++_, List·Memᴰ·head, List·Memᴰ·cases-cons, Memᴰ·append-left, Memᴰ·append-right}
 use Prim.Native.Nat.{ℕ, zero, suc, min, _≤_, _<_}
-use native.Mathlib.Nat.{suc-ne-zero, le-of-suc-le-suc}
+use native.Mathlib.Nat.{le-of-suc-le-suc}
 use native.Mathlib.Omega.{arith}
 use borrow.Author.Tests.{lt-ltb}
 use lib.Dec.{ltb}
@@ -285,6 +285,13 @@ module _ {E : Type 0} (above : E → E → Bool) where
           rest = λ z m. ⊎-elim (λ q. inr (subst (λ v. above v (r .entry) ≡ true) (sym q) (w .0 (r .entry) (r .listed)))) (r .rest z) (List·Memᴰ·cases-cons m);
         }
 
+    pub lowest-some : (l : List E) → Falling l → 1 ≤ length l → Lowest l
+    lowest-some [] w h = absurd (no h)
+      where
+        no : 1 ≤ 0 → ⊥
+        no h = omega arith
+    lowest-some (x ∷ xs) w h = lowest x xs w
+
     -- where a test holds of the last entry there is one
     pub lowest-of : (p : E → Bool) (l : List E) → Falling l → onLast p l ≡ true → Lowest l
     lowest-of p [] w h = clash {b = false} h refl
@@ -319,6 +326,15 @@ module _ {E : Type 0} (above : E → E → Bool) where
     place-length-le x (y ∷ ys) = go (stand x y) (place-length-le x ys)
       where
         go : Stand x y → length (place above x ys) ≤ suc (length ys) → length (place above x (y ∷ ys)) ≤ suc (suc (length ys))
+        go (first e) ih = rw (place-first x y ys e) (omega arith)
+        go (later e f) ih = rw (place-later x y ys e f) (omega arith)
+        go (same e f) ih = rw (place-same x y ys e f) (omega arith)
+
+    pub place-length-ge : (x : E) (l : List E) → length l ≤ length (place above x l)
+    place-length-ge x [] = omega arith
+    place-length-ge x (y ∷ ys) = go (stand x y) (place-length-ge x ys)
+      where
+        go : Stand x y → length ys ≤ length (place above x ys) → suc (length ys) ≤ length (place above x (y ∷ ys))
         go (first e) ih = rw (place-first x y ys e) (omega arith)
         go (later e f) ih = rw (place-later x y ys e f) (omega arith)
         go (same e f) ih = rw (place-same x y ys e f) (omega arith)
@@ -375,15 +391,11 @@ module _ {E : Type 0} (above : E → E → Bool) where
         L : List E
         L = best above (suc k) l
 
-        some : (m : List E) → Falling m → length m ≡ suc k → Lowest m
-        some [] w e = absurd (suc-ne-zero k (sym e))
-        some (y ∷ ys) w e = lowest y ys w
-
         go : length L ≡ suc k → Tested (onLast (λ z. above z x) L) → Tested (onLast (above x) L) → (x ∈ L) ⊎ (onLast (above x) L ≡ true)
         go full (passed h) t = inl (subst (λ b. x ∈ b) (best-below (suc k) x l full h) m)
         go full (failed h) (passed h′) = inr h′
         go full (failed h) (failed h′) =
-            let r = some L (best-falling (suc k) l) full in
+            let r = lowest-some L (best-falling (suc k) l) (omega arith) in
             inl
             (moved (sym (order .total x (r .entry) (sym (r .is-last (above x)) ∙ h′) (sym (r .is-last (λ z. above z x)) ∙ h)))
             (r .listed))

@@ -7,5 +7,6 @@ pub mod Whole
 pub mod Cells
 pub mod Standing
 pub mod Scan
+pub mod Guard
 pub mod Words
 pub mod Examples

@@ -16,7 +16,7 @@ use Rattle.ranking.specs.Best.{_∈_, best, onLast, only}
 use Rattle.ranking.specs.Search.{Search, has, entries, heldIn, listAfter, stops, ended, steps, found, marks, matters}
 use Rattle.ranking.proofs.Tests.{Tested, passed, failed, tested, clash, and-both, and-true, or-either, or-left, or-right}
 use Rattle.ranking.proofs.Lists.{_⊆_, Same, Pairwise, Distinct, there, none-in, moved, ++-cases, take-⊆, take-more, lt-or-eq, pairwise-drop, pairwise-take, pairwise-only, only-in, only-of, only-all-fail, placed, take-next}
-use Rattle.ranking.proofs.Best.{StrictTotal, Falling, Lowest, lowest, lowest-of, opposite, differs, best-falling, best-of, best-same, best-append, best-part, best-below-all, length-best-le, length-same, enters, entered}
+use Rattle.ranking.proofs.Best.{StrictTotal, Falling, Lowest, lowest-of, opposite, differs, best-falling, best-of, best-same, best-append, best-part, best-below-all, length-best-le, length-same, enters, entered, lowest-some}
 use Rattle.ranking.proofs.Least.{least-before, least-holds, least-le, least-same}
 
 -- ---- cells and tests
@@ -298,12 +298,8 @@ module _ {E I : Type 0} (s : Search E I) {Good : I → Type 0} (sound : Sound s 
       fall : Falling (s .above) L
       fall = best-falling (s .above) (sound .strict) k (entries s hs)
 
-      lowest-full : (l : List E) → Falling (s .above) l → length l ≡ k → Lowest (s .above) l
-      lowest-full [] w e = absurd (none e some)
-        where
-          none : 0 ≡ k → 1 ≤ k → ⊥
-          none e h = omega arith
-      lowest-full (x ∷ xs) w e = lowest (s .above) (sound .strict) x xs w
+      lowest-full : length L ≡ k → Lowest (s .above) L
+      lowest-full e = lowest-some (s .above) (sound .strict) L fall (omega arith)
 
       -- the true list is full and a cell doesn't reach its last entry: then a search that comes to the cell has found all of the list, and stops
       complete : (n c : ℕ) (left : List ℕ) → drop n (s .order) ≡ c ∷ left → length L ≡ k → onLast (s .reaches c) L ≡ false → ended s k hs n ≡ true
@@ -319,7 +315,7 @@ module _ {E I : Type 0} (s : Search E I) {Good : I → Type 0} (sound : Sound s 
           inside = entries s (heldIn s taken hs)
 
           low : Lowest (s .above) L
-          low = lowest-full L fall full
+          low = lowest-full full
 
           under : s .reaches c (low .entry) ≡ false
           under = sym (low .is-last (s .reaches c)) ∙ h
@@ -370,7 +366,7 @@ module _ {E I : Type 0} (s : Search E I) {Good : I → Type 0} (sound : Sound s 
           go (d ∷ left) q t e =
               let both = and-both (eqb (length L) k) (onLast (λ z. not (s .reaches d z)) L) (subst (λ l. stops s k l (d ∷ left) ≡ true) (found-is k) e) in
               let full = eqb-true (length L) k (both .0) in
-              let low = lowest-full L fall full in
+              let low = lowest-full full in
               let under = not-true (s .reaches d (low .entry)) (sym (low .is-last (λ z. not (s .reaches d z))) ∙ both .1) in
               ⊎-elim (λ short. absurd (no (length L) full (ltb-true (length L) k short)))
               (λ r. clash (sym (low .is-last (s .reaches c)) ∙ r) (unreached d left n q (low .entry) under c t))
