@@ -4,7 +4,7 @@ use mathlib.Core.Path.{_≡_, refl, sym, ap, _∙_, subst}
 use mathlib.Core.Logic.{_⊎_, inl, inr, ⊎-elim}
 use mathlib.Core.Bool.{Bool, true, false, not}
 use mathlib.Core.List.{List, [], _∷_, _++_, nil≢cons, head-eq-of-cons-eq, List·Memᴰ·head, List·Memᴰ·tail, List·Memᴰ·not-nil, List·Memᴰ·cases-cons, Memᴰ·append-right}
-use Prim.Native.Nat.{ℕ, zero, suc, _≤_, _<_}
+use Prim.Native.Nat.{ℕ, zero, suc, _≤_, _<_, suc-le-suc}
 use native.Mathlib.Nat.{eq-or-lt-of-le, le-of-suc-le-suc}
 use lib.Seq.{take-take, take-length}
 use native.Mathlib.Omega.{arith}
@@ -143,6 +143,12 @@ module _ {A : Type 0} where
           let r = ih k in
           let h : r .0 < n = r .1 in
           (suc (r .0), omega arith, r .2, r .3)
+
+  pub inside : (n : ℕ) (l : List A) {x : A} {rest : List A} → drop n l ≡ x ∷ rest → n < length l
+  inside zero [] e = absurd (nil≢cons e)
+  inside zero (y ∷ ys) e = omega arith
+  inside (suc n) [] e = absurd (nil≢cons e)
+  inside (suc n) (y ∷ ys) e = suc-le-suc (inside n ys e)
 
   pub take-next : (n : ℕ) (l : List A) {x : A} {rest : List A} → drop n l ≡ x ∷ rest → take (suc n) l ≡ take n l ++ (x ∷ [])
   take-next zero [] e = absurd (nil≢cons e)

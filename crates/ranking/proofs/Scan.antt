@@ -9,14 +9,14 @@ use native.Mathlib.Omega.{arith}
 use native.Mathlib.Numerals.{add-one}
 use borrow.Author.Tests.{lt-ltb, le-ltb, ltb-true, ltb-false}
 use lib.Dec.{ltb}
-use lib.ListN.{length, take, drop, length-append, take-append-drop}
+use lib.ListN.{length, take, drop, length-append, take-append-drop, drop-of-length-le}
 use lib.Seq.{take-suc, drop-cons}
 use Rattle.ranking.specs.Best.{_∈_, only}
 use Rattle.ranking.specs.Cells.{before, count, cells, visiting, placeOf, cellAt}
 use Rattle.ranking.specs.Scan.{leads, nearer, placeAfter}
 use Rattle.ranking.specs.declared.Weights.{Weights}
 use Rattle.ranking.proofs.Tests.{Tested, passed, failed, tested, clash, and-both, and-true}
-use Rattle.ranking.proofs.Lists.{Pairwise, here, none-in, ++-cases, drop-⊆, lt-or-eq, pairwise-at, pairwise-drop, pairwise-only, only-in, only-of, index-of, getD-in, getD-left, getD-past, only-append}
+use Rattle.ranking.proofs.Lists.{Pairwise, here, none-in, ++-cases, drop-⊆, lt-or-eq, pairwise-at, pairwise-drop, pairwise-only, only-in, only-of, index-of, getD-in, getD-left, getD-past, only-append, placed, inside, take-more}
 use Rattle.ranking.proofs.Best.{opposite, differs, falling-place, length-same}
 use Rattle.ranking.proofs.Search.{ltb-strict}
 use Rattle.ranking.proofs.Cells.{before-strict, visiting-in, visiting-of, visiting-same, visiting-falling, visiting-distinct, length-visiting, cells-distinct}
@@ -248,3 +248,51 @@ module _ (w : Weights) where
           (λ k. clash (subst (Pairwise Earlier) q (pairwise-drop Earlier m (visiting w) (visiting-falling w)) .0 found k) (r .1))
           (List·Memᴰ·cases-cons (subst (λ l. found ∈ l) q (found-left (r .0))))
           ∙ sym (getD-left 256 (visiting w) m q)
+
+  -- ---- the cells taken so far, by the next one
+
+  -- the next cell begins what is left
+  pub left-at : (m : ℕ) → m < 256 → drop m (visiting w) ≡ cellAt w m ∷ drop (suc m) (visiting w)
+  left-at m h = drop-cons (visiting w) m 256 (rw (length-visiting w) h)
+
+  pub left-none : (m : ℕ) → 256 ≤ m → drop m (visiting w) ≡ []
+  left-none m h = drop-of-length-le (visiting w) {i = m} (subst (λ n. n ≤ m) (sym (length-visiting w)) h)
+
+  -- a cell is among the first m exactly where its place is below m
+  pub taken-place : (m c : ℕ) → c < 256 → c ∈ take m (visiting w) ↔ placeOf w c < m
+  unfolding n
+  taken-place m c h = (to, from)
+    where
+      to : c ∈ take m (visiting w) → placeOf w c < m
+      to t =
+          let r = placed m (visiting w) t in
+          let e = getD-left 256 (visiting w) (r .0) (r .3) in
+          let below = subst (λ z. r .0 < z) (length-visiting w) (inside (r .0) (visiting w) (r .3)) in
+          subst (λ z. z < m) (sym (ap (placeOf w) (sym e) ∙ place-at (r .0) below)) (r .1)
+
+      from : placeOf w c < m → c ∈ take m (visiting w)
+      from l =
+          take-more (visiting w) l c
+          (subst (λ s. c ∈ s) (sym (up-to c h)) (Memᴰ·append-right (take (placeOf w c) (visiting w)) here))
+
+  -- and, while cells are left, exactly where it stands before the next one
+  pub taken-before : (m c : ℕ) → m < 256 → c < 256 → c ∈ take m (visiting w) ↔ before w c (cellAt w m) ≡ true
+  taken-before m c h g = (to, from)
+    where
+      Sooner : ℕ → ℕ → Type 0
+      Sooner a b = before w a b ≡ true
+
+      to : c ∈ take m (visiting w) → before w c (cellAt w m) ≡ true
+      to t = pairwise-at Sooner m (visiting w) (visiting-falling w) c (cellAt w m) t (subst (λ l. cellAt w m ∈ l) (sym (left-at m h)) here)
+
+      not-left : before w c (cellAt w m) ≡ true → c ∈ drop m (visiting w) → ⊥
+      not-left b t =
+          let left = subst (Pairwise Sooner) (left-at m h) (pairwise-drop Sooner m (visiting w) (visiting-falling w)) in
+          ⊎-elim (differs (before w) (before-strict w) c (cellAt w m) b)
+          (λ k. opposite (before w) (before-strict w) c (cellAt w m) b (left .0 c k))
+          (List·Memᴰ·cases-cons (subst (λ l. c ∈ l) (left-at m h) t))
+
+      from : before w c (cellAt w m) ≡ true → c ∈ take m (visiting w)
+      from b =
+          ⊎-elim (λ t. t) (λ t. absurd (not-left b t))
+          (++-cases (take m (visiting w)) (subst (λ l. c ∈ l) (sym (take-append-drop m (visiting w))) (visiting-in w c g)))

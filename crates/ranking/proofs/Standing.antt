@@ -1,26 +1,26 @@
 -- The search of a question finds the best k of the window, and its marks are the wanted cells: reports and cells meet what the search's laws ask.
 -- Assumes nothing.
 use mathlib.Core.Path.{_≡_, refl, sym, ap, _∙_, subst}
-use mathlib.Core.Logic.{_↔_}
+use mathlib.Core.Logic.{_⊎_, inl, inr, _↔_}
 use mathlib.Core.Bool.{true, false, not}
-use mathlib.Core.List.{List, _∷_, map, Memᴰ·of-map}
-use Prim.Native.Nat.{ℕ, _%_, _/_, _≤_, _<_}
+use mathlib.Core.List.{List, [], _∷_, map, Memᴰ·of-map}
+use Prim.Native.Nat.{ℕ, min, _%_, _/_, _≤_, _<_}
 use native.Mathlib.Omega.{arith}
 use borrow.Author.Tests.{not-true, not-false, lt-ltb}
 use lib.Dec.{ltb}
-use lib.ListN.{length}
+use lib.ListN.{length, length-map}
 use lib.Signed.{ltZ}
 use Rattle.ranking.specs.Best.{_∈_, best, only}
-use Rattle.ranking.specs.Search.{entries, steps, found, marks, matters}
+use Rattle.ranking.specs.Search.{heldIn, entries, steps, found, marks, matters}
 use Rattle.ranking.specs.Cells.{score, cell, corner, bestScore, greater, before, cells, visiting}
 use Rattle.ranking.specs.Standing.{Held, Entry, above, entry, reaches, searchOf, Permitted, Wanted}
 use Rattle.ranking.specs.declared.Weights.{Weights}
 use Rattle.ranking.proofs.Tests.{Tested, passed, failed, tested, clash}
-use Rattle.ranking.proofs.Lists.{Distinct, pairwise-map, pairwise-take}
-use Rattle.ranking.proofs.Best.{StrictTotal, ahead}
-use Rattle.ranking.proofs.Search.{All, Sound, Newest, ltb-strict, found-is, marked, mattering, steps-count, steps-le, wanted}
+use Rattle.ranking.proofs.Lists.{Distinct, pairwise-map, pairwise-take, Pairwise, Same}
+use Rattle.ranking.proofs.Best.{StrictTotal, ahead, length-best, one-way}
+use Rattle.ranking.proofs.Search.{All, Sound, Newest, ltb-strict, found-is, marked, mattering, steps-count, steps-le, wanted, local-found, local-marks, local-steps}
 use Rattle.ranking.proofs.Whole.{ltZ-strict}
-use Rattle.ranking.proofs.Cells.{more, greater-by, greater-tie, Numbers, less, equal, numbers, greater-strict, visiting-in, visiting-of, visiting-same, visiting-falling, visiting-distinct, length-visiting, cells-distinct, before-best, score-bound, corner-cell, corner-loss, corner-shake, cell-fits}
+use Rattle.ranking.proofs.Cells.{more, greater-by, greater-tie, Numbers, less, equal, numbers, greater-strict, visiting-in, visiting-of, visiting-same, visiting-falling, visiting-distinct, length-visiting, cells-distinct, before-best, score-bound, corner-cell, corner-loss, corner-shake, cell-fits, greater-of, less-by}
 
 -- reports are ranked strictly and totally
 pub above-strict : StrictTotal above
@@ -169,3 +169,54 @@ module _ (w : Weights) where
   -- no cell is marked twice
   pub marks-distinct : (k : ℕ) (hs : List Held) → Distinct (marks (searchOf w) k hs)
   marks-distinct k hs = pairwise-take (λ a b. a ≡ b → ⊥) (steps (searchOf w) k hs) (visiting w) (visiting-distinct w)
+
+  -- Locality: any window with the same numbered reports in the marked cells, and others only in unmarked cells, gives the same list, marks and steps.
+  pub record Alike (k : ℕ) (hs hs′ : List Held) : Type 0 where
+    pub same-steps : steps (searchOf w) k hs ≡ steps (searchOf w) k hs′
+    pub same-list : found (searchOf w) k hs ≡ found (searchOf w) k hs′
+    pub same-marks : marks (searchOf w) k hs ≡ marks (searchOf w) k hs′
+
+  pub local : (k : ℕ) (hs hs′ : List Held) → Same (heldIn (searchOf w) (marks (searchOf w) k hs) hs) (heldIn (searchOf w) (marks (searchOf w) k hs) hs′) → Alike k hs hs′
+  local k hs hs′ h =
+      record {
+        same-steps = local-steps (searchOf w) above-strict k hs hs′ h;
+        same-list = local-found (searchOf w) above-strict k hs hs′ h;
+        same-marks = local-marks (searchOf w) above-strict k hs hs′ h;
+      }
+
+  -- a cell that doesn't reach an entry reaches none that ranks above it
+  pub reach-rises : (c : ℕ) (e f : Entry) → above e f ≡ true → reaches w c f ≡ false → reaches w c e ≡ false
+  reach-rises c e f a h = ap not (go (greater-of (e .score) (f .score) (ltb (f .number) (e .number)) a))
+    where
+      low : ltZ (bestScore w c) (f .score) ≡ true
+      low = not-false (ltZ (bestScore w c) (f .score)) h
+
+      go : (ltZ (f .score) (e .score) ≡ true) ⊎ ((e .score ≡ f .score) × (ltb (f .number) (e .number) ≡ true)) → ltZ (bestScore w c) (e .score) ≡ true
+      go (inl p) = ltZ-strict .transitive (bestScore w c) (f .score) (e .score) low p
+      go (inr p) = subst (λ z. ltZ (bestScore w c) z ≡ true) (sym (p .0)) low
+
+  -- reports of different numbers are different entries
+  pub entries-distinct : (hs : List Held) → Pairwise (λ (q r : Held). q .number ≡ r .number → ⊥) hs → Distinct (map (entry w) hs)
+  entries-distinct [] d = tt
+  entries-distinct (r ∷ hs) d = (
+    λ e m h.
+        let q = Memᴰ·of-map (entry w) hs m in
+        d .0 (q .0) (q .1) (ap (λ (z : Entry). z .number) (h ∙ sym (q .2))),
+    entries-distinct hs (d .1),
+  )
+
+  -- "the first min(k, reports held)"
+  pub length-list : (k : ℕ) (hs : List Held) → Pairwise (λ (q r : Held). q .number ≡ r .number → ⊥) hs → length (best above k (map (entry w) hs)) ≡ min k (length hs)
+  length-list k hs d = length-best above above-strict k (map (entry w) hs) (entries-distinct hs d) ∙ ap (min k) (length-map hs (entry w))
+
+-- the newest report ranks above another exactly where its score is at least the other's
+pub newest-above : (e f : Entry) → f .number < e .number → above e f ≡ not (ltZ (e .score) (f .score))
+newest-above e f h = go (numbers (e .score) (f .score))
+  where
+    go : Numbers (e .score) (f .score) → above e f ≡ not (ltZ (e .score) (f .score))
+    go (more p) = greater-by (e .score) (f .score) (ltb (f .number) (e .number)) p ∙ sym (ap not (one-way ltZ ltZ-strict (f .score) (e .score) p))
+    go (less p) = less-by (e .score) (f .score) (ltb (f .number) (e .number)) p ∙ sym (ap not p)
+    go (equal p) =
+        greater-tie (e .score) (f .score) (ltb (f .number) (e .number)) p
+        ∙ lt-ltb (f .number) (e .number) h
+        ∙ sym (ap not (subst (λ z. ltZ z (f .score) ≡ false) (sym p) (ltZ-strict .irreflexive (f .score))))
