@@ -4,9 +4,9 @@
 use mathlib.Core.Path.{_≡_, refl, sym, ap, _∙_, subst}
 use mathlib.Core.Logic.{_⊎_, inl, inr, ⊎-elim}
 use mathlib.Core.Bool.{Bool, true, false, cond, _||_}
-use mathlib.Core.List.{List, [], _∷_, _++_, List·Memᴰ·head, List·Memᴰ·cases-cons, Memᴰ·append-left, Memᴰ·append-right}
+use mathlib.Core.List.{List, [], _∷_, _++_, List·Memᴰ·head, List·Memᴰ·cases-cons, Memᴰ·append-left, Memᴰ·append-right, List·Memᴰ·not-nil, List·Memᴰ·append-cases}
 use Prim.Native.Nat.{ℕ, zero, suc, min, _≤_, _<_}
-use native.Mathlib.Nat.{le-of-suc-le-suc}
+use native.Mathlib.Nat.{le-of-suc-le-suc, not-suc-le-zero}
 use native.Mathlib.Omega.{arith}
 use borrow.Author.Tests.{lt-ltb}
 use lib.Dec.{ltb}
@@ -14,7 +14,7 @@ use lib.ListN.{length, take, getD, length-take}
 use lib.Seq.{take-all, take-take, take-append-seam}
 use Rattle.ranking.specs.Best.{_∈_, place, rank, best, onLast, only}
 use Rattle.ranking.proofs.Tests.{Tested, passed, failed, tested, clash, or-left, or-right}
-use Rattle.ranking.proofs.Lists.{_⊆_, Same, Pairwise, Distinct, here, there, none-in, moved, ++-cases, take-⊆, pairwise-map, pairwise-take, take-more, lt-or-eq, getD-in, only-all-fail}
+use Rattle.ranking.proofs.Lists.{_⊆_, Same, Pairwise, Distinct, here, there, moved, take-⊆, pairwise-map, pairwise-take, take-more, lt-or-eq, getD-in, only-all-fail}
 
 -- "ranks above" orders all: none above itself, and of two different ones one above the other
 pub record StrictTotal {E : Type 0} (above : E → E → Bool) : Type 0 where
@@ -120,7 +120,7 @@ module _ {E : Type 0} (above : E → E → Bool) where
         go (same e f) ih = rw (place-same x y ys e f) (List·Memᴰ·head (order .total x y e f))
 
     pub place-keeps : (x : E) (l : List E) → l ⊆ place above x l
-    place-keeps x [] z m = absurd (none-in m)
+    place-keeps x [] z m = absurd (List·Memᴰ·not-nil m)
     place-keeps x (y ∷ ys) z m = go (stand x y) (place-keeps x ys z)
       where
         go : Stand x y → (z ∈ ys → z ∈ place above x ys) → z ∈ place above x (y ∷ ys)
@@ -143,7 +143,7 @@ module _ {E : Type 0} (above : E → E → Bool) where
         go (same e f) ih = inr (subst (λ l. z ∈ l) (place-same x y ys e f) m)
 
     pub place-falling : (x : E) (l : List E) → Falling l → Falling (place above x l)
-    place-falling x [] w = (λ z m. absurd (none-in m), tt)
+    place-falling x [] w = (λ z m. absurd (List·Memᴰ·not-nil m), tt)
     place-falling x (y ∷ ys) w = go (stand x y) (place-falling x ys (w .1))
       where
         go : Stand x y → Falling (place above x ys) → Falling (place above x (y ∷ ys))
@@ -185,8 +185,8 @@ module _ {E : Type 0} (above : E → E → Bool) where
     -- a strictly falling list is determined by its members
     pub falling-same : (l m : List E) → Falling l → Falling m → Same l m → l ≡ m
     falling-same [] [] v w s = refl
-    falling-same [] (y ∷ ys) v w s = absurd (none-in (s .1 y here))
-    falling-same (x ∷ xs) [] v w s = absurd (none-in (s .0 x here))
+    falling-same [] (y ∷ ys) v w s = absurd (List·Memᴰ·not-nil (s .1 y here))
+    falling-same (x ∷ xs) [] v w s = absurd (List·Memᴰ·not-nil (s .0 x here))
     falling-same (x ∷ xs) (y ∷ ys) v w s = ap (λ z. z ∷ xs) heads ∙ ap (λ l. y ∷ l) (falling-same xs ys (v .1) (w .1) (left, right))
       where
         heads : x ≡ y
@@ -228,7 +228,7 @@ module _ {E : Type 0} (above : E → E → Bool) where
         best-cons k x (xs ++ best above k ys) ∙ ap (λ l. take k (place above x l)) (best-after k xs ys) ∙ sym (best-cons k x (xs ++ ys))
 
     swapped : (xs ys : List E) → (xs ++ ys) ⊆ (ys ++ xs)
-    swapped xs ys z m = ⊎-elim (λ k. Memᴰ·append-right ys k) (λ k. Memᴰ·append-left xs k) (++-cases xs m)
+    swapped xs ys z m = ⊎-elim (λ k. Memᴰ·append-right ys k) (λ k. Memᴰ·append-left xs k) (List·Memᴰ·append-cases xs m)
 
     -- the best k of the best k so far and what comes after
     pub best-append : (k : ℕ) (xs ys : List E) → best above k (best above k xs ++ ys) ≡ best above k (xs ++ ys)
@@ -241,9 +241,9 @@ module _ {E : Type 0} (above : E → E → Bool) where
     pub best-part : (k : ℕ) (part whole : List E) → part ⊆ whole → best above k whole ⊆ part → best above k part ≡ best above k whole
     best-part k part whole h g =
         best-same k part (part ++ best above k whole)
-        (λ z m. Memᴰ·append-left (best above k whole) m, λ z m. ⊎-elim (λ q. q) (g z) (++-cases part m))
+        (λ z m. Memᴰ·append-left (best above k whole) m, λ z m. ⊎-elim (λ q. q) (g z) (List·Memᴰ·append-cases part m))
         ∙ best-after k part whole
-        ∙ best-same k (part ++ whole) whole (λ z m. ⊎-elim (h z) (λ q. q) (++-cases part m), λ z m. Memᴰ·append-right part m)
+        ∙ best-same k (part ++ whole) whole (λ z m. ⊎-elim (h z) (λ q. q) (List·Memᴰ·append-cases part m), λ z m. Memᴰ·append-right part m)
 
     -- what isn't on the list may leave, and may not have come
     pub best-leave : (k : ℕ) (x : E) (l : List E) → (x ∈ best above k (x ∷ l) → ⊥) → best above k (x ∷ l) ≡ best above k l
@@ -274,7 +274,7 @@ module _ {E : Type 0} (above : E → E → Bool) where
           entry = x;
           listed = here;
           is-last = λ p. refl;
-          rest = λ z m. ⊎-elim (λ q. inl q) (λ k. absurd (none-in k)) (List·Memᴰ·cases-cons m);
+          rest = λ z m. ⊎-elim (λ q. inl q) (λ k. absurd (List·Memᴰ·not-nil k)) (List·Memᴰ·cases-cons m);
         }
     lowest x (y ∷ ys) w =
         let r = lowest y ys (w .1) in
@@ -385,7 +385,7 @@ module _ {E : Type 0} (above : E → E → Bool) where
         (take-more (place above x (best above k l)) (length-best-le k l) x (place-in-take x (best above k l) h))
 
     pub entered : (k : ℕ) (x : E) (l : List E) → x ∈ best above k (x ∷ l) → Enters k x l
-    entered zero x l m = absurd (none-in m)
+    entered zero x l m = absurd (List·Memᴰ·not-nil m)
     entered (suc k) x l m = ⊎-elim (λ h. inl h) (λ full. inr (go full (tested (onLast (λ z. above z x) L)) (tested (onLast (above x) L)))) (lt-or-eq (length-best-le (suc k) l))
       where
         L : List E
@@ -402,10 +402,7 @@ module _ {E : Type 0} (above : E → E → Bool) where
 
     -- in a strictly falling list as many rank above an entry as stand before it
     pub falling-place : (d : E) (l : List E) (n : ℕ) → Falling l → n < length l → length (only (λ y. above y (getD l n d)) l) ≡ n
-    falling-place d [] n w h = absurd (no n h)
-      where
-        no : (n : ℕ) → n < 0 → ⊥
-        no n h = omega arith
+    falling-place d [] n w h = absurd (not-suc-le-zero h)
     falling-place d (x ∷ xs) zero w h =
         let e : above x x ≡ false = order .irreflexive x in
         rw (e, only) (ap length (only-all-fail (λ y. above y x) xs (λ y m. one-way x y (w .0 y m))))

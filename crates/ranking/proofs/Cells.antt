@@ -3,9 +3,9 @@
 use mathlib.Core.Path.{_≡_, refl, sym, ap, _∙_, subst}
 use mathlib.Core.Logic.{_⊎_, inl, inr, ⊎-elim}
 use mathlib.Core.Bool.{Bool, true, false}
-use mathlib.Core.List.{List, [], _∷_, List·Memᴰ·head, List·Memᴰ·cases-cons}
+use mathlib.Core.List.{List, [], _∷_, List·Memᴰ·head, List·Memᴰ·cases-cons, List·Memᴰ·not-nil}
 use Prim.Native.Nat.{ℕ, zero, suc, _+_, _*_, _-_, _/_, _%_, _≤_, _<_}
-use native.Mathlib.Nat.{le-of-suc-le-suc, mul-le-mul}
+use native.Mathlib.Nat.{le-of-suc-le-suc, mul-le-mul, not-suc-le-zero}
 use native.Mathlib.Omega.{arith}
 use borrow.Author.Tests.{lt-ltb}
 use lib.Dec.{ltb}
@@ -18,7 +18,7 @@ use Rattle.ranking.specs.Best.{_∈_}
 use Rattle.ranking.specs.Cells.{score, cell, corner, bestScore, greater, before, count, cells, visiting}
 use Rattle.ranking.specs.declared.Weights.{Weights}
 use Rattle.ranking.proofs.Tests.{Tested, passed, failed, tested, clash}
-use Rattle.ranking.proofs.Lists.{Pairwise, Distinct, Same, there, none-in, pairwise-map, lt-or-eq}
+use Rattle.ranking.proofs.Lists.{Pairwise, Distinct, Same, there, pairwise-map, lt-or-eq}
 use Rattle.ranking.proofs.Best.{StrictTotal, Falling, one-way, rank-in, rank-of, rank-falling, falling-distinct, length-rank}
 use Rattle.ranking.proofs.Search.{ltb-strict}
 use Rattle.ranking.proofs.Whole.{ltZ-strict, Up, up-le, up-sum, up-times, down-times, mag-le, abs-times, abs-sum}
@@ -113,10 +113,7 @@ before-strict w =
 -- ---- the cells
 
 count-in : (n : ℕ) (rest : List ℕ) (c : ℕ) → (c < n) ⊎ (c ∈ rest) → c ∈ count n rest
-count-in zero rest c (inl h) = absurd (no c h)
-  where
-    no : (c : ℕ) → c < 0 → ⊥
-    no c h = omega arith
+count-in zero rest c (inl h) = absurd (not-suc-le-zero h)
 count-in zero rest c (inr m) = m
 count-in (suc n) rest c t = count-in n (n ∷ rest) c (⊎-elim small (λ m. inr (there m)) t)
   where
@@ -149,10 +146,10 @@ pub cells-in : (c : ℕ) → c < 256 → c ∈ cells
 cells-in c h = count-in 256 [] c (inl h)
 
 pub cells-of : (c : ℕ) → c ∈ cells → c < 256
-cells-of c m = ⊎-elim (λ h. h) (λ k. absurd (none-in k)) (count-of 256 [] c m)
+cells-of c m = ⊎-elim (λ h. h) (λ k. absurd (List·Memᴰ·not-nil k)) (count-of 256 [] c m)
 
 pub cells-distinct : Distinct cells
-cells-distinct = pairwise-map apart cells (count-rises 256 [] (λ c m. absurd (none-in m)) tt)
+cells-distinct = pairwise-map apart cells (count-rises 256 [] (λ c m. absurd (List·Memᴰ·not-nil m)) tt)
   where
     apart : (a b : ℕ) → a < b → a ≡ b → ⊥
     apart a b h e = omega arith

@@ -5,7 +5,7 @@ use mathlib.Core.Logic.{_⊎_, inl, inr, ⊎-elim}
 use mathlib.Core.Bool.{Bool, true, false, not}
 use mathlib.Core.List.{List, [], _∷_, _++_, nil≢cons, head-eq-of-cons-eq, List·Memᴰ·head, List·Memᴰ·tail, List·Memᴰ·not-nil, List·Memᴰ·cases-cons, Memᴰ·append-right}
 use Prim.Native.Nat.{ℕ, zero, suc, _≤_, _<_, suc-le-suc}
-use native.Mathlib.Nat.{eq-or-lt-of-le, le-of-suc-le-suc}
+use native.Mathlib.Nat.{eq-or-lt-of-le, le-of-suc-le-suc, not-suc-le-zero}
 use lib.Seq.{take-take, take-length}
 use native.Mathlib.Omega.{arith}
 use lib.ListN.{length, take, drop, getD, take-append-drop}
@@ -22,10 +22,6 @@ module _ {A : Type 0} where
   pub there : {x y : A} {xs : List A} → x ∈ xs → x ∈ y ∷ xs
   there m = List·Memᴰ·tail m
 
-  pub none-in : {x : A} → x ∈ [] → ⊥
-  none-in m = List·Memᴰ·not-nil m
-
-  -- a member's place
   pub moved : {x y : A} {l : List A} → x ≡ y → x ∈ l → y ∈ l
   moved {l} e m = subst (λ z. z ∈ l) e m
 
@@ -37,14 +33,8 @@ module _ {A : Type 0} where
   abbrev pub Same : List A → List A → Type 0
   Same xs ys = (xs ⊆ ys) × (ys ⊆ xs)
 
-  pub ⊆-cons : {x : A} {xs ys : List A} → x ∈ ys → xs ⊆ ys → (x ∷ xs) ⊆ ys
-  ⊆-cons {ys} h k z m = ⊎-elim (λ e. moved (sym e) h) (k z) (List·Memᴰ·cases-cons m)
-
-  pub ++-cases : {x : A} (xs : List A) {ys : List A} → x ∈ xs ++ ys → (x ∈ xs) ⊎ (x ∈ ys)
-  ++-cases xs m = mathlib.Core.List.List·Memᴰ·append-cases xs m
-
   pub take-⊆ : (n : ℕ) (l : List A) → take n l ⊆ l
-  take-⊆ zero l x m = absurd (none-in m)
+  take-⊆ zero l x m = absurd (List·Memᴰ·not-nil m)
   take-⊆ (suc n) [] x m = m
   take-⊆ (suc n) (y ∷ ys) x m = ⊎-elim (λ e. List·Memᴰ·head e) (λ k. there (take-⊆ n ys x k)) (List·Memᴰ·cases-cons m)
 
@@ -61,16 +51,19 @@ module _ {A : Type 0} where
   Pairwise R [] = Unit {0}
   Pairwise R (x ∷ xs) = ((y : A) → y ∈ xs → R x y) × Pairwise R xs
 
+  abbrev pub Other : A → A → Type 0
+  Other x y = x ≡ y → ⊥
+
   -- each once
   abbrev pub Distinct : List A → Type 0
-  Distinct l = Pairwise (λ x y. x ≡ y → ⊥) l
+  Distinct l = Pairwise Other l
 
   pub pairwise-map : {R S : A → A → Type 0} → ((x y : A) → R x y → S x y) → (l : List A) → Pairwise R l → Pairwise S l
   pairwise-map f [] p = tt
   pairwise-map f (x ∷ xs) p = (λ y m. f x y (p .0 y m), pairwise-map f xs (p .1))
 
   pub pairwise-split : (R : A → A → Type 0) (xs ys : List A) → Pairwise R (xs ++ ys) → (x y : A) → x ∈ xs → y ∈ ys → R x y
-  pairwise-split R [] ys p x y m k = absurd (none-in m)
+  pairwise-split R [] ys p x y m k = absurd (List·Memᴰ·not-nil m)
   pairwise-split R (z ∷ zs) ys p x y m k =
       ⊎-elim (λ e. subst (λ v. R v y) (sym e) (p .0 y (Memᴰ·append-right zs k)))
       (λ n. pairwise-split R zs ys (p .1) x y n k)
@@ -102,7 +95,7 @@ module _ {A : Type 0} where
       go (failed e) (inr k) f = rw (e, only) (f k)
 
   pub only-of : (p : A → Bool) (l : List A) {x : A} → x ∈ only p l → (x ∈ l) × (p x ≡ true)
-  only-of p [] m = absurd (none-in m)
+  only-of p [] m = absurd (List·Memᴰ·not-nil m)
   only-of p (y ∷ ys) {x} m = go (tested (p y)) (λ k. only-of p ys k)
     where
       ends : p y ≡ true → (x ∈ only p ys → (x ∈ ys) × (p x ≡ true)) → (x ≡ y) ⊎ (x ∈ only p ys) → (x ∈ y ∷ ys) × (p x ≡ true)
@@ -133,8 +126,8 @@ module _ {A : Type 0} where
 
   -- a member of the first n stands at a place below n
   pub placed : (n : ℕ) (l : List A) {x : A} → x ∈ take n l → (m : ℕ) × (m < n) × (rest : List A) × (drop m l ≡ x ∷ rest)
-  placed zero l m = absurd (none-in m)
-  placed (suc n) [] m = absurd (none-in m)
+  placed zero l m = absurd (List·Memᴰ·not-nil m)
+  placed (suc n) [] m = absurd (List·Memᴰ·not-nil m)
   placed (suc n) (y ∷ ys) {x} m = go (List·Memᴰ·cases-cons m) (placed n ys)
     where
       go : (x ≡ y) ⊎ (x ∈ take n ys) → (x ∈ take n ys → (m : ℕ) × (m < n) × (rest : List A) × (drop m ys ≡ x ∷ rest)) → (m : ℕ) × (m < suc n) × (rest : List A) × (drop m (y ∷ ys) ≡ x ∷ rest)
@@ -157,10 +150,7 @@ module _ {A : Type 0} where
   take-next (suc n) (y ∷ ys) e = ap (λ l. y ∷ l) (take-next n ys e)
 
   pub getD-in : (d : A) (l : List A) (n : ℕ) → n < length l → getD l n d ∈ l
-  getD-in d [] n h = absurd (no n h)
-    where
-      no : (n : ℕ) → n < 0 → ⊥
-      no n h = omega arith
+  getD-in d [] n h = absurd (not-suc-le-zero h)
   getD-in d (x ∷ xs) zero h = here
   getD-in d (x ∷ xs) (suc n) h = there (getD-in d xs n (le-of-suc-le-suc h))
 

@@ -1,9 +1,10 @@
 -- A scan over the cells finds the cell that follows: what follows a cell of the visiting order is what is left of the order after its place.
 -- Assumes nothing.
+use native.Mathlib.Nat.{not-suc-le-zero}
 use mathlib.Core.Path.{_≡_, refl, sym, ap, _∙_, subst}
 use mathlib.Core.Logic.{_⊎_, inl, inr, ⊎-elim, _↔_}
 use mathlib.Core.Bool.{Bool, true, false, _&&_}
-use mathlib.Core.List.{List, [], _∷_, _++_, append-assoc, List·Memᴰ·head, List·Memᴰ·cases-cons, List·Memᴰ·eq-of-singleton, Memᴰ·append-right}
+use mathlib.Core.List.{List, [], _∷_, _++_, append-assoc, List·Memᴰ·head, List·Memᴰ·cases-cons, List·Memᴰ·eq-of-singleton, Memᴰ·append-right, List·Memᴰ·not-nil, List·Memᴰ·append-cases}
 use Prim.Native.Nat.{ℕ, zero, suc, _+_, _≤_, _<_}
 use native.Mathlib.Omega.{arith}
 use native.Mathlib.Numerals.{add-one}
@@ -16,7 +17,7 @@ use Rattle.ranking.specs.Cells.{before, count, cells, visiting, placeOf,
 use Rattle.ranking.specs.Scan.{leads, nearer, placeAfter}
 use Rattle.ranking.specs.declared.Weights.{Weights}
 use Rattle.ranking.proofs.Tests.{Tested, passed, failed, tested, clash, and-both, and-true}
-use Rattle.ranking.proofs.Lists.{Pairwise, here, none-in, ++-cases, drop-⊆, lt-or-eq, pairwise-at, pairwise-drop, pairwise-only, only-in, only-of, index-of, getD-in, getD-left, getD-past, only-append, placed, inside, take-more}
+use Rattle.ranking.proofs.Lists.{Pairwise, here, drop-⊆, lt-or-eq, pairwise-at, pairwise-drop, pairwise-only, only-in, only-of, index-of, getD-in, getD-left, getD-past, only-append, placed, inside, take-more, Other}
 use Rattle.ranking.proofs.Best.{opposite, differs, falling-place, length-same}
 use Rattle.ranking.proofs.Search.{ltb-strict}
 use Rattle.ranking.proofs.Cells.{before-strict, visiting-in, visiting-of, visiting-same, visiting-falling, visiting-distinct, length-visiting, cells-distinct}
@@ -47,6 +48,9 @@ counted-no p n e = counted p n ∙ rw (e, only) (omega arith)
 -- ---- places
 
 module _ (w : Weights) where
+  abbrev Earlier : ℕ → ℕ → Type 0
+  Earlier c d = before w c d ≡ true
+
   -- the place of the cell at a place
   pub place-at : (n : ℕ) → n < 256 → placeOf w (cellAt w n) ≡ n
   place-at n h =
@@ -59,9 +63,6 @@ module _ (w : Weights) where
     where
       p : ℕ → Bool
       p d = before w d (cellAt w n)
-
-      Other : ℕ → ℕ → Type 0
-      Other a b = a ≡ b → ⊥
 
   -- each cell stands at its place
   pub at-place : (c : ℕ) → c < 256 → (placeOf w c < 256) × (cellAt w (placeOf w c) ≡ c)
@@ -111,13 +112,10 @@ module _ (w : Weights) where
     pub soonest : (e : ℕ) → e < d → leads w from e ≡ true → (found < 256) × (before w e found ≡ false)
 
   pub scanned-none : (from : ℕ) → Scanned from 0 256
-  scanned-none from = record { at-most = omega arith; follows = λ h. absurd (no 256 h); soonest = λ e h. absurd (none e h) }
+  scanned-none from = record { at-most = omega arith; follows = λ h. absurd (no 256 h); soonest = λ e h. absurd (not-suc-le-zero h) }
     where
       no : (n : ℕ) → n < n → ⊥
       no n h = omega arith
-
-      none : (e : ℕ) → e < 0 → ⊥
-      none e h = omega arith
 
   module _ (from found d : ℕ) (cell : d < 256) (so-far : Scanned from d found) where
     take-d : leads w from d ≡ true → leads w d found ≡ true → Scanned from (d + 1) d
@@ -179,9 +177,6 @@ module _ (w : Weights) where
     n : ℕ
     n = placeOf w from
 
-    Earlier : ℕ → ℕ → Type 0
-    Earlier c d = before w c d ≡ true
-
     within : n < length (visiting w)
     unfolding n
     within = rw (length-visiting w) (at-place from h .0)
@@ -195,16 +190,14 @@ module _ (w : Weights) where
     at-left = subst (λ l. from ∈ l) (sym (drop-cons (visiting w) n 256 within)) (List·Memᴰ·head (sym (at-place from h .1)))
 
     left-follows : (e : ℕ) → e ∈ drop (suc n) (visiting w) → before w from e ≡ true
-    unfolding Earlier
     left-follows e m =
         pairwise-at Earlier (suc n) (visiting w) (visiting-falling w) from e
         (subst (λ l. from ∈ l) (sym up-to) (Memᴰ·append-right (take n (visiting w)) here)) m
 
     follows-left : (e : ℕ) → e < 256 → before w from e ≡ true → e ∈ drop (suc n) (visiting w)
-    unfolding Earlier
     follows-left e g b =
-        ⊎-elim (λ m. absurd (not-up-to (++-cases (take n (visiting w)) (subst (λ l. e ∈ l) up-to m)))) (λ m. m)
-        (++-cases (take (suc n) (visiting w)) (subst (λ l. e ∈ l) (sym (take-append-drop (suc n) (visiting w))) (visiting-in w e g)))
+        ⊎-elim (λ m. absurd (not-up-to (List·Memᴰ·append-cases (take n (visiting w)) (subst (λ l. e ∈ l) up-to m)))) (λ m. m)
+        (List·Memᴰ·append-cases (take (suc n) (visiting w)) (subst (λ l. e ∈ l) (sym (take-append-drop (suc n) (visiting w))) (visiting-in w e g)))
       where
         not-up-to : (e ∈ take n (visiting w)) ⊎ (e ∈ from ∷ []) → ⊥
         not-up-to (inl m) = opposite (before w) (before-strict w) from e b (pairwise-at Earlier n (visiting w) (visiting-falling w) e from m at-left)
@@ -233,12 +226,9 @@ module _ (w : Weights) where
       found-left : found < 256 → found ∈ drop m (visiting w)
       found-left h = following from found h .0 (s .follows h)
 
-      Earlier : ℕ → ℕ → Type 0
-      Earlier c d = before w c d ≡ true
-
       go : (left : List ℕ) → drop m (visiting w) ≡ left → found ≡ cellAt w m
       go [] q =
-          ⊎-elim (λ h. absurd (none-in (subst (λ l. found ∈ l) q (found-left h)))) (λ e. e ∙ sym (getD-past 256 (visiting w) m q))
+          ⊎-elim (λ h. absurd (List·Memᴰ·not-nil (subst (λ l. found ∈ l) q (found-left h)))) (λ e. e ∙ sym (getD-past 256 (visiting w) m q))
           (lt-or-eq (s .at-most))
       go (x ∷ xs) q =
           let x-left : x ∈ drop m (visiting w) = subst (λ l. x ∈ l) (sym q) here in
@@ -279,15 +269,12 @@ module _ (w : Weights) where
   pub taken-before : (m c : ℕ) → m < 256 → c < 256 → c ∈ take m (visiting w) ↔ before w c (cellAt w m) ≡ true
   taken-before m c h g = (to, from)
     where
-      Sooner : ℕ → ℕ → Type 0
-      Sooner a b = before w a b ≡ true
-
       to : c ∈ take m (visiting w) → before w c (cellAt w m) ≡ true
-      to t = pairwise-at Sooner m (visiting w) (visiting-falling w) c (cellAt w m) t (subst (λ l. cellAt w m ∈ l) (sym (left-at m h)) here)
+      to t = pairwise-at Earlier m (visiting w) (visiting-falling w) c (cellAt w m) t (subst (λ l. cellAt w m ∈ l) (sym (left-at m h)) here)
 
       not-left : before w c (cellAt w m) ≡ true → c ∈ drop m (visiting w) → ⊥
       not-left b t =
-          let left = subst (Pairwise Sooner) (left-at m h) (pairwise-drop Sooner m (visiting w) (visiting-falling w)) in
+          let left = subst (Pairwise Earlier) (left-at m h) (pairwise-drop Earlier m (visiting w) (visiting-falling w)) in
           ⊎-elim (differs (before w) (before-strict w) c (cellAt w m) b)
           (λ k. opposite (before w) (before-strict w) c (cellAt w m) b (left .0 c k))
           (List·Memᴰ·cases-cons (subst (λ l. c ∈ l) (left-at m h) t))
@@ -295,4 +282,4 @@ module _ (w : Weights) where
       from : before w c (cellAt w m) ≡ true → c ∈ take m (visiting w)
       from b =
           ⊎-elim (λ t. t) (λ t. absurd (not-left b t))
-          (++-cases (take m (visiting w)) (subst (λ l. c ∈ l) (sym (take-append-drop m (visiting w))) (visiting-in w c g)))
+          (List·Memᴰ·append-cases (take m (visiting w)) (subst (λ l. c ∈ l) (sym (take-append-drop m (visiting w))) (visiting-in w c g)))

@@ -4,7 +4,7 @@
 use mathlib.Core.Path.{_≡_, refl, sym, ap, _∙_, subst}
 use mathlib.Core.Logic.{_⊎_, inl, inr, ⊎-elim, _↔_}
 use mathlib.Core.Bool.{true, false, not}
-use mathlib.Core.List.{List, [], _∷_, _++_, List·Memᴰ·head, List·Memᴰ·cases-cons, Memᴰ·append-left, Memᴰ·append-right, Memᴰ·map, Memᴰ·of-map}
+use mathlib.Core.List.{List, [], _∷_, _++_, List·Memᴰ·head, List·Memᴰ·cases-cons, Memᴰ·append-left, Memᴰ·append-right, Memᴰ·map, Memᴰ·of-map, List·Memᴰ·not-nil, List·Memᴰ·append-cases}
 use Prim.Native.Nat.{ℕ, suc, _-_, _≤_, _<_}
 use native.Mathlib.Nat.{zero-add}
 use native.Mathlib.Omega.{arith}
@@ -15,7 +15,7 @@ use lib.Seq.{drop-length, length-take-le, take-nil}
 use Rattle.ranking.specs.Best.{_∈_, best, onLast, only}
 use Rattle.ranking.specs.Search.{Search, has, entries, heldIn, listAfter, stops, ended, steps, found, marks, matters}
 use Rattle.ranking.proofs.Tests.{Tested, passed, failed, tested, clash, and-both, and-true, or-either, or-left, or-right}
-use Rattle.ranking.proofs.Lists.{_⊆_, Same, Pairwise, Distinct, there, none-in, moved, ++-cases, take-⊆, take-more, lt-or-eq, pairwise-drop, pairwise-take, pairwise-only, only-in, only-of, only-all-fail, placed, take-next}
+use Rattle.ranking.proofs.Lists.{_⊆_, Same, Pairwise, Distinct, there, moved, take-⊆, take-more, lt-or-eq, pairwise-drop, pairwise-take, pairwise-only, only-in, only-of, only-all-fail, placed, take-next, Other}
 use Rattle.ranking.proofs.Best.{StrictTotal, Falling, Lowest, lowest-of, opposite, differs, best-falling, best-of, best-same, best-append, best-part, best-below-all, length-best-le, length-same, enters, entered, lowest-some}
 use Rattle.ranking.proofs.Least.{least-before, least-holds, least-le, least-same}
 
@@ -39,7 +39,7 @@ has-in c (d ∷ ds) h = go (tested (eqb c d)) (has-in c ds)
     go (failed e) ih = there (ih (rw (e, has) at h))
 
 pub in-has : (c : ℕ) (cs : List ℕ) → c ∈ cs → has c cs ≡ true
-in-has c [] m = absurd (none-in m)
+in-has c [] m = absurd (List·Memᴰ·not-nil m)
 in-has c (d ∷ ds) m = go (tested (eqb c d)) (List·Memᴰ·cases-cons m) (in-has c ds)
   where
     go : Tested (eqb c d) → (c ≡ d) ⊎ (c ∈ ds) → (c ∈ ds → has c ds ≡ true) → has c (d ∷ ds) ≡ true
@@ -121,7 +121,7 @@ module _ {E I : Type 0} (s : Search E I) where
           moved (r .3)
           (⊎-elim (λ k. Memᴰ·append-left (entries s (heldIn s ds hs)) (held-in cs hs (r .1) k))
           (λ k. Memᴰ·append-right (entries s (heldIn s cs hs)) (held-in ds hs (r .1) k))
-          (++-cases cs (r .2)))
+          (List·Memᴰ·append-cases cs (r .2)))
 
       back : (es : List ℕ) → es ⊆ cs ++ ds → entries s (heldIn s es hs) ⊆ entries s (heldIn s (cs ++ ds) hs)
       back es h e m = let r = held-of es hs m in moved (r .3) (held-in (cs ++ ds) hs (r .1) (h (s .cellOf (r .0)) (r .2)))
@@ -129,7 +129,7 @@ module _ {E I : Type 0} (s : Search E I) where
       other : entries s (heldIn s cs hs) ++ entries s (heldIn s ds hs) ⊆ entries s (heldIn s (cs ++ ds) hs)
       other e m =
           ⊎-elim (back cs (λ c k. Memᴰ·append-left ds k) e) (back ds (λ c k. Memᴰ·append-right cs k) e)
-          (++-cases (entries s (heldIn s cs hs)) m)
+          (List·Memᴰ·append-cases (entries s (heldIn s cs hs)) m)
 
   module _ (strict : StrictTotal (s .above)) where
     -- one step: the next cell's held things join the list
@@ -218,7 +218,7 @@ module _ {E I : Type 0} (s : Search E I) {Good : I → Type 0} (sound : Sound s 
     -- before the place n or after it
     sides : (n : ℕ) (i : I) → i ∈ hs → (s .cellOf i ∈ take n (s .order)) ⊎ (s .cellOf i ∈ drop n (s .order))
     sides n i m =
-        ++-cases (take n (s .order))
+        List·Memᴰ·append-cases (take n (s .order))
         (subst (λ l. s .cellOf i ∈ l) (sym (take-append-drop n (s .order))) (sound .covers i (good i m)))
 
     -- all the things in the cells that are left are below e
@@ -260,7 +260,7 @@ module _ {E I : Type 0} (s : Search E I) {Good : I → Type 0} (sound : Sound s 
         apart : others ++ inside ⊆ entries s hs
         apart e m =
             ⊎-elim (λ z. let r = others-of z in moved (r .3) (Memᴰ·map (s .entry) (r .1))) (held-part s taken hs e)
-            (++-cases others m)
+            (List·Memᴰ·append-cases others m)
 
         put : (i : I) → i ∈ hs → Tested (has (s .cellOf i) taken) → s .entry i ∈ others ++ inside
         put i m (passed t) = Memᴰ·append-right others (held-in s taken hs m (has-in (s .cellOf i) taken t))
@@ -276,7 +276,7 @@ module _ {E I : Type 0} (s : Search E I) {Good : I → Type 0} (sound : Sound s 
               λ e m.
                   let r = entries-of s hs m in
                   moved (r .2)
-                  (held-in s taken hs (r .1) (⊎-elim (λ z. z) (λ z. absurd (none-in (subst (λ l. s .cellOf (r .0) ∈ l) q z))) (sides n (r .0) (r .1)))),
+                  (held-in s taken hs (r .1) (⊎-elim (λ z. z) (λ z. absurd (List·Memᴰ·not-nil (subst (λ l. s .cellOf (r .0) ∈ l) q z))) (sides n (r .0) (r .1)))),
             )
         go (c ∷ left) q h =
             let both = and-both (eqb (length F) k) (onLast (λ e. not (s .reaches c e)) F) h in
@@ -353,7 +353,7 @@ module _ {E I : Type 0} (s : Search E I) {Good : I → Type 0} (sound : Sound s 
       pub mattering : (c : ℕ) → c ∈ s .order → matters s k hs c ≡ true → c ∈ marks s k hs
       mattering c m h =
           ⊎-elim (λ t. t) (λ t. go (drop n (s .order)) refl t (ends s k hs))
-          (++-cases (take n (s .order)) (subst (λ l. c ∈ l) (sym (take-append-drop n (s .order))) m))
+          (List·Memᴰ·append-cases (take n (s .order)) (subst (λ l. c ∈ l) (sym (take-append-drop n (s .order))) m))
         where
           n : ℕ
           n = steps s k hs
@@ -362,7 +362,7 @@ module _ {E I : Type 0} (s : Search E I) {Good : I → Type 0} (sound : Sound s 
           no a e l = omega arith
 
           go : (left : List ℕ) → drop n (s .order) ≡ left → c ∈ drop n (s .order) → stops s k (found s k hs) left ≡ true → c ∈ marks s k hs
-          go [] q t e = absurd (none-in (subst (λ l. c ∈ l) q t))
+          go [] q t e = absurd (List·Memᴰ·not-nil (subst (λ l. c ∈ l) q t))
           go (d ∷ left) q t e =
               let both = and-both (eqb (length L) k) (onLast (λ z. not (s .reaches d z)) L) (subst (λ l. stops s k l (d ∷ left) ≡ true) (found-is k) e) in
               let full = eqb-true (length L) k (both .0) in
@@ -381,9 +381,6 @@ module _ {E I : Type 0} (s : Search E I) {Good : I → Type 0} (sound : Sound s 
             λ c m. only-in (matters s k hs) cells (same .1 c (take-⊆ (steps s k hs) (s .order) c m)) (marked c m),
             λ c m. let r = only-of (matters s k hs) cells m in mattering c (same .0 c (r .0)) (r .1),
           )
-        where
-          Other : ℕ → ℕ → Type 0
-          Other a b = a ≡ b → ⊥
 
       -- ---- the cells that are wanted
       -- `New c e`: e is the entry of a permitted value of the cell c, added as the newest

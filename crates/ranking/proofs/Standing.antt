@@ -16,7 +16,7 @@ use Rattle.ranking.specs.Cells.{score, cell, corner, bestScore, greater,
 use Rattle.ranking.specs.Standing.{Held, Entry, above, entry, reaches, searchOf, Permitted, Wanted}
 use Rattle.ranking.specs.declared.Weights.{Weights}
 use Rattle.ranking.proofs.Tests.{Tested, passed, failed, tested, clash}
-use Rattle.ranking.proofs.Lists.{Distinct, pairwise-map, pairwise-take, Pairwise, Same}
+use Rattle.ranking.proofs.Lists.{Distinct, pairwise-map, pairwise-take, Pairwise, Same, Other}
 use Rattle.ranking.proofs.Best.{StrictTotal, ahead, length-best, one-way}
 use Rattle.ranking.proofs.Search.{All, Sound, Newest, ltb-strict, found-is, marked, mattering, steps-count, steps-le, wanted, local-found, local-marks, local-steps}
 use Rattle.ranking.proofs.Whole.{ltZ-strict}
@@ -168,7 +168,7 @@ module _ (w : Weights) where
 
   -- no cell is marked twice
   pub marks-distinct : (k : ℕ) (hs : List Held) → Distinct (marks (searchOf w) k hs)
-  marks-distinct k hs = pairwise-take (λ a b. a ≡ b → ⊥) (steps (searchOf w) k hs) (visiting w) (visiting-distinct w)
+  marks-distinct k hs = pairwise-take Other (steps (searchOf w) k hs) (visiting w) (visiting-distinct w)
 
   -- Locality: any window with the same numbered reports in the marked cells, and others only in unmarked cells, gives the same list, marks and steps.
   pub record Alike (k : ℕ) (hs hs′ : List Held) : Type 0 where

@@ -29,7 +29,7 @@ corner weight index = elim (ltZ (pos 0) weight) [ true ↦ 256 * index + 255 | f
 abbrev pub bestScore : Weights → ℕ → ℤ
 bestScore w c = score w (corner (w .loss) (c % 16)) (corner (w .shake) (c / 16))
 
--- by the greater number, and where the two are equal by the tie
+-- a is greater than b, or they are equal and the tie holds
 abbrev pub greater : ℤ → ℤ → Bool → Bool
 greater a b tie = elim (ltZ b a) [ true ↦ true | false ↦ elim (ltZ a b) [ true ↦ false | false ↦ tie ] ]
 

@@ -15,7 +15,6 @@ pub struct Weights {
 }
 
 impl Weights {
-    // Each weight is SMALLEST to LARGEST.
     pub const SMALLEST: i16 = -1000;
 
     pub const LARGEST: i16 = 1000;
@@ -38,10 +37,9 @@ impl Weights {
     pub fn best(self, cell: u8) -> i32
         ensures { λ r. ⌜ r ≡ bestScore self cell ⌝ }
     {
-        let column = (cell % 16) as u16;
-        let row = (cell / 16) as u16;
-        let x = corner(self.loss, column);
-        let y = corner(self.shake, row);
+        let n = cell as u16;
+        let x = corner(self.loss, n % Grid::COLUMNS);
+        let y = corner(self.shake, n / Grid::COLUMNS);
         self.score(x, y)
     }
 
@@ -119,6 +117,7 @@ impl Weights {
     }
 }
 
+// The weight is SMALLEST to LARGEST.
 fn in_range(weight: i16) -> bool
     ensures { λ r. ⌜ r ≡ inRange weight ⌝ }
 {
@@ -130,7 +129,7 @@ fn part(weight: i16, value: u16) -> i32
     ensures { λ r. ⌜ r ≡ weight *ℤ pos (value % 4096) ⌝ }
 {
     let a = weight as i32;
-    let v = (value % 4096) as i32;
+    let v = (value % Grid::VALUES) as i32;
     a * v
 }
 
@@ -146,7 +145,7 @@ fn corner(weight: i16, index: u16) -> u16
     }
 }
 
-// The greater of two numbers goes first, and of equal ones the tie says.
+// a is greater than b, or they are equal and the tie holds.
 fn greater(a: i32, b: i32, tie: bool) -> bool
     ensures { λ r. ⌜ r ≡ greater a b tie ⌝ }
 {
@@ -180,12 +179,15 @@ impl Grid {
 
     pub const CELLS: u16 = 256;
 
+    // A loss or a shake is below SIDE x COLUMNS.
+    pub const VALUES: u16 = 4096;
+
     // The cell of a pair of values, of which the low 12 bits count.
     pub fn cell(loss: u16, shake: u16) -> u8
         ensures { λ r. ⌜ r ≡ cell (loss % 4096) (shake % 4096) ⌝ }
     {
-        let column = loss % 4096 / Grid::SIDE;
-        let row = shake % 4096 / Grid::SIDE;
+        let column = loss % Grid::VALUES / Grid::SIDE;
+        let row = shake % Grid::VALUES / Grid::SIDE;
         (Grid::COLUMNS * row + column) as u8
     }
 }

@@ -14,12 +14,6 @@ use Rattle.ranking.proofs.Weights.best.Tie as tie
 whole : (v : ℕ) → v ≤ 4095 → v % 4096 ≡ v
 whole v h = omega arith
 
-cast-column : tie.Need-cast-column
-cast-column c = search needs
-
-cast-row : tie.Need-cast-row
-cast-row c = search needs
-
 corner-requires : tie.Need-corner-requires
 corner-requires c κs = search needs
 
@@ -44,6 +38,4 @@ returns c =
     (ap (λ v. v % 4096) y ∙ whole (corner (w .shake) (n / 16)) (corner-shake w n (start .fits .cell .fits)))
 
 pub best-spec : {M : Type 1} → statement M
-best-spec =
-    tie.close
-    (tie.spec cast-column cast-row corner-requires corner-requires-2 score-requires returns)
+best-spec = tie.close (tie.spec corner-requires corner-requires-2 score-requires returns)
