@@ -433,3 +433,11 @@ module _ {E : Type 0} (above : E → E → Bool) where
         go : Tested (short || over) → best above k (x ∷ l) ≡ cond (short || over) (take k (place above x L)) L
         go (passed e) = rw (e, cond) (best-cons k x l)
         go (failed e) = rw (e, cond) (best-leave k x l (refused e))
+
+    -- one more at the end, as a scan meets it
+    pub best-snoc : (k : ℕ) (l : List E) (x : E) → best above k (l ++ (x ∷ [])) ≡ take k (place above x (best above k l))
+    best-snoc k l x = best-same k (l ++ (x ∷ [])) (x ∷ l) (swapped l (x ∷ []), swapped (x ∷ []) l) ∙ best-cons k x l
+
+    -- a ranked list of at most k is its own best k
+    pub best-self : (k : ℕ) (l : List E) → Falling l → length l ≤ k → best above k l ≡ l
+    best-self k l w h = ap (take k) (rank-falling-is l w) ∙ take-all k l h

@@ -2,7 +2,7 @@
 -- Assumes nothing.
 use mathlib.Core.Path.{_≡_, refl, sym, ap, _∙_, subst}
 use mathlib.Core.Logic.{_⊎_, inl, inr, _↔_}
-use mathlib.Core.Bool.{true, false, not}
+use mathlib.Core.Bool.{Bool, true, false, not}
 use mathlib.Core.List.{List, [], _∷_, map, Memᴰ·of-map}
 use Prim.Native.Nat.{ℕ, min, _%_, _/_, _≤_, _<_}
 use native.Mathlib.Omega.{arith}
@@ -16,11 +16,11 @@ use Rattle.ranking.specs.Cells.{score, cell, corner, bestScore, greater,
 use Rattle.ranking.specs.Standing.{Held, Entry, above, entry, reaches, searchOf, Permitted, Wanted}
 use Rattle.ranking.specs.declared.Weights.{Weights}
 use Rattle.ranking.proofs.Tests.{Tested, passed, failed, tested, clash}
-use Rattle.ranking.proofs.Lists.{Distinct, pairwise-map, pairwise-take, Pairwise, Same, Other}
-use Rattle.ranking.proofs.Best.{StrictTotal, ahead, length-best, one-way}
-use Rattle.ranking.proofs.Search.{All, Sound, Newest, ltb-strict, found-is, marked, mattering, steps-count, steps-le, wanted, local-found, local-marks, local-steps}
+use Rattle.ranking.proofs.Lists.{Distinct, pairwise-map, pairwise-take, Pairwise, Same, Other, only-in, only-of, pairwise-only, take-⊆}
+use Rattle.ranking.proofs.Best.{StrictTotal, ahead, length-best, one-way, length-same}
+use Rattle.ranking.proofs.Search.{All, Sound, Newest, ltb-strict, found-is, marked, mattering, steps-count, steps-le, wanted, local-found, local-marks, local-steps, length-marks}
 use Rattle.ranking.proofs.Whole.{ltZ-strict}
-use Rattle.ranking.proofs.Cells.{more, greater-by, greater-tie, Numbers, less, equal, numbers, greater-strict, visiting-in, visiting-of, visiting-same, visiting-falling, visiting-distinct, length-visiting, cells-distinct, before-best, score-bound, corner-cell, corner-loss, corner-shake, cell-fits, greater-of, less-by}
+use Rattle.ranking.proofs.Cells.{more, greater-by, greater-tie, Numbers, less, equal, numbers, greater-strict, visiting-in, visiting-of, visiting-same, visiting-falling, visiting-distinct, length-visiting, cells-distinct, before-best, score-bound, corner-cell, corner-loss, corner-shake, cell-fits, greater-of, less-by, cells-in, cells-of}
 
 -- reports are ranked strictly and totally
 pub above-strict : StrictTotal above
@@ -220,3 +220,34 @@ newest-above e f h = go (numbers (e .score) (f .score))
         greater-tie (e .score) (f .score) (ltb (f .number) (e .number)) p
         ∙ lt-ltb (f .number) (e .number) h
         ∙ sym (ap not (subst (λ z. ltZ z (f .score) ≡ false) (sym p) (ltZ-strict .irreflexive (f .score))))
+
+-- Demand 3, whole: a search's list is that of demand 2, its marks are the wanted cells, each once, and its steps are their number, however they are told.
+pub record Exact (w : Weights) (k : ℕ) (hs : List Held) (new : ℕ) : Type 0 where
+  pub list : found (searchOf w) k hs ≡ best above k (map (entry w) hs)
+  pub cells-only : (c : ℕ) → c ∈ marks (searchOf w) k hs → c < 256
+  pub once : Distinct (marks (searchOf w) k hs)
+  pub marks-are : (c : ℕ) → c < 256 → c ∈ marks (searchOf w) k hs ↔ Wanted w k hs new c
+  pub steps-are : steps (searchOf w) k hs ≡ length (marks (searchOf w) k hs)
+  pub number : (t : ℕ → Bool) → ((c : ℕ) → c < 256 → (t c ≡ true) ↔ Wanted w k hs new c) → steps (searchOf w) k hs ≡ length (only t cells)
+
+pub demand-3 : (w : Weights) (k : ℕ) → 1 ≤ k → (hs : List Held) → All Permitted hs → (new : ℕ) → ((r : Held) → r ∈ hs → r .number < new) → Exact w k hs new
+demand-3 w k some hs good new newest =
+    record {
+      list = found-best w hs good k;
+      cells-only = in-grid;
+      once = marks-distinct w k hs;
+      marks-are = is;
+      steps-are = sym (length-marks (searchOf w) k hs);
+      number = λ t decides.
+          sym (length-marks (searchOf w) k hs)
+          ∙ length-same ltb ltb-strict (marks (searchOf w) k hs) (only t cells) (marks-distinct w k hs) (pairwise-only Other t cells cells-distinct) (
+            λ c m. let h = in-grid c m in only-in t cells (cells-in c h) (decides c h .1 (is c h .0 m)),
+            λ c m. let r = only-of t cells m in let h = cells-of c (r .0) in is c h .1 (decides c h .0 (r .1)),
+          );
+    }
+  where
+    in-grid : (c : ℕ) → c ∈ marks (searchOf w) k hs → c < 256
+    in-grid c m = visiting-of w c (take-⊆ (steps (searchOf w) k hs) (visiting w) c m)
+
+    is : (c : ℕ) → c < 256 → c ∈ marks (searchOf w) k hs ↔ Wanted w k hs new c
+    is = marks-wanted w hs new newest good k some
