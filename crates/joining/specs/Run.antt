@@ -7,20 +7,24 @@ use Rattle.joining.specs.declared.Session.{Session}
 use Rattle.joining.specs.declared.Answer.{Answer}
 use Rattle.joining.specs.declared.Answer.the-variants.{Refused}
 use Rattle.joining.specs.Frame.{Frame, senderOf, frameRefusal}
-use Rattle.joining.specs.Joining.{freshSession, take-frame}
+use Rattle.joining.specs.Joining.{take-frame}
+
+-- What stands past the last session.
+abbrev pub nobody : Session
+nobody = record { bytes = []; size = 0; count = 0; next = 0 }
 
 -- The sessions that a frame leaves: "a frame call judges and changes its sender's session only".
 abbrev pub sessionsAfter : List Session → Frame → List Session
 sessionsAfter ss f =
     cond (ltb (senderOf (f .identifier)) 254)
-    (set ss (senderOf (f .identifier)) (take-frame (getD ss (senderOf (f .identifier)) freshSession) (f .identifier) (f .data-bytes) .session))
+    (set ss (senderOf (f .identifier)) (take-frame (getD ss (senderOf (f .identifier)) nobody) (f .identifier) (f .data-bytes) .session))
     ss
 
 -- What a frame is answered; those of senders 254 and 255 belong to no session.
 abbrev pub answerTo : List Session → Frame → Answer
 answerTo ss f =
     cond (ltb (senderOf (f .identifier)) 254)
-    (take-frame (getD ss (senderOf (f .identifier)) freshSession) (f .identifier) (f .data-bytes) .answer)
+    (take-frame (getD ss (senderOf (f .identifier)) nobody) (f .identifier) (f .data-bytes) .answer)
     (Refused (frameRefusal (f .identifier) (f .data-bytes)))
 
 -- A run of frames: the sessions at its end, and the answers in order.

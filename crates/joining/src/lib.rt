@@ -5,6 +5,11 @@ ghost use Prim.Native.Nat.{_≤_};
 ghost use lib.ListN.{length};
 ghost use Rattle.joining.specs.Frame.{foreign, frameRefusal, senderIn};
 ghost use Rattle.joining.specs.Joining.{packets, carries, freshSession, isOpen, fit, closed, opened, stored, finishes, refused, sound, announce, packet, take-frame, sizeHeld, payloadHeld};
+
+mod bus;
+
+pub use bus::Bus;
+pub use bus::Heard;
 use report::Payload;
 use report::Reading;
 use report::Report;
@@ -73,7 +78,7 @@ impl Frame {
 }
 
 // What a frame is refused for before any session is looked at, or 0.
-fn frame_refusal(id: u32, data: &[u8]) -> u8
+pub(crate) fn frame_refusal(id: u32, data: &[u8]) -> u8
     ensures { λ r. ⌜ r ≡ frameRefusal id (now («data» .entry)) ⌝ }
 {
     if Frame::IDENTIFIERS <= id {
