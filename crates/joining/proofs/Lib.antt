@@ -2,3 +2,4 @@
 pub mod Fitness
 pub mod Frames
 pub mod Driving
+pub mod Outcomes

@@ -221,16 +221,13 @@ fn carries(size: u16) -> bool
 }
 
 // The session with no report under way; its bytes stay.
-fn closed(s: Session) -> Session
+fn closed(mut s: Session) -> Session
     ensures { λ r. ⌜ r ≡ closed s ⌝ }
 {
-    let bytes = s.bytes;
-    Session {
-        bytes,
-        size: 0,
-        count: 0,
-        next: 0,
-    }
+    s.size = 0;
+    s.count = 0;
+    s.next = 0;
+    s
 }
 
 // Whether an announcement's size is one that a broadcast can have, with the count that belongs to it.
@@ -252,13 +249,11 @@ fn opened(size: u16) -> Session
     requires { ⌜ size ≤ 84 ⌝ }
     ensures { λ r. ⌜ r ≡ opened size ⌝ }
 {
-    let bytes = [255u8; 84];
-    Session {
-        bytes,
-        size: size as u8,
-        count: packets(size) as u8,
-        next: 1,
-    }
+    let mut s = Session::fresh();
+    s.size = size as u8;
+    s.count = packets(size) as u8;
+    s.next = 1;
+    s
 }
 
 // An announcement of the session's sender.
