@@ -2,3 +2,4 @@
 pub mod Fitness
 pub mod Mixing
 pub mod Cases
+pub mod Reached

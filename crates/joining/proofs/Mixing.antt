@@ -6,18 +6,14 @@ use mathlib.Core.List.{List, [], _∷_}
 use Prim.Native.Nat.{ℕ, _<_}
 use native.Mathlib.Omega.{arith}
 use borrow.Author.Tests.{lt-ltb, ne-eqb, eqb-true, eqb-false}
-use lib.ListN.{length, getD, set, length-set}
+use lib.ListN.{length, set, length-set}
 use lib.Seq.{getD-set-same, getD-set-other, set-getD}
 use lib.Dec.{ltb, eqb}
 use Rattle.joining.specs.declared.Session.{Session}
 use Rattle.joining.specs.declared.Answer.{Answer}
 use Rattle.joining.specs.Frame.{Frame, senderOf, frameRefusal}
 use Rattle.joining.specs.Joining.{freshSession, take-frame}
-use Rattle.joining.specs.Run.{sessionsAfter, answerTo, sessionsAt, answersAt, soloStep, soloSession, soloAnswers, ownFrames, ownAnswers}
-
--- The session of sender k.
-abbrev pub sessionOf : ℕ → List Session → Session
-sessionOf k ss = getD ss k freshSession
+use Rattle.joining.specs.Run.{sessionOf, sessionsAfter, answerTo, sessionsAt, answersAt, soloStep, soloSession, soloAnswers, ownFrames, ownAnswers}
 
 module _ (ss : List Session) (f : Frame) where
   sender : ℕ

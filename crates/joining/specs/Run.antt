@@ -3,7 +3,7 @@ use Prim.Native.Nat.{ℕ, suc}
 use mathlib.Core.Path.{_≡_}
 use mathlib.Core.Bool.{Bool, true, cond, not, _&&_, _||_}
 use mathlib.Core.List.{List, [], _∷_, _++_}
-use lib.ListN.{length, getD, take, drop, set}
+use lib.ListN.{length, getD, take, drop, set, replicate}
 use lib.Dec.{ltb, eqb}
 use Rattle.report.specs.Payload.{readPayload}
 use Rattle.report.specs.declared.Report.{Report}
@@ -15,18 +15,26 @@ use Rattle.joining.specs.declared.Taken.{Taken}
 use Rattle.joining.specs.Frame.{Frame, senderOf, frameRefusal, isAnnouncement, isPacket}
 use Rattle.joining.specs.Joining.{packets, fit, freshSession, opened, sizeIn, take-frame}
 
+-- "Each sender 0 to 253 has a session of its own": all of them, fresh.
+abbrev pub freshSessions : List Session
+freshSessions = replicate 254 freshSession
+
+-- The session of sender k.
+abbrev pub sessionOf : ℕ → List Session → Session
+sessionOf k ss = getD ss k freshSession
+
 -- The sessions that a frame leaves: "a frame call judges and changes its sender's session only".
 abbrev pub sessionsAfter : List Session → Frame → List Session
 sessionsAfter ss f =
     cond (ltb (senderOf (f .identifier)) 254)
-    (set ss (senderOf (f .identifier)) (take-frame (getD ss (senderOf (f .identifier)) freshSession) (f .identifier) (f .data-bytes) .session))
+    (set ss (senderOf (f .identifier)) (take-frame (sessionOf (senderOf (f .identifier)) ss) (f .identifier) (f .data-bytes) .session))
     ss
 
 -- What a frame is answered; those of senders 254 and 255 belong to no session.
 abbrev pub answerTo : List Session → Frame → Answer
 answerTo ss f =
     cond (ltb (senderOf (f .identifier)) 254)
-    (take-frame (getD ss (senderOf (f .identifier)) freshSession) (f .identifier) (f .data-bytes) .answer)
+    (take-frame (sessionOf (senderOf (f .identifier)) ss) (f .identifier) (f .data-bytes) .answer)
     (Refused (frameRefusal (f .identifier) (f .data-bytes)))
 
 -- A run of frames: the sessions at its end, and the answers in order.
