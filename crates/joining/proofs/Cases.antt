@@ -8,25 +8,25 @@ use Prim.Native.Nat.{ℕ, _≤_, _<_}
 use native.Mathlib.Omega.{arith}
 use borrow.Author.Tests.{not-true, not-false, eqb-true, eqb-false, ltb-true, ltb-false}
 use lib.ListN.{length, getD}
-use lib.Dec.{leb, ltb, eqb}
+use lib.Dec.{lit≤, leb, ltb, eqb}
 use Rattle.wire.specs.Bytes.{number, part}
 use Rattle.joining.specs.declared.Session.{Session}
 use Rattle.joining.specs.declared.Answer.the-variants.{Refused, Kept, Complete}
 use Rattle.joining.specs.declared.Taken.{Taken}
 use Rattle.joining.specs.Frame.{Frame, senderOf, destinationOf, zeroBitsOf, frameRefusal, isAnnouncement, isPacket, foreign, malformed}
 use Rattle.joining.specs.Joining.{carries, fit, closed, opened, stored, advanced, finishes, refused, sizeIn, sound, announce, packet, take-frame}
-use Rattle.joining.specs.Run.{soloStep, passes, Announces, Carries}
+use Rattle.joining.specs.Run.{soloStep, passes, Announces, Numbered}
 
 -- Refused 1 to 4; refused and closed; a packet with no open session; a good announcement; the next packet; the last one.
 pub data Case (s : Session) (f : Frame) : Type 0 where
-  passed : (n : ℕ) → passes f ≡ true → soloStep s f ≡ refused n s → Case s f
+  passed : (n : ℕ) → 1 ≤ n → n ≤ 4 → passes f ≡ true → soloStep s f ≡ refused n s → Case s f
   shut : (n : ℕ) → passes f ≡ false → soloStep s f ≡ refused n (closed s) → Case s f
   stray : passes f ≡ false → s .size ≡ 0 → soloStep s f ≡ refused 8 s → Case s f
   good : passes f ≡ false → carries (sizeIn (f .data-bytes)) ≡ true → Announces (sizeIn (f .data-bytes)) f
       → soloStep s f ≡ record { answer = Kept; session = opened (sizeIn (f .data-bytes)) } → Case s f
-  next : passes f ≡ false → (s .size ≡ 0 → ⊥) → Carries (s .next) f → s .next < s .count
+  next : passes f ≡ false → (s .size ≡ 0 → ⊥) → Numbered (s .next) f → s .next < s .count
       → soloStep s f ≡ record { answer = Kept; session = advanced s (f .data-bytes) } → Case s f
-  last : passes f ≡ false → (s .size ≡ 0 → ⊥) → Carries (s .next) f → s .count ≤ s .next
+  last : passes f ≡ false → (s .size ≡ 0 → ⊥) → Numbered (s .next) f → s .count ≤ s .next
       → soloStep s f ≡ finishes (stored s (f .data-bytes)) (s .size) → Case s f
 
 -- A frame that isn't refused 1 or 2 is an announcement or a data packet.
@@ -43,6 +43,16 @@ other-format f =
     go true x false false h e = absurd (omega arith)
     go false true false false h e = absurd (omega arith)
     go false false false false h e = absurd (omega arith)
+
+frame-refusals : (f : Frame) → frameRefusal (f .identifier) (f .data-bytes) ≤ 3
+unfolding frameRefusal
+frame-refusals f = go (malformed (f .identifier) (f .data-bytes)) (foreign (f .identifier)) (ltb 253 (senderOf (f .identifier)))
+  where
+    go : (a b c : Bool) → cond a 1 (cond b 2 (cond c 3 0)) ≤ 3
+    go true b c = lit≤ tt
+    go false true c = lit≤ tt
+    go false false true = lit≤ tt
+    go false false false = lit≤ tt
 
 module _ (f : Frame) where
   abbrev fine : Bool
@@ -104,13 +114,13 @@ module _ (f : Frame) where
     by-first : fine ≡ true → isAnnouncement (f .identifier) ≡ true → (b : Bool) → first ≡ b → Case s f
     unfolding announce
     by-first well a true e₄ = by-count well a e₄ (sound (f .data-bytes)) refl
-    by-first well a false e₄ = passed 4 (other-first a e₄) (as-announcement well s fits a ∙ rw e₄)
+    by-first well a false e₄ = passed 4 (lit≤ tt) (lit≤ tt) (other-first a e₄) (as-announcement well s fits a ∙ rw e₄)
 
     module _ (well : fine ≡ true) (a : isAnnouncement (f .identifier) ≡ false) where
       heard : passes f ≡ false
       heard = told well (inl a)
 
-      carrying : getD (f .data-bytes) 0 0 ≡ s .next → Carries (s .next) f
+      carrying : getD (f .data-bytes) 0 0 ≡ s .next → Numbered (s .next) f
       carrying e =
           let z = eqb-true (frameRefusal (f .identifier) (f .data-bytes)) 0 well in
           record { frame = z; packet = other-format f z a; sequence = e }
@@ -139,7 +149,26 @@ module _ (f : Frame) where
     by-frame : (b : Bool) → fine ≡ b → Case s f
     unfolding take-frame
     by-frame true well = by-format well (isAnnouncement (f .identifier)) refl
-    by-frame false e = passed (frameRefusal (f .identifier) (f .data-bytes)) (silent e) (rw e)
+    by-frame false e =
+        let n : ℕ = frameRefusal (f .identifier) (f .data-bytes) in
+        let low : n ≡ 0 → ⊥ = eqb-false n 0 e in
+        let high : n ≤ 3 = frame-refusals f in
+        passed n (omega arith) (omega arith) (silent e) (rw e)
 
 pub cases : (s : Session) (f : Frame) → fit s ≡ true → Case s f
 cases s f fits = by-frame f s fits (fine f) refl
+
+-- The frames that `heard` leaves out are refused 1 to 4, and change nothing.
+pub passing : (s : Session) (f : Frame) → fit s ≡ true → passes f ≡ true → (n : ℕ) × (1 ≤ n) × (n ≤ 4) × (soloStep s f ≡ refused n s)
+passing s f fits h = go (cases s f fits)
+  where
+    never : passes f ≡ false → ⊥
+    never p = false≢true (sym p ∙ h)
+
+    go : Case s f → (n : ℕ) × (1 ≤ n) × (n ≤ 4) × (soloStep s f ≡ refused n s)
+    go (passed n l u p e) = (n, l, u, e)
+    go (shut n p e) = absurd (never p)
+    go (stray p z e) = absurd (never p)
+    go (good p c a e) = absurd (never p)
+    go (next p o c m e) = absurd (never p)
+    go (last p o c m e) = absurd (never p)

@@ -3,3 +3,4 @@ pub mod Fitness
 pub mod Mixing
 pub mod Cases
 pub mod Reached
+pub mod MadeUp

@@ -44,7 +44,7 @@ unfolding fit isClosed
 step-fit s f fits = go (cases s f fits)
   where
     go : Case s f → fit (soloStep s f .session) ≡ true
-    go (passed n p e) = rw e fits
+    go (passed n l u p e) = rw e fits
     go (shut n p e) = rw e
     go (stray p z e) = rw e fits
     go (good p c a e) = rw e (open-fit (opened _) (opened-open _ c))
@@ -109,7 +109,7 @@ pub step-held : (s : Session) (f : Frame) → fit s ≡ true → Bytes (f .data-
 step-held s f fits b h = go (cases s f fits)
   where
     go : Case s f → Held (soloStep s f .session .bytes)
-    go (passed n p e) = rw e h
+    go (passed n l u p e) = rw e h
     go (shut n p e) = rw e h
     go (stray p z e) = rw e h
     go (good p c a e) = rw e blank-held

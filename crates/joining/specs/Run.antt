@@ -70,6 +70,11 @@ ownAnswers k [] all = []
 ownAnswers k (f ∷ fs) [] = []
 ownAnswers k (f ∷ fs) (a ∷ all) = cond (eqb (senderOf (f .identifier)) k) (a ∷ ownAnswers k fs all) (ownAnswers k fs all)
 
+-- Frames of one and the same sender.
+abbrev pub OfSender : ℕ → List Frame → Type 0
+OfSender k [] = Unit
+OfSender k (f ∷ fs) = (senderOf (f .identifier) ≡ k) × OfSender k fs
+
 -- Refusals 1 to 4, given whatever the session is: "everything lent or handed in comes back unchanged".
 unfoldable pub passes : Frame → Bool
 passes f =
@@ -88,7 +93,7 @@ pub record Announces (size : ℕ) (f : Frame) : Type 0 where
   pub opens : (s : Session) → fit s ≡ true → soloStep s f ≡ record { answer = Kept; session = opened size }
 
 -- "Data packet: byte 0 sequence from 1, then 7 bytes."
-pub record Carries (i : ℕ) (f : Frame) : Type 0 where
+pub record Numbered (i : ℕ) (f : Frame) : Type 0 where
   pub frame : frameRefusal (f .identifier) (f .data-bytes) ≡ 0
   pub packet : isPacket (f .identifier) ≡ true
   pub sequence : getD (f .data-bytes) 0 0 ≡ i
@@ -96,7 +101,7 @@ pub record Carries (i : ℕ) (f : Frame) : Type 0 where
 -- Packets i, i + 1, and so on, none left out and none twice.
 abbrev pub InSequence : ℕ → List Frame → Type 0
 InSequence i [] = Unit
-InSequence i (f ∷ fs) = Carries i f × InSequence (suc i) fs
+InSequence i (f ∷ fs) = Numbered i f × InSequence (suc i) fs
 
 -- The payload bytes of packets, one after the other.
 unfoldable pub joined : List Frame → List ℕ
