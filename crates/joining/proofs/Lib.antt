@@ -4,3 +4,4 @@ pub mod Mixing
 pub mod Cases
 pub mod Reached
 pub mod MadeUp
+pub mod Examples
