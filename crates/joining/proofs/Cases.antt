@@ -1,18 +1,16 @@
 -- What a frame does to a fit session, case by case: the tests of the definition, taken in their order.
 -- Assumes nothing.
 use mathlib.Core.Path.{_≡_, refl, sym, _∙_}
-use mathlib.Core.Bool.{Bool, true, false, cond, not, _&&_, _||_, false≢true, or-true, and-false}
+use mathlib.Core.Bool.{Bool, true, false, cond, not, _||_, false≢true, or-true, and-false}
 use mathlib.Core.Logic.{_⊎_, inl, inr}
-use mathlib.Core.List.{List}
 use Prim.Native.Nat.{ℕ, _≤_, _<_}
 use native.Mathlib.Omega.{arith}
-use borrow.Author.Tests.{not-true, not-false, eqb-true, eqb-false, ltb-true, ltb-false}
-use lib.ListN.{length, getD}
-use lib.Dec.{lit≤, leb, ltb, eqb}
+use borrow.Author.Tests.{eqb-true, eqb-false, ltb-true, ltb-false}
+use lib.ListN.{getD}
+use lib.Dec.{lit≤, ltb, eqb}
 use Rattle.wire.specs.Bytes.{number, part}
 use Rattle.joining.specs.declared.Session.{Session}
-use Rattle.joining.specs.declared.Answer.the-variants.{Refused, Kept, Complete}
-use Rattle.joining.specs.declared.Taken.{Taken}
+use Rattle.joining.specs.declared.Answer.the-variants.{Kept}
 use Rattle.joining.specs.Frame.{Frame, senderOf, destinationOf, zeroBitsOf, frameRefusal, isAnnouncement, isPacket, foreign, malformed}
 use Rattle.joining.specs.Joining.{carries, fit, closed, opened, stored, advanced, finishes, refused, sizeIn, sound, announce, packet, take-frame}
 use Rattle.joining.specs.Run.{soloStep, passes, Announces, Numbered}

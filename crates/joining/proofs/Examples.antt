@@ -67,5 +67,5 @@ examples =
       size84 = λ s fits. rw fits;
       size85 = λ s fits. rw fits;
       loss4095 = refl;
-      loss4096 = refl
+      loss4096 = refl;
     }

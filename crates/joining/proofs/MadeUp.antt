@@ -2,12 +2,11 @@
 -- Assumes nothing.
 use mathlib.Core.Path.{_≡_, refl, sym, _∙_, ap, ap₂}
 use mathlib.Core.Bool.{Bool, true, false, cond, not, _&&_, _||_, and-eq-true-iff}
-use mathlib.Core.Logic.{_⊎_, inl, inr, ⊎-elim}
+use mathlib.Core.Logic.{_⊎_, inl, inr}
 use mathlib.Core.List.{List, [], _∷_, _++_, append-assoc, append-nil}
-use Prim.Native.Nat.{ℕ, zero, suc, _+_, _-_, _*_, _≤_, _<_}
+use Prim.Native.Nat.{ℕ, suc, _+_, _-_, _*_, _≤_, _<_}
 use native.Mathlib.Omega.{arith}
-use native.Mathlib.Numerals.{add-one}
-use borrow.Author.Tests.{eqb-true, lt-ltb, ltb-true}
+use borrow.Author.Tests.{eqb-true, ltb-true}
 use lib.ListN.{length, getD, take, drop, length-append, length-take, length-drop, length-replicate}
 use lib.Seq.{sets, sets-eq, take-at, take-all, length-take-le, take-append-add, length-sets}
 use lib.Dec.{leb, ltb, eqb}
@@ -26,7 +25,7 @@ use Rattle.joining.specs.Run.{freshSessions, sessionOf, sessionsAfter, a
 use Rattle.joining.proofs.Fitness.{Open}
 use Rattle.joining.proofs.Mixing.{mixing, own-answer}
 use Rattle.joining.proofs.Cases.{Case, passed, shut, stray, good, next, last, cases}
-use Rattle.joining.proofs.Reached.{fit-open, step-fit, solo-fit, fresh-fit, fresh-of}
+use Rattle.joining.proofs.Reached.{fit-open, step-fit, solo-fit, fresh-of}
 
 -- What an open session holds of the frames h that its sender has sent, those refused 1 to 4 left out.
 record Opening (s : Session) (h : List Frame) : Type 0 where
@@ -144,7 +143,7 @@ module _ (s : Session) (h : List Frame) (f : Frame) (o : Open s) (t : Opening s 
         sequence = in-order;
         due = omega (arith, count);
         long = length-sets (s .bytes) (place s) (part 1 (s .size - place s) (f .data-bytes)) ∙ t .long;
-        holds = kept m
+        holds = kept m;
       }
 
   all-packets : s .count ≤ s .next → length then ≡ packets (s .size)
@@ -165,7 +164,7 @@ starts n h f a =
       sequence = tt;
       due = refl;
       long = length-replicate {A = ℕ} 84 255;
-      holds = joined-none
+      holds = joined-none;
     }
 
 -- A session with a size holds what was sent.
@@ -227,7 +226,7 @@ complete s own f r fits t done = go (cases s f fits)
           announces = w .announces;
           sequence = in-order s (heard own) f up w n;
           count = all-packets s (heard own) f up w n m;
-          reads = ap readPayload (sym (ended s (heard own) f up w n m)) ∙ accepts (readPayload (take (s .size) (stored s (f .data-bytes)))) (rw e at done)
+          reads = ap readPayload (sym (ended s (heard own) f up w n m)) ∙ accepts (readPayload (take (s .size) (stored s (f .data-bytes)))) (rw e at done);
         }
 
 -- One sender's frames fs at a closed session, and then f: where f yields a report, the announcement and all packets that it was read from are among them.

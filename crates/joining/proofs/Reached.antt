@@ -1,12 +1,12 @@
 -- A session that frames lead to from a fresh one is fit: each case of a frame keeps it, closes it, opens one of a good size, or counts on within it.
 -- Assumes nothing.
-use mathlib.Core.Path.{_≡_, refl, sym, _∙_, ap}
+use mathlib.Core.Path.{_≡_, refl, sym, _∙_}
 use mathlib.Core.Bool.{Bool, true, false, cond, or-true}
 use mathlib.Core.List.{List, [], _∷_}
-use Prim.Native.Nat.{ℕ, zero, suc, _+_, _-_, _<_}
+use Prim.Native.Nat.{ℕ, zero, suc, _-_, _<_}
 use native.Mathlib.Omega.{arith}
 use borrow.Author.Tests.{eq-eqb, le-leb, lt-ltb}
-use lib.ListN.{length, getD, set, replicate, length-replicate, getD-replicate}
+use lib.ListN.{length, set, replicate, length-replicate, getD-replicate}
 use lib.Seq.{sets, length-sets}
 use lib.Dec.{lit<, eqb}
 use Rattle.wire.specs.Bytes.{part}
@@ -14,7 +14,7 @@ use Rattle.wire.proofs.Numbers.{Bytes}
 use Rattle.wire.proofs.Fields.{bytes-part}
 use Rattle.joining.specs.declared.Session.{Session}
 use Rattle.joining.specs.Frame.{Frame, senderOf}
-use Rattle.joining.specs.Joining.{packets, carries, freshSession, isClosed, isOpen, fit, opened, stored, advanced, place}
+use Rattle.joining.specs.Joining.{carries, freshSession, isClosed, isOpen, fit, opened, stored, advanced, place}
 use Rattle.joining.specs.Run.{freshSessions, sessionOf, sessionsAt, soloStep, soloSession, ownFrames}
 use Rattle.joining.proofs.Fitness.{Open, open-numbers, fit-other, carried-range}
 use Rattle.joining.proofs.Mixing.{mixing}
@@ -102,7 +102,7 @@ stored-held s d b h =
     let v : List ℕ = part 1 (s .size - place s) d in
     record {
       long = length-sets (s .bytes) (place s) v ∙ h .long;
-      low = bytes-sets (s .bytes) (place s) v (h .low) (bytes-part d 1 (s .size - place s) b)
+      low = bytes-sets (s .bytes) (place s) v (h .low) (bytes-part d 1 (s .size - place s) b);
     }
 
 pub step-held : (s : Session) (f : Frame) → fit s ≡ true → Bytes (f .data-bytes) → Held (s .bytes) → Held (soloStep s f .session .bytes)
