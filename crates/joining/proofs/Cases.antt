@@ -14,6 +14,7 @@ use Rattle.joining.specs.declared.Answer.the-variants.{Kept}
 use Rattle.joining.specs.Frame.{Frame, senderOf, destinationOf, zeroBitsOf, frameRefusal, isAnnouncement, isPacket, foreign, malformed}
 use Rattle.joining.specs.Joining.{carries, fit, closed, opened, stored, advanced, finishes, refused, sizeIn, sound, announce, packet, take-frame}
 use Rattle.joining.specs.Run.{soloStep, passes, Announces, Numbered}
+use Rattle.joining.proofs.Frames.{sound-frame}
 
 -- Refused 1 to 4; refused and closed; a packet with no open session; a good announcement; the next packet; the last one.
 pub data Case (s : Session) (f : Frame) : Type 0 where
@@ -27,20 +28,16 @@ pub data Case (s : Session) (f : Frame) : Type 0 where
   last : passes f ≡ false → (s .size ≡ 0 → ⊥) → Numbered (s .next) f → s .count ≤ s .next
       → soloStep s f ≡ finishes (stored s (f .data-bytes)) (s .size) → Case s f
 
--- A frame that isn't refused 1 or 2 is an announcement or a data packet.
-other-format : (f : Frame) → frameRefusal (f .identifier) (f .data-bytes) ≡ 0 → isAnnouncement (f .identifier) ≡ false → isPacket (f .identifier) ≡ true
-unfolding frameRefusal foreign
-other-format f =
-    go (malformed (f .identifier) (f .data-bytes)) (not (eqb (zeroBitsOf (f .identifier)) 0)) (isAnnouncement (f .identifier)) (isPacket (f .identifier))
+-- A frame that isn't refused 2 is an announcement or a data packet.
+other-format : (id : ℕ) → foreign id ≡ false → isAnnouncement id ≡ false → isPacket id ≡ true
+unfolding foreign
+other-format id = go (not (eqb (zeroBitsOf id) 0)) (isAnnouncement id) (isPacket id)
   where
-    go : (m x a p : Bool)
-        → _≡_ {A = ℕ} (cond m 1 (cond (x || not (a || p) || not (eqb (destinationOf (f .identifier)) 255)) 2 (cond (ltb 253 (senderOf (f .identifier))) 3 0))) 0
-        → a ≡ false → p ≡ true
-    go m x a true h e = refl
-    go m x true false h e = absurd (false≢true (sym e))
-    go true x false false h e = absurd (omega arith)
-    go false true false false h e = absurd (omega arith)
-    go false false false false h e = absurd (omega arith)
+    go : (x a p : Bool) → (x || not (a || p) || not (eqb (destinationOf id) 255)) ≡ false → a ≡ false → p ≡ true
+    go x a true h e = refl
+    go x true false h e = absurd (false≢true (sym e))
+    go true false false h e = absurd (false≢true (sym h))
+    go false false false h e = absurd (false≢true (sym h))
 
 frame-refusals : (f : Frame) → frameRefusal (f .identifier) (f .data-bytes) ≤ 3
 unfolding frameRefusal
@@ -121,7 +118,7 @@ module _ (f : Frame) where
       carrying : getD (f .data-bytes) 0 0 ≡ s .next → Numbered (s .next) f
       carrying e =
           let z = eqb-true (frameRefusal (f .identifier) (f .data-bytes)) 0 well in
-          record { frame = z; packet = other-format f z a; sequence = e }
+          record { frame = z; packet = other-format (f .identifier) (sound-frame (f .identifier) (f .data-bytes) z .broadcast) a; sequence = e }
 
       by-place : (s .size ≡ 0 → ⊥) → eqb (s .size) 0 ≡ false → eqb (getD (f .data-bytes) 0 0) (s .next) ≡ true → (b : Bool) → ltb (s .next) (s .count) ≡ b → Case s f
       unfolding packet

@@ -1,11 +1,11 @@
 -- What fitness says of the three numbers of a session: with size 0 the others are 0, and with another size they are those of an open one.
 -- Assumes nothing.
-use mathlib.Core.Path.{_≡_, refl, sym, _∙_, ap}
-use mathlib.Core.Bool.{Bool, true, false, _&&_, _||_, false≢true, and-eq-true-iff, or-false}
+use mathlib.Core.Path.{_≡_, refl}
+use mathlib.Core.Bool.{Bool, true, false, _&&_, _||_, and-eq-true-iff, or-false}
 use mathlib.Core.Logic.{_⊎_, inl, inr, ⊎-elim}
-use Prim.Native.Nat.{ℕ, _≤_, _<_}
+use Prim.Native.Nat.{ℕ, _≤_}
 use native.Mathlib.Omega.{arith}
-use borrow.Author.Tests.{eq-eqb, ne-eqb, eqb-true, leb-true, ltb-true}
+use borrow.Author.Tests.{ne-eqb, eqb-true, leb-true, ltb-true}
 use lib.Dec.{leb, ltb, eqb}
 use Rattle.joining.specs.declared.Session.{Session}
 use Rattle.joining.specs.Joining.{packets, carries, isClosed, isOpen, fit}
@@ -50,7 +50,7 @@ open-numbers s h =
       high = range .1;
       count = eqb-true _ _ (one .1);
       first = ltb-true 0 (s .next) (two .1);
-      last = leb-true _ _ (three .1)
+      last = leb-true _ _ (three .1);
     }
 
 module _ (s : Session) where

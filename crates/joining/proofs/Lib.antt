@@ -1,5 +1,6 @@
 -- Laws that the crates above cite.
 pub mod Fitness
+pub mod Frames
 pub mod Mixing
 pub mod Cases
 pub mod Reached

@@ -1,7 +1,7 @@
 -- A report is only ever what one sender sent: an open session holds the bytes of the packets that came, in sequence, since the announcement that opened it.
 -- Assumes nothing.
 use mathlib.Core.Path.{_≡_, refl, sym, _∙_, ap, ap₂}
-use mathlib.Core.Bool.{Bool, true, false, cond, not, _&&_, _||_, and-eq-true-iff}
+use mathlib.Core.Bool.{Bool, true, false, cond, _&&_, and-eq-true-iff}
 use mathlib.Core.Logic.{_⊎_, inl, inr}
 use mathlib.Core.List.{List, [], _∷_, _++_, append-assoc, append-nil}
 use Prim.Native.Nat.{ℕ, suc, _+_, _-_, _*_, _≤_, _<_}
@@ -9,7 +9,7 @@ use native.Mathlib.Omega.{arith}
 use borrow.Author.Tests.{eqb-true, ltb-true}
 use lib.ListN.{length, getD, take, drop, length-append, length-take, length-drop, length-replicate}
 use lib.Seq.{sets, sets-eq, take-at, take-all, length-take-le, take-append-add, length-sets}
-use lib.Dec.{leb, ltb, eqb}
+use lib.Dec.{ltb, eqb}
 use Rattle.wire.specs.Bytes.{part}
 use Rattle.report.specs.Payload.{readPayload, reportIn}
 use Rattle.report.specs.declared.Report.{Report}
@@ -19,10 +19,11 @@ use Rattle.report.proofs.Reader.{accepted}
 use Rattle.joining.specs.declared.Session.{Session}
 use Rattle.joining.specs.declared.Answer.{Answer}
 use Rattle.joining.specs.declared.Answer.the-variants.{Refused, Kept, Complete}
-use Rattle.joining.specs.Frame.{Frame, senderOf, frameRefusal, malformed, foreign}
+use Rattle.joining.specs.Frame.{Frame, senderOf, frameRefusal}
 use Rattle.joining.specs.Joining.{packets, freshSession, isClosed, fit, opened, place, stored, advanced, yields}
 use Rattle.joining.specs.Run.{freshSessions, sessionOf, sessionsAfter, answerTo, sessionsAt, answersAt, soloStep, soloSession, ownFrames, OfSender, passes, heard, Announces, Numbered, InSequence, joined, Sent}
 use Rattle.joining.proofs.Fitness.{Open}
+use Rattle.joining.proofs.Frames.{sound-frame}
 use Rattle.joining.proofs.Mixing.{mixing, own-answer}
 use Rattle.joining.proofs.Cases.{Case, passed, shut, stray, good, next, last, cases}
 use Rattle.joining.proofs.Reached.{fit-open, step-fit, solo-fit, fresh-of}
@@ -41,18 +42,6 @@ record Opening (s : Session) (h : List Frame) : Type 0 where
 
 abbrev Traced : Session → List Frame → Type 0
 Traced s h = (s .size ≡ 0) ⊎ Opening s h
-
--- The data of a frame that isn't refused 1 are 8 bytes.
-eight : (f : Frame) → frameRefusal (f .identifier) (f .data-bytes) ≡ 0 → length (f .data-bytes) ≡ 8
-unfolding frameRefusal malformed
-eight f = go (leb 536870912 (f .identifier)) (eqb (length (f .data-bytes)) 8) refl
-  where
-    go : (a b : Bool) → eqb (length (f .data-bytes)) 8 ≡ b
-        → _≡_ {A = ℕ} (cond (a || not b) 1 (cond (foreign (f .identifier)) 2 (cond (ltb 253 (senderOf (f .identifier))) 3 0))) 0
-        → length (f .data-bytes) ≡ 8
-    go true b e h = absurd (omega arith)
-    go false true e h = eqb-true _ _ e
-    go false false e h = absurd (omega arith)
 
 -- What is stored behind n bytes stands behind them.
 sets-front : (l : List ℕ) (n : ℕ) (v : List ℕ) → n + length v ≤ length l → take (n + length v) (sets l n v) ≡ take n l ++ v
@@ -84,7 +73,7 @@ module _ (s : Session) (h : List Frame) (f : Frame) (o : Open s) (t : Opening s 
   new = part 1 (s .size - place s) (f .data-bytes)
 
   seven : length (drop 1 (f .data-bytes)) ≡ 7
-  seven = omega (arith, length-drop 1 (f .data-bytes), eight f (n .frame))
+  seven = omega (arith, length-drop 1 (f .data-bytes), sound-frame (f .identifier) (f .data-bytes) (n .frame) .eight)
 
   at : place s ≡ 7 * length (t .middle)
   at = omega (arith, t .due)
