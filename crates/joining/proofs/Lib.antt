@@ -1,5 +1,10 @@
 -- Laws that the crates above cite.
 pub mod Fitness
 pub mod Frames
+pub mod Cases
+pub mod Mixing
+pub mod Reached
+pub mod MadeUp
 pub mod Driving
+pub mod Examples
 pub mod Outcomes

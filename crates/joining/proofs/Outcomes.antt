@@ -1,6 +1,6 @@
 -- Any two outcomes that a contract allows are equal, since each contract is an equation: the answer, the session and every byte that was lent or handed out.
 -- Assumes nothing.
-use mathlib.Core.Path.{_≡_, sym, _∙_, ap}
+use mathlib.Core.Path.{sym, _∙_, ap}
 use mathlib.Core.List.{List}
 use Prim.Native.Nat.{ℕ}
 use lib.Seq.{sets}
