@@ -5,6 +5,9 @@ ghost use Prim.Native.Nat.{_≤_};
 ghost use lib.ListN.{length};
 ghost use Rattle.joining.specs.Frame.{foreign, frameRefusal, senderIn};
 ghost use Rattle.joining.specs.Joining.{packets, carries, freshSession, isOpen, fit, closed, opened, stored, finishes, refused, sound, announce, packet, take-frame, sizeHeld, payloadHeld};
+
+mod lent;
+
 use report::Payload;
 use report::Reading;
 use report::Report;
