@@ -2,3 +2,4 @@
 pub mod Fitness
 pub mod Frames
 pub mod LentOutcomes
+pub mod Machine

@@ -52,6 +52,7 @@ use Rattle.joining.proofs.Taken as T
 use Rattle.joining.proofs.Taken.Laws as T′
 use Rattle.joining.proofs.Answer as R
 use Rattle.joining.proofs.Answer.Laws as R′
+use Rattle.joining.proofs.Machine.{answer-val, session-val, IsAnswer, IsSession, answer-of, session-of, makes-answer, makes-session}
 use Rattle.joining.proofs.Session.frame as step
 use Rattle.joining.proofs.Session.frame.Symbol as step-def
 use Rattle.joining.proofs.Session.frame.Symbol.{name as #step}
@@ -72,22 +73,9 @@ module _ {M : Type 1} (𝓤 : URA M) (H : Heap 𝓤) (A : Atoms 𝓤) (W : Given
   abbrev x : RefT Session × (ℕ × (RefT (List ℕ) × Unit {0}))
   x = (record { ptr = (b, o); name = γ; now = h }, (n, (s, tt)))
 
-  -- the machine values of the data, of a session and of an outcome's answer
+  -- the machine value of the data
   abbrev v : Val
   v = sliceVal (s .ptr) (length (s .now))
-
-  abbrev mach : Session → Val
-  mach = LL.val S.the-type S′.the-laws
-
-  abbrev said : Taken → Val
-  said r = EL.val R.the-type R′.the-laws (r .answer)
-
-  -- what whoever holds an outcome knows of its two parts
-  told : (r : Taken) {us : List Val} → Is T.the-row r us → Is R.the-row (r .answer) (said r ∷ [])
-  told r {us} is = LL.owed T.the-type T′.the-laws r us is .0
-
-  left : (r : Taken) {us : List Val} → Is T.the-row r us → Is S.the-row (r .session) (mach (r .session) ∷ [])
-  left r {us} is = LL.owed T.the-type T′.the-laws r us is .1 .0
 
   abbrev at : List Val × (List Val × (List Val × Unit {0}))
   at = (vptr b o ∷ [], (vint w32 n ∷ [], (v ∷ [], tt)))
@@ -100,25 +88,25 @@ module _ {M : Type 1} (𝓤 : URA M) (H : Heap 𝓤) (A : Atoms 𝓤) (W : Given
 
   -- what `frame` is passed, what it asks, and what is known of its outcome
   abbrev to : Step 𝓤 H A at-mem run .Ghost
-  to = (((κ′, tt), (q′, tt), tt, (h, (n, (s, tt))), (mach h ∷ [], (vint w32 n ∷ [], (v ∷ [], tt)))), tt)
+  to = (((κ′, tt), (q′, tt), tt, (h, (n, (s, tt))), (session-val h ∷ [], (vint w32 n ∷ [], (v ∷ [], tt)))), tt)
 
-  goes : Is S.the-row h (mach h ∷ []) → n < 2 ^ 32 → ent 𝓤 (⋆ 𝓤 H A (‵ Own ∷ (‵ (flft κ′ q′) ⊛ ‵ ftrue) ∷ [])) (Step 𝓤 H A at-mem run .pre to)
+  goes : IsSession h → n < 2 ^ 32 → ent 𝓤 (⋆ 𝓤 H A (‵ Own ∷ (‵ (flft κ′ q′) ⊛ ‵ ftrue) ∷ [])) (Step 𝓤 H A at-mem run .pre to)
   goes was fits =
       qed W (‵ Own ∷ (‵ (flft κ′ q′) ⊛ ‵ ftrue) ∷ []) ∵ nothing ! $ move ! (1 ∷ 0 ∷ []) $ fjoin ! $ owned ! u32 (Is u32) (uint-makes 𝓤 H A W w32) n _ (refl, fits) $ fjoin ! $
-      owned ! S.the-row (Is S.the-row) (LL.makes S.the-type S′.the-plain 𝓤 H A) h _ was $ fjoin ! $ move ! (1 ∷ 0 ∷ []) $ join ! $ frame ! $ done !
+      owned ! S.the-row (Is S.the-row) (makes-session 𝓤 H A) h _ was $ fjoin ! $ move ! (1 ∷ 0 ∷ []) $ join ! $ frame ! $ done !
 
   ends : (r : Taken) → ent 𝓤 (ensured 𝓤 H A step.ended (step.clauses 𝓤 H A at-mem run) (κ′, tt) (h, (n, (s, tt))) tt r) (fact 𝓤 (r ≡ take-frame h n (now s)))
   ends r = exE 𝓤 _ (λ ws. snd∗ 𝓤 (sem 𝓤 H A (lasts step.ended (κ′, tt) (h, (n, (s, tt))) ws)) (fact 𝓤 (r ≡ take-frame h n (now s))))
 
-  exits : (r : Taken) → r ≡ take-frame h n (now s) → n < 2 ^ 32 → Is R.the-row (r .answer) (said r ∷ [])
-      → ent 𝓤 (⋆ 𝓤 H A (‵ (fobs γ (S.the-row .coded .code (r .session))) ∷ ‵ (fbor κ (Body (mem S.the-row) b o γ)) ∷ ‵ (flft κ q) ∷ (‵ (flft κ′ q′) ⊛ ‵ ftrue) ∷ ‵ Own ∷ [])) (Post (said r))
+  exits : (r : Taken) → r ≡ take-frame h n (now s) → n < 2 ^ 32 → IsAnswer (r .answer)
+      → ent 𝓤 (⋆ 𝓤 H A (‵ (fobs γ (S.the-row .coded .code (r .session))) ∷ ‵ (fbor κ (Body (mem S.the-row) b o γ)) ∷ ‵ (flft κ q) ∷ (‵ (flft κ′ q′) ⊛ ‵ ftrue) ∷ ‵ Own ∷ [])) (Post (answer-val (r .answer)))
   exits r e fits is =
       qed W (‵ (fobs γ (S.the-row .coded .code (r .session))) ∷ ‵ (fbor κ (Body (mem S.the-row) b o γ)) ∷ ‵ (flft κ q) ∷ (‵ (flft κ′ q′) ⊛ ‵ ftrue) ∷ ‵ Own ∷ []) ∵
-      suffices ! _ (ends-at 𝓤 H A advance.ended stayed (advance.clauses 𝓤 H A at-mem run) W (((κ, (κ′, tt)), (q, (q′, tt)), bounds, x, at), tt) (said r) (r .answer) (r .session, (tt, (tt, tt))) (tt, (tt, (tt, tt)))) $
+      suffices ! _ (ends-at 𝓤 H A advance.ended stayed (advance.clauses 𝓤 H A at-mem run) W (((κ, (κ′, tt)), (q, (q′, tt)), bounds, x, at), tt) (answer-val (r .answer)) (r .answer) (r .session, (tt, (tt, tt))) (tt, (tt, (tt, tt)))) $
       says ! (ap (λ (t : Taken). t .answer) e, ap (λ (t : Taken). t .session) e) $
       move ! (2 ∷ 3 ∷ []) $ join ! $ frame ! $ feqI ! (List Val) (vptr b o ∷ []) (vptr b o ∷ []) refl $ fjoin3 ! $
       nothing ! $ move ! (2 ∷ 0 ∷ []) $ fjoin ! $ owned ! u32 (Is u32) (uint-makes 𝓤 H A W w32) n _ (refl, fits) $ fjoin ! $ move ! (1 ∷ 0 ∷ []) $ fjoin ! $
-      owned ! R.the-row (Is R.the-row) (EL.makes R.the-type R′.the-plain 𝓤 H A) (r .answer) _ is $ move ! (1 ∷ 0 ∷ []) $ done !
+      owned ! R.the-row (Is R.the-row) (makes-answer 𝓤 H A) (r .answer) _ is $ move ! (1 ∷ 0 ∷ []) $ done !
 
   module _ (C : Calls 𝓤 H) (Λ : Loops 𝓤 H) (fm : FmC 𝓤 H (W .laws) C) (known : Triple 𝓤 (C #step) (Step 𝓤 H A at-mem run)) where
     walk : n < 2 ^ 32 → Is (ShrSlice (named 1) κ′ u8) s (v ∷ []) → ent 𝓤 (onEntry 𝓤 H A advance.signature (κ, (κ′, tt)) (q, (q′, tt)) x at) (WpFn 𝓤 H C Λ code.function (vptr b o ∷ vint w32 n ∷ v ∷ []) Post)
@@ -129,7 +117,7 @@ module _ {M : Type 1} (𝓤 : URA M) (H : Heap 𝓤) (A : Atoms 𝓤) (W : Given
         -- the borrow is opened
         move ! (13 ∷ []) $ fsplit ! $ fsplit3 ! $ drop ! $ move ! (15 ∷ []) $ split ! $ move ! (2 ∷ 3 ∷ 0 ∷ []) $
         opens ! tt S.the-row {h = h} b o (λ vs. spelt ! S.the-row (Is S.the-row) (shows 𝓤 H A S.the-row) (LL.vals S.the-type S′.the-laws) (LL.tells S.the-type S′.the-laws) fullShare h vs b o $
-        move ! (1 ∷ []) $ peeks ! S.the-row (Is S.the-row) (shows 𝓤 H A S.the-row) h (mach h ∷ []) (λ was. drop ! $
+        move ! (1 ∷ []) $ peeks ! S.the-row (Is S.the-row) (shows 𝓤 H A S.the-row) h (session-val h ∷ []) (λ was. drop ! $
         -- [the session's cell; the open borrow; obs; auth; the slice's token; what id and data own; _5; …; _4; …; _3; …; _2; …; _1; …; room for _0; …]
         assigns ! (of-opd ! (load ! (from ! (hop ! (look ! 14 refl) (stop !))) (look-raw ! 0 refl))) (from ! (stop !)) (init ! 6 refl (LL.lawful S.the-type S′.the-laws 𝓤 H A W .typed h _ was .0)) $
         -- `frame` is called on the copy
@@ -142,13 +130,13 @@ module _ {M : Type 1} (𝓤 : URA M) (H : Heap 𝓤) (A : Atoms 𝓤) (W : Given
         peeks ! T.the-row (Is T.the-row) (shows 𝓤 H A T.the-row) r (u ∷ []) (λ is.
         land ! (from ! (stop !)) (init ! 10 refl (LL.lawful T.the-type T′.the-laws 𝓤 H A W .typed r _ is .0)) $ rewrite ! 10 (λ (w : Val). ‵ (fat fullShare T′.mir l₄ 0 w)) (ap only (LL.tells T.the-type T′.the-laws r _ is)) refl $
         -- the outcome's session is put where the old one stood, and its answer is the result
-        assigns ! (of-opd ! (load ! (from ! (fld ! refl (stop !))) (look-in ! 10 (sub ! 1 refl (whole !))))) (from ! (hop ! (look ! 16 refl) (stop !))) (store-raw ! 4 refl (LL.lawful S.the-type S′.the-laws 𝓤 H A W .typed (r .session) _ (left r is) .0)) $
-        assigns ! (of-opd ! (load ! (from ! (fld ! refl (stop !))) (look-in ! 10 (sub ! 0 refl (whole !))))) (from ! (stop !)) (init ! 18 refl (EL.lawful R.the-type R′.the-laws 𝓤 H A W tt .typed (r .answer) _ (told r is) .0)) $
-        drop ! $ owned ! S.the-row (Is S.the-row) (LL.makes S.the-type S′.the-plain 𝓤 H A) (r .session) _ (left r is) $ move ! (4 ∷ 0 ∷ 5 ∷ 6 ∷ 7 ∷ []) $ closes ! tt S.the-row (r .session) (mach (r .session) ∷ []) b o $
+        assigns ! (of-opd ! (load ! (from ! (fld ! refl (stop !))) (look-in ! 10 (sub ! 1 refl (whole !))))) (from ! (hop ! (look ! 16 refl) (stop !))) (store-raw ! 4 refl (LL.lawful S.the-type S′.the-laws 𝓤 H A W .typed (r .session) _ (session-of r is) .0)) $
+        assigns ! (of-opd ! (load ! (from ! (fld ! refl (stop !))) (look-in ! 10 (sub ! 0 refl (whole !))))) (from ! (stop !)) (init ! 18 refl (EL.lawful R.the-type R′.the-laws 𝓤 H A W tt .typed (r .answer) _ (answer-of r is) .0)) $
+        drop ! $ owned ! S.the-row (Is S.the-row) (makes-session 𝓤 H A) (r .session) _ (session-of r is) $ move ! (4 ∷ 0 ∷ 5 ∷ 6 ∷ 7 ∷ []) $ closes ! tt S.the-row (r .session) (session-val (r .session) ∷ []) b o $
         -- [obs; the borrow; its token; the slice's token; what data owns; …; _5; …; _4; …; _3; …; _2; …; _1; …; _0; …]
         returns ! (look ! 16 refl) $ forget ! 6 refl $ forget ! 8 refl $ forget ! 10 refl $ forget ! 12 refl $ forget ! 14 refl $ forget ! 16 refl $
         move ! (16 ∷ 17 ∷ []) $ free1 ! $ move ! (14 ∷ 15 ∷ []) $ free1 ! $ move ! (12 ∷ 13 ∷ []) $ free1 ! $ move ! (10 ∷ 11 ∷ []) $ free1 ! $ move ! (8 ∷ 9 ∷ []) $ free1 ! $ move ! (6 ∷ 7 ∷ []) $ free1 ! $ free0 ! $
-        keep ! (0 ∷ 1 ∷ 2 ∷ 3 ∷ 4 ∷ []) $ by ! (exits r e fits (told r is))))))))))))))
+        keep ! (0 ∷ 1 ∷ 2 ∷ 3 ∷ 4 ∷ []) $ by ! (exits r e fits (answer-of r is))))))))))))))
 
 module _ {M : Type 1} (𝓤 : URA M) (H : Heap 𝓤) (A : Atoms 𝓤) (W : Given 𝓤 H A) (at-mem : Memory → SProp 𝓤) (run : Routine → Fun 𝓤) where
   advance-walks : (C : Calls 𝓤 H) (Λ : Loops 𝓤 H) → FmC 𝓤 H (W .laws) C → Triple 𝓤 (C #step) (Step 𝓤 H A at-mem run) → Walks 𝓤 H A advance.ended stayed (WpFn 𝓤 H C Λ code.function) (advance.clauses 𝓤 H A at-mem run)
