@@ -8,3 +8,5 @@ pub mod MadeUp
 pub mod Driving
 pub mod Examples
 pub mod Outcomes
+pub mod LentOutcomes
+pub mod Machine

@@ -7,6 +7,7 @@ ghost use Rattle.joining.specs.Frame.{foreign, frameRefusal, senderIn};
 ghost use Rattle.joining.specs.Joining.{packets, carries, freshSession, isOpen, fit, closed, opened, stored, finishes, refused, sound, announce, packet, take-frame, sizeHeld, payloadHeld};
 
 mod bus;
+mod lent;
 
 pub use bus::Bus;
 pub use bus::Heard;
