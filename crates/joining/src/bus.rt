@@ -53,7 +53,7 @@ impl Bus {
             let k = (id % 256) as usize;
             if k < Bus::SENDERS {
                 let session = sessions[k];
-                let taken = session.frame(id, data);
+                let taken = session.lend(id, data);
                 let left = taken.session;
                 sessions[k] = left;
                 let answer = taken.answer;

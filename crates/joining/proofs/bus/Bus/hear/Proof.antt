@@ -57,8 +57,8 @@ mul-session c = omega arith
 array-copy-out-session : tie.Need-array-copy-out-session Inv-loop μ-loop
 array-copy-out-session c = omega arith
 
-frame-requires : tie.Need-frame-requires Inv-loop μ-loop
-frame-requires c κs = search needs
+lend-requires : tie.Need-lend-requires Inv-loop μ-loop
+lend-requires c κs = search needs
 
 mul-sessions : tie.Need-mul-sessions Inv-loop μ-loop
 mul-sessions c = omega arith
@@ -131,7 +131,7 @@ hear-spec =
     cast-k
     mul-session
     array-copy-out-session
-    frame-requires
+    lend-requires
     mul-sessions
     array-set-from-sessions
     mul-put-answer
