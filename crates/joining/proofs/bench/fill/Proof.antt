@@ -1,0 +1,55 @@
+use borrow.Author.Needs.{needs}
+use Rattle.joining.proofs.bench.fill.Statement.{statement}
+use Rattle.joining.proofs.bench.fill.Tie as tie
+use Rattle.joining.proofs.bench.fill.Reads as reads
+use Rattle.joining.proofs.bench.fill.Lts as lts
+use Rattle.joining.proofs.bench.announcement.Reads as announcement-reads
+use Rattle.joining.proofs.bench.identifier.Reads as identifier-reads
+use Rattle.joining.proofs.bench.put_frame.Reads as put-frame-reads
+use Rattle.joining.proofs.bench.put_packets.Reads as put-packets-reads
+use Rattle.joining.proofs.packets.Reads as packets-reads
+
+cast-announcement : tie.Need-cast-announcement
+cast-announcement c = search needs
+
+announcement-requires : tie.Need-announcement-requires
+announcement-requires c κs = search needs
+
+identifier-requires : tie.Need-identifier-requires
+identifier-requires c κs = search needs
+
+put-frame-requires : tie.Need-put-frame-requires
+put-frame-requires c κs = search needs
+
+cast-packets : tie.Need-cast-packets
+cast-packets c = search needs
+
+packets-requires : tie.Need-packets-requires
+packets-requires c κs = search needs
+
+cast-put-packets : tie.Need-cast-put-packets
+cast-put-packets c = search needs
+
+put-packets-requires : tie.Need-put-packets-requires
+put-packets-requires c κs = search needs
+
+same-length : tie.Need-same-length
+same-length c = search needs
+
+returns : tie.Need-returns
+returns c = ?
+
+pub fill-spec : {M : Type 1} → statement M
+fill-spec =
+    tie.close
+    (tie.spec
+    cast-announcement
+    announcement-requires
+    identifier-requires
+    put-frame-requires
+    cast-packets
+    packets-requires
+    cast-put-packets
+    put-packets-requires
+    same-length
+    returns)
