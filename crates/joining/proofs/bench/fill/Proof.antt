@@ -1,3 +1,7 @@
+-- `joining::bench::fill` meets its contract: the packets stand behind the 12 bytes of the announcement's frame.
+-- Assumes nothing.
+use denote.Ref.{now}
+use Rattle.joining.proofs.Sending.{all-stored}
 use borrow.Author.Needs.{needs}
 use Rattle.joining.proofs.bench.fill.Statement.{statement}
 use Rattle.joining.proofs.bench.fill.Tie as tie
@@ -37,7 +41,9 @@ same-length : tie.Need-same-length
 same-length c = search needs
 
 returns : tie.Need-returns
-returns c = ?
+returns c =
+    let a = c .before .before .before .before .before .before .before .before .before .before .before .before .before .before .args in
+    all-stored (a .sender) (now (a .p)) (now (a .room)) (c .before .before .before .before .before .before .before .before .before .identifier .ensures) (c .before .before .before .before .before .before .before .before .before .before .before .announcement .ensures) (c .before .before .before .packets .ensures) (c .before .before .before .before .before .before .before .put-frame .ensures) (c .before .before .put-packets .ensures)
 
 pub fill-spec : {M : Type 1} → statement M
 fill-spec =
