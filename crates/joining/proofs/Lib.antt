@@ -1,2 +1,4 @@
 -- Laws that the crates above cite.
+pub mod Fitness
+pub mod Frames
 pub mod Sending

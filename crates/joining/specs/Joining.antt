@@ -2,7 +2,7 @@
 use Prim.Native.Nat.{ℕ, _+_, _-_, _*_, _/_}
 use mathlib.Core.Bool.{Bool, cond, not, _&&_, _||_}
 use mathlib.Core.List.{List}
-use lib.ListN.{length, getD, take, drop, replicate}
+use lib.ListN.{getD, take, drop, replicate}
 use lib.Seq.{sets}
 use lib.Dec.{leb, ltb, eqb}
 use Rattle.wire.specs.Bytes.{number, part}
@@ -67,7 +67,7 @@ abbrev pub finishes : List ℕ → ℕ → Taken
 finishes bs size =
     record {
       answer = yields (readPayload (take size bs));
-      session = record { bytes = bs; size = 0; count = 0; next = 0 }
+      session = record { bytes = bs; size = 0; count = 0; next = 0 };
     }
 
 abbrev pub refused : ℕ → Session → Taken

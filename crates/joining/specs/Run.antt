@@ -1,5 +1,4 @@
 -- What a run of frames does to all sessions (document 01: "Each sender 0 to 253 has a session of its own").
-use Prim.Native.Nat.{ℕ}
 use mathlib.Core.Bool.{cond}
 use mathlib.Core.List.{List, [], _∷_}
 use lib.ListN.{getD, set}

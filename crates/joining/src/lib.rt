@@ -111,17 +111,26 @@ fn foreign(id: u32) -> bool
 
 impl Session {
     pub const UNFIT: u8 = 24;
+
     pub const NOT_AN_ANNOUNCEMENT: u8 = 4;
+
     pub const BAD_SIZE: u8 = 5;
+
     pub const OTHER_GROUP: u8 = 6;
+
     pub const OTHER_SIZE: u8 = 7;
+
     pub const NOT_OPEN: u8 = 8;
+
     pub const OUT_OF_SEQUENCE: u8 = 9;
 
     // The first byte of an announcement, the sizes that one can name, and the group of our reports.
     pub const BROADCAST: u8 = 32;
+
     pub const SMALLEST: u16 = 9;
+
     pub const LARGEST: u16 = 1785;
+
     pub const GROUP: u32 = 65300;
     // The payload bytes of a packet.
     pub const PART: usize = 7;
@@ -186,12 +195,7 @@ impl Session {
     pub fn payload(bytes: &[u8]) -> &[u8]
         ensures { λ r. ⌜ now r ≡ payloadHeld (now (bytes .entry)) ⌝ }
     {
-        let size = size_held(bytes);
-        if size <= bytes.len() {
-            &bytes[..size]
-        } else {
-            &bytes[..bytes.len()]
-        }
+        wire::front(bytes, size_held(bytes))
     }
 }
 
@@ -335,11 +339,9 @@ fn stored(s: Session, data: &[u8]) -> [u8; 84]
 
 // What the last packet answers, and the session that it closes.
 fn finished(bytes: [u8; 84], size: u8) -> Taken
-    requires { ⌜ size ≤ 84 ⌝ }
     ensures { λ r. ⌜ r ≡ finishes bytes size ⌝ }
 {
-    let n = size as usize;
-    let answer = match Payload::read(&bytes[..n]) {
+    let answer = match Payload::read(wire::front(&bytes, size as usize)) {
         Reading::Accepted(report) => Answer::Complete(report),
         Reading::Refused(number) => Answer::Refused(number),
     };

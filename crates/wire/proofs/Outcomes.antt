@@ -33,6 +33,8 @@ use Rattle.wire.proofs.put_field32.Kinds as put-field32-kinds
 use Rattle.wire.proofs.put_field32.Reads as put-field32-reads
 use Rattle.wire.proofs.read24.Kinds as read24-kinds
 use Rattle.wire.proofs.read24.Reads as read24-reads
+use Rattle.wire.proofs.front.Kinds as front-kinds
+use Rattle.wire.proofs.front.Reads as front-reads
 
 -- Two results that a contract allows for the same arguments are equal.
 abbrev pub OneAnswer : (n : ℕ) (ps : List (PK n)) (r : RK n) → Out n ps r → Type 0
@@ -43,6 +45,11 @@ OneAnswer n ps r post =
 abbrev pub OneLeft : (n : ℕ) (ps : List (PK n)) (r : RK n) → Out n ps r → (A : Type 0) → ((κs : Lfts n) → AtExit (endedOf n ps r) κs → A) → Type 0
 OneLeft n ps r post A seen =
     (κs : Lfts n) (a : Dens κs ps) (x y : resT r κs .Denot) (s t : AtExit (endedOf n ps r) κs) → post κs a x s → post κs a y t → seen κs s ≡ seen κs t
+
+-- And so are the bytes of a part that is handed out.
+abbrev pub OnePart : (n : ℕ) (ps : List (PK n)) (r : RK n) → Out n ps r → ((κs : Lfts n) → resT r κs .Denot → List ℕ) → Type 0
+OnePart n ps r post seen =
+    (κs : Lfts n) (a : Dens κs ps) (x y : resT r κs .Denot) (s t : AtExit (endedOf n ps r) κs) → post κs a x s → post κs a y t → seen κs x ≡ seen κs y
 
 byte-once : OneAnswer 1 byte-kinds.ps byte-kinds.r byte-reads.Post
 byte-once κs a x y s t p q = p ∙ sym q
@@ -82,3 +89,6 @@ put-field32-once κs a x y s t p q = p ∙ sym q
 
 read24-once : OneAnswer 1 read24-kinds.ps read24-kinds.r read24-reads.Post
 read24-once κs a x y s t p q = p ∙ sym q
+
+front-once : OnePart 1 front-kinds.ps front-kinds.r front-reads.Post (λ κs x. now x)
+front-once κs a x y s t p q = p ∙ sym q

@@ -1,7 +1,7 @@
 // Little-endian numbers and tagged fields (tag, two-byte length, value) in bytes that a caller lends.
 // Every function takes any place: what lies past the end reads as 0 and is not stored.
 ghost use mathlib.Core.Path.{_≡_};
-ghost use lib.ListN.{getD, set};
+ghost use lib.ListN.{getD, set, take};
 ghost use lib.Seq.{sets};
 ghost use Rattle.wire.specs.Bytes.{number, bytes, part, field, head, fieldAt, isField};
 
@@ -92,6 +92,13 @@ pub fn read32(s: &[u8], at: usize) -> u32
         return read16(s, at) as u32;
     }
     (read16(s, at) as u32) + 65536 * (read16(s, at + 2) as u32)
+}
+
+// The first `n` bytes, or all of them where there are fewer.
+pub fn front(s: &[u8], n: usize) -> &[u8]
+    ensures { λ r. ⌜ now r ≡ take n (now (s .entry)) ⌝ }
+{
+    if n < s.len() { &s[..n] } else { &s[..s.len()] }
 }
 
 // Stores a byte at `at`.
