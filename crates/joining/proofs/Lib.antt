@@ -2,3 +2,4 @@
 pub mod Fitness
 pub mod Frames
 pub mod Sending
+pub mod RoundTrip

@@ -57,11 +57,15 @@ announcement-bytes size h e =
 pub put-behind : (b : List ℕ) {b₁ b₂ : List ℕ} (at id : ℕ) (v : List ℕ) → b₁ ≡ sets b at (bytes 4 id) → b₂ ≡ sets b₁ (at + 4) v → b₂ ≡ sets b at (bytes 4 id ++ v)
 put-behind b at id v e₁ e₂ = rw (e₂, e₁, sets-append b at (bytes 4 id) v, length-bytes 4 id)
 
-length-data : (p : List ℕ) (i : ℕ) → length (packetData p i) ≡ 8
+pub length-data : (p : List ℕ) (i : ℕ) → length (packetData p i) ≡ 8
 unfolding packetData
 length-data p i =
     let v = drop (7 * (i - 1)) p ++ replicate 7 255 in
     ap suc (length-take-le 7 v (omega (arith, length-append (drop (7 * (i - 1)) p) (replicate 7 255), length-replicate {A = ℕ} 7 255)))
+
+pub length-announcement : (n : ℕ) → length (announcement n) ≡ 8
+unfolding announcement bytes
+length-announcement n = refl
 
 frame-bytes-append : (fs gs : List Frame) → frameBytes (fs ++ gs) ≡ frameBytes fs ++ frameBytes gs
 unfolding frameBytes

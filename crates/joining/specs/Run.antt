@@ -6,6 +6,7 @@ use lib.Dec.{ltb}
 use Rattle.joining.specs.declared.Session.{Session}
 use Rattle.joining.specs.declared.Answer.{Answer}
 use Rattle.joining.specs.declared.Answer.the-variants.{Refused}
+use Rattle.joining.specs.declared.Taken.{Taken}
 use Rattle.joining.specs.Frame.{Frame, senderOf, frameRefusal}
 use Rattle.joining.specs.Joining.{freshSession, take-frame}
 
@@ -31,3 +32,15 @@ sessionsAt ss (f ∷ fs) = sessionsAt (sessionsAfter ss f) fs
 unfoldable pub answersAt : List Session → List Frame → List Answer
 answersAt ss [] = []
 answersAt ss (f ∷ fs) = answerTo ss f ∷ answersAt (sessionsAfter ss f) fs
+
+abbrev pub soloStep : Session → Frame → Taken
+soloStep s f = take-frame s (f .identifier) (f .data-bytes)
+
+-- One session with its own sender's frames and nothing else on the bus: the session at the end, and the answers in order.
+unfoldable pub soloSession : Session → List Frame → Session
+soloSession s [] = s
+soloSession s (f ∷ fs) = soloSession (soloStep s f .session) fs
+
+unfoldable pub soloAnswers : Session → List Frame → List Answer
+soloAnswers s [] = []
+soloAnswers s (f ∷ fs) = soloStep s f .answer ∷ soloAnswers (soloStep s f .session) fs
