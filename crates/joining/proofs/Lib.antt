@@ -3,3 +3,4 @@ pub mod Fitness
 pub mod Frames
 pub mod Sending
 pub mod RoundTrip
+pub mod BenchOutcomes

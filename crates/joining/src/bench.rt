@@ -8,12 +8,12 @@ ghost use Rattle.wire.specs.Bytes.{bytes};
 ghost use Rattle.report.specs.Payload.{given};
 ghost use Rattle.joining.specs.Joining.{packets};
 ghost use Rattle.joining.specs.Bench.{identifier, announcement, packetData, packetsFrom, frames, frameBytes, sendAnswer, sent};
-use report::Payload;
-use report::Report;
-use report::Written;
 use super::Frame;
 use super::Session;
 use super::packets;
+use report::Payload;
+use report::Report;
+use report::Written;
 
 // Writes the frames that a controller would send.
 pub struct Bench {}
@@ -29,15 +29,13 @@ impl Bench {
     // What stands where nothing is to be read.
     pub const UNREAD: u8 = 255;
 
-    pub const LARGEST_SENDER: u8 = 253;
-
     // Writes a report, with the note where `noted`, to the front of `room` as its announcement and its packets, 12 bytes
     // each. Bytes behind them stay as found; a refusal changes none. The order of refusals is 3, 12, 19, 20.
     pub fn send(room: &mut [u8], sender: u8, report: Report, noted: bool, note: &[u8]) -> Written
         ensures { λ r. ⌜ r ≡ sendAnswer (length (now (room .entry))) sender report (given noted (now (note .entry))) ⌝ }
         ensures { λ _. ⌜ now (room .exit) ≡ sent (now (room .entry)) sender report (given noted (now (note .entry))) ⌝ }
     {
-        if Bench::LARGEST_SENDER < sender {
+        if Frame::LARGEST_SENDER < (sender as u32) {
             return Written::Refused(Frame::NO_SUCH_SENDER);
         }
         let fault = Payload::fault(report, noted, note);
@@ -85,7 +83,12 @@ fn put_packet(room: &mut [u8], sender: u8, p: &[u8], i: u8)
     ensures { λ _. ⌜ now (room .exit) ≡ sets (now (room .entry)) (12 * i) (bytes 4 (identifier 235 sender) ++ packetData (now (p .entry)) i) ⌝ }
 {
     let carried = packet_data(p, i);
-    put_frame(room, Bench::FRAME * (i as usize), identifier(Frame::PACKET, sender), &carried);
+    put_frame(
+        room,
+        Bench::FRAME * (i as usize),
+        identifier(Frame::PACKET, sender),
+        &carried,
+    );
 }
 
 // An announcement's data.

@@ -5,11 +5,13 @@ ghost use Prim.Native.Nat.{_≤_};
 ghost use lib.ListN.{length};
 ghost use Rattle.joining.specs.Frame.{foreign, frameRefusal, senderIn};
 ghost use Rattle.joining.specs.Joining.{packets, carries, freshSession, isOpen, fit, closed, opened, stored, finishes, refused, sound, announce, packet, take-frame, sizeHeld, payloadHeld};
+
 mod bench;
+
+pub use bench::Bench;
 use report::Payload;
 use report::Reading;
 use report::Report;
-pub use bench::Bench;
 
 // Whose session a frame is for, 0 to 253, or why it is for none.
 pub enum Sender {
