@@ -4,17 +4,18 @@ use mathlib.Core.Path.{_≡_, refl, sym, _∙_, ap, ap₂}
 use mathlib.Core.Bool.{Bool, true, false, cond, not, _&&_, _||_, or-true, and-eq-true-iff}
 use mathlib.Core.Option.{Option, none, some}
 use mathlib.Core.List.{List, [], _∷_, _++_, append-assoc}
-use Prim.Native.Nat.{ℕ, zero, suc, _+_, _-_, _*_, _/_, _%_, _≤_, _<_}
+use Prim.Native.Nat.{ℕ, zero, suc, _+_, _-_, _*_, _/_, _%_, _^_, _≤_, _<_}
 use native.Mathlib.Numerals.{add-one}
 use native.Mathlib.Omega.{arith}
-use borrow.Author.Tests.{le-leb, lt-leb, le-ltb, lt-ltb, eq-eqb, ne-eqb, leb-true}
+use borrow.Author.Tests.{le-leb, lt-leb, le-ltb, lt-ltb, eq-eqb, ne-eqb, leb-true, ltb-false}
 use lib.Dec.{leb, ltb, eqb, lit≤}
 use lib.ListN.{length, getD, take, drop, replicate, length-append, length-drop, length-take, length-replicate, replicate-append-replicate}
-use lib.Seq.{sets, sets-eq, take-all, take-nil, take-at, drop-at, drop-append-add, take-append-seam, length-take-le, take-add}
+use lib.Seq.{sets, sets-eq, take-all, take-nil, take-at, drop-at, drop-append-add, drop-drop, take-append-seam, length-take-le, take-add}
 use Rattle.wire.specs.Bytes.{number, bytes, part, head, field}
+use Rattle.wire.proofs.Numbers.{length-bytes, number-bytes}
 use Rattle.report.specs.declared.Report.{Report}
 use Rattle.report.specs.declared.Reading.the-variants.{Accepted}
-use Rattle.report.specs.Payload.{payload, size, noteFits, noteIn, readPayload}
+use Rattle.report.specs.Payload.{payload, inRange, noteFits, size, noteIn, readPayload, fault}
 use Rattle.report.proofs.Places.{size-payload}
 use Rattle.report.proofs.RoundTrip.{Permitted, write-read, same-note}
 use Rattle.joining.specs.declared.Session.{Session}
@@ -23,7 +24,7 @@ use Rattle.joining.specs.declared.Answer.the-variants.{Kept, Complete}
 use Rattle.joining.specs.declared.Taken.{Taken}
 use Rattle.joining.specs.Frame.{Frame, senderOf, destinationOf, formatOf, zeroBitsOf, isAnnouncement, malformed, foreign, frameRefusal}
 use Rattle.joining.specs.Joining.{packets, carries, opened, isClosed, isOpen, fit, place, stored, yields, finishes, sizeIn, sound, announce, packet, take-frame, sizeHeld, payloadHeld}
-use Rattle.joining.specs.Bench.{identifier, announcement, packetData, carrier, opening, packetsFrom, frames}
+use Rattle.joining.specs.Bench.{identifier, announcement, packetData, carrier, opening, packetsFrom, frames, frameBytes, framesIn, roomFor, sendRefusal, sent}
 use Rattle.joining.specs.Run.{soloStep, soloSession, soloAnswers}
 use Rattle.joining.proofs.Fitness.{carried-range}
 use Rattle.joining.proofs.Sending.{length-data, length-announcement}
@@ -203,3 +204,64 @@ module _ (sender : ℕ) (known : sender ≤ 253) (r : Report) (note : Option (Li
   -- ... and with it the note, or its absence.
   pub same-note-held : noteIn (payloadHeld (soloSession s (frames sender (payload r note)) .bytes)) ≡ note
   same-note-held = rw same-payload (same-note r note)
+
+-- A frame's 12 bytes give it back, and the frames behind it theirs.
+frame-back : (f : Frame) (fs : List Frame) (n : ℕ) (rest : List ℕ) → f .identifier < 256 ^ 4 → length (f .data-bytes) ≡ 8
+    → framesIn (suc n) (frameBytes (f ∷ fs) ++ rest) ≡ f ∷ framesIn n (frameBytes fs ++ rest)
+unfolding framesIn frameBytes
+frame-back f fs n rest small eight =
+    let front = bytes 4 (f .identifier) in
+    let behind = frameBytes fs ++ rest in
+    let back = f .data-bytes ++ behind in
+    let row : (front ++ (f .data-bytes ++ frameBytes fs)) ++ rest ≡ front ++ back = simp append-assoc in
+    let past : drop 4 (front ++ back) ≡ back = drop-at front back 4 (length-bytes 4 (f .identifier)) in
+    let id : number (take 4 (front ++ back)) ≡ f .identifier =
+    ap number (take-at front back 4 (length-bytes 4 (f .identifier))) ∙ number-bytes 4 (f .identifier) small in
+    let carried : part 4 8 (front ++ back) ≡ f .data-bytes = ap (take 8) past ∙ take-at (f .data-bytes) behind 8 eight in
+    let next : drop 12 (front ++ back) ≡ behind =
+    sym (drop-drop 8 4 (front ++ back)) ∙ ap (drop 8) past ∙ drop-at (f .data-bytes) behind 8 eight in
+    ap (framesIn (suc n)) row
+    ∙ ap₂ (λ (g : Frame) (l : List Frame). g ∷ l) (λ i. record { identifier = id i; data-bytes = carried i }) (ap (framesIn n) next)
+
+module _ (sender : ℕ) (known : sender ≤ 253) (p : List ℕ) where
+  packets-back : (n i : ℕ) (rest : List ℕ) → framesIn n (frameBytes (packetsFrom sender p i n) ++ rest) ≡ packetsFrom sender p i n
+  unfolding framesIn packetsFrom
+  packets-back zero i rest = refl
+  packets-back (suc n) i rest =
+      frame-back (carrier sender p i) (packetsFrom sender p (i + 1) n) n rest (omega arith) (length-data p i)
+      ∙ ap (λ (l : List Frame). carrier sender p i ∷ l) (packets-back n (i + 1) rest)
+
+  frames-back : (rest : List ℕ) → framesIn (suc (packets (length p))) (frameBytes (frames sender p) ++ rest) ≡ frames sender p
+  unfolding frames
+  frames-back rest =
+      let n = packets (length p) in
+      frame-back (opening sender p) (packetsFrom sender p 1 n) n rest (omega arith) (length-announcement (length p))
+      ∙ ap (λ (l : List Frame). opening sender p ∷ l) (packets-back n 1 rest)
+
+-- What the sender does not refuse comes from a sender that has a session, and may be sent.
+sendable : (room : List ℕ) (sender : ℕ) (r : Report) (note : Option (List ℕ)) → r .number < 2 ^ 32 → sendRefusal (length room) sender r note ≡ 0
+    → (sender ≤ 253) × Permitted r note
+unfolding sendRefusal fault
+sendable room sender r note number = go (ltb 253 sender) (inRange r) (noteFits note) refl refl refl
+  where
+    go : (a b c : Bool) → ltb 253 sender ≡ a → inRange r ≡ b → noteFits note ≡ c
+        → _≡_ {A = ℕ} (cond a 3 (cond (eqb (cond b (cond c 0 19) 12) 0) (cond (leb (roomFor note) (length room)) 0 20) (cond b (cond c 0 19) 12))) 0
+        → (sender ≤ 253) × Permitted r note
+    go false true true ha hb hc h = (ltb-false 253 sender ha, record { range = hb; short = hc; number = number })
+    go false true false ha hb hc h = absurd (omega arith)
+    go false false c ha hb hc h = absurd (omega arith)
+    go true b c ha hb hc h = absurd (omega arith)
+
+-- So what `send` leaves in its room, read as frames and taken by any fit session, yields the same report, whatever room it was given.
+module _ (room : List ℕ) (sender : ℕ) (r : Report) (note : Option (List ℕ)) (number : r .number < 2 ^ 32) (takes : sendRefusal (length room) sender r note ≡ 0) where
+  pub sent-frames : framesIn (1 + packets (size note)) (sent room sender r note) ≡ frames sender (payload r note)
+  unfolding sent
+  sent-frames =
+      let one : 1 + packets (size note) ≡ suc (packets (length (payload r note))) = rw (size-payload r note) (omega arith) in
+      rw (takes, one) (frames-back sender (sendable room sender r note number takes .0) (payload r note) _)
+
+  pub sent-yields : (s : Session) → fit s ≡ true
+      → soloAnswers s (framesIn (1 + packets (size note)) (sent room sender r note)) ≡ replicate (packets (size note)) Kept ++ (Complete r ∷ [])
+  sent-yields s ready =
+      let may = sendable room sender r note number takes in
+      rw sent-frames (same-report sender (may .0) r note (may .1) s ready)

@@ -5,7 +5,7 @@ use mathlib.Core.Option.{Option}
 use mathlib.Core.List.{List, [], _∷_, _++_}
 use lib.ListN.{length, take, drop, replicate}
 use lib.Dec.{leb, ltb, eqb}
-use Rattle.wire.specs.Bytes.{bytes}
+use Rattle.wire.specs.Bytes.{number, bytes, part}
 use Rattle.report.specs.declared.Report.{Report}
 use Rattle.report.specs.declared.Written.{Written}
 use Rattle.report.specs.declared.Written.the-variants as writing
@@ -45,6 +45,11 @@ frames sender p = opening sender p ∷ packetsFrom sender p 1 (packets (length p
 unfoldable pub frameBytes : List Frame → List ℕ
 frameBytes [] = []
 frameBytes (f ∷ fs) = bytes 4 (f .identifier) ++ (f .data-bytes ++ frameBytes fs)
+
+-- And back: the first n frames in bytes that hold them so.
+unfoldable pub framesIn : ℕ → List ℕ → List Frame
+framesIn zero bs = []
+framesIn (suc n) bs = record { identifier = number (take 4 bs); data-bytes = part 4 8 bs } ∷ framesIn n (drop 12 bs)
 
 -- "Room needed is 12 x (1 + packets)."
 abbrev pub roomFor : Option (List ℕ) → ℕ
