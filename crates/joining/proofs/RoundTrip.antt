@@ -1,20 +1,18 @@
 -- What the sender announces and carries is what the session opens with and stores: after j packets its first 7 x j bytes stand there, and behind them 255.
 -- Assumes nothing.
 use mathlib.Core.Path.{_≡_, refl, sym, _∙_, ap, ap₂}
-use mathlib.Core.Bool.{Bool, true, false, cond, not, _&&_, _||_, or-true, and-eq-true-iff}
+use mathlib.Core.Bool.{Bool, true, false, cond, _||_, or-true}
 use mathlib.Core.Option.{Option, none, some}
 use mathlib.Core.List.{List, [], _∷_, _++_, append-assoc}
 use Prim.Native.Nat.{ℕ, zero, suc, _+_, _-_, _*_, _/_, _%_, _^_, _≤_, _<_}
-use native.Mathlib.Numerals.{add-one}
 use native.Mathlib.Omega.{arith}
 use borrow.Author.Tests.{le-leb, lt-leb, le-ltb, lt-ltb, eq-eqb, ne-eqb, leb-true, ltb-false}
 use lib.Dec.{leb, ltb, eqb, lit≤}
-use lib.ListN.{length, getD, take, drop, replicate, length-append, length-drop, length-take, length-replicate, replicate-append-replicate}
+use lib.ListN.{length, take, drop, replicate, length-append, length-drop, length-take, length-replicate, replicate-append-replicate}
 use lib.Seq.{sets, sets-eq, take-all, take-nil, take-at, drop-at, drop-append-add, drop-drop, take-append-seam, length-take-le, take-add}
 use Rattle.wire.specs.Bytes.{number, bytes, part, head, field}
 use Rattle.wire.proofs.Numbers.{length-bytes, number-bytes}
 use Rattle.report.specs.declared.Report.{Report}
-use Rattle.report.specs.declared.Reading.the-variants.{Accepted}
 use Rattle.report.specs.Payload.{payload, inRange, noteFits, size, noteIn, readPayload, fault}
 use Rattle.report.proofs.Places.{size-payload}
 use Rattle.report.proofs.RoundTrip.{Permitted, write-read, same-note}
@@ -22,8 +20,8 @@ use Rattle.joining.specs.declared.Session.{Session}
 use Rattle.joining.specs.declared.Answer.{Answer}
 use Rattle.joining.specs.declared.Answer.the-variants.{Kept, Complete}
 use Rattle.joining.specs.declared.Taken.{Taken}
-use Rattle.joining.specs.Frame.{Frame, senderOf, destinationOf, formatOf, zeroBitsOf, isAnnouncement, malformed, foreign, frameRefusal}
-use Rattle.joining.specs.Joining.{packets, carries, opened, isClosed, isOpen, fit, place, stored, yields, finishes, sizeIn, sound, announce, packet, take-frame, sizeHeld, payloadHeld}
+use Rattle.joining.specs.Frame.{Frame, senderOf, destinationOf, formatOf, zeroBitsOf, malformed, foreign, frameRefusal}
+use Rattle.joining.specs.Joining.{packets, carries, opened, isClosed, isOpen, fit, stored, yields, sound, announce, packet, take-frame, payloadHeld}
 use Rattle.joining.specs.Bench.{identifier, announcement, packetData, carrier, opening, packetsFrom, frames, frameBytes, framesIn, roomFor, sendRefusal, sent}
 use Rattle.joining.specs.Run.{soloStep, soloSession, soloAnswers}
 use Rattle.joining.proofs.Fitness.{carried-range}

@@ -2,7 +2,7 @@
 -- Assumes nothing.
 use mathlib.Core.Bool.{Bool, true, false, cond}
 use mathlib.Core.Option.{Option, none, some}
-use mathlib.Core.Path.{_≡_, refl, sym, _∙_, ap, ap₂}
+use mathlib.Core.Path.{_≡_, refl, sym, _∙_, ap}
 use mathlib.Core.List.{List, [], _∷_, _++_, append-assoc, append-nil}
 use Prim.Native.Nat.{ℕ, zero, suc, _+_, _-_, _*_, _/_, _%_, _≤_, _<_}
 use native.Mathlib.Nat.{add-zero}
@@ -13,7 +13,7 @@ use lib.Dec.{leb, lit≤}
 use lib.ListN.{length, take, drop, replicate, set, length-append, length-drop, length-replicate}
 use lib.Seq.{sets, sets-eq, take-all, take-at, length-take-le}
 use Rattle.wire.specs.Bytes.{bytes, part}
-use Rattle.wire.proofs.Numbers.{bytes-two, length-bytes}
+use Rattle.wire.proofs.Numbers.{length-bytes}
 use Rattle.wire.proofs.Stores.{sets-append, sets-past}
 use Rattle.report.specs.declared.Report.{Report}
 use Rattle.report.specs.declared.Written.the-variants.{Bytes, Refused}

@@ -5,9 +5,6 @@ use Rattle.joining.proofs.Sending.{announcement-bytes}
 use borrow.Author.Needs.{needs}
 use Rattle.joining.proofs.bench.announcement.Statement.{statement}
 use Rattle.joining.proofs.bench.announcement.Tie as tie
-use Rattle.joining.proofs.bench.announcement.Reads as reads
-use Rattle.joining.proofs.bench.announcement.Lts as lts
-use Rattle.joining.proofs.packets.Reads as packets-reads
 
 cast-t4 : tie.Need-cast-t4
 cast-t4 c = search needs

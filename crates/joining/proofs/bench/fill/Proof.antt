@@ -5,13 +5,6 @@ use Rattle.joining.proofs.Sending.{all-stored}
 use borrow.Author.Needs.{needs}
 use Rattle.joining.proofs.bench.fill.Statement.{statement}
 use Rattle.joining.proofs.bench.fill.Tie as tie
-use Rattle.joining.proofs.bench.fill.Reads as reads
-use Rattle.joining.proofs.bench.fill.Lts as lts
-use Rattle.joining.proofs.bench.announcement.Reads as announcement-reads
-use Rattle.joining.proofs.bench.identifier.Reads as identifier-reads
-use Rattle.joining.proofs.bench.put_frame.Reads as put-frame-reads
-use Rattle.joining.proofs.bench.put_packets.Reads as put-packets-reads
-use Rattle.joining.proofs.packets.Reads as packets-reads
 
 cast-announcement : tie.Need-cast-announcement
 cast-announcement c = search needs

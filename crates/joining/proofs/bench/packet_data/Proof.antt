@@ -5,10 +5,6 @@ use Rattle.joining.proofs.Sending.{packet-stored}
 use borrow.Author.Needs.{needs}
 use Rattle.joining.proofs.bench.packet_data.Statement.{statement}
 use Rattle.joining.proofs.bench.packet_data.Tie as tie
-use Rattle.joining.proofs.bench.packet_data.Reads as reads
-use Rattle.joining.proofs.bench.packet_data.Lts as lts
-use Rattle.wire.proofs.put.Reads as put-reads
-use Rattle.wire.proofs.put_all.Reads as put-all-reads
 
 sub-at : tie.Need-sub-at
 sub-at c = search needs

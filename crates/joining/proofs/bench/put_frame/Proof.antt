@@ -5,10 +5,6 @@ use Rattle.joining.proofs.Sending.{put-behind}
 use borrow.Author.Needs.{needs}
 use Rattle.joining.proofs.bench.put_frame.Statement.{statement}
 use Rattle.joining.proofs.bench.put_frame.Tie as tie
-use Rattle.joining.proofs.bench.put_frame.Reads as reads
-use Rattle.joining.proofs.bench.put_frame.Lts as lts
-use Rattle.wire.proofs.put32.Reads as put32-reads
-use Rattle.wire.proofs.put_all.Reads as put-all-reads
 
 put32-requires : tie.Need-put32-requires
 put32-requires c κs = search needs

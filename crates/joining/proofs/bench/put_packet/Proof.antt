@@ -3,11 +3,6 @@
 use borrow.Author.Needs.{needs}
 use Rattle.joining.proofs.bench.put_packet.Statement.{statement}
 use Rattle.joining.proofs.bench.put_packet.Tie as tie
-use Rattle.joining.proofs.bench.put_packet.Reads as reads
-use Rattle.joining.proofs.bench.put_packet.Lts as lts
-use Rattle.joining.proofs.bench.identifier.Reads as identifier-reads
-use Rattle.joining.proofs.bench.packet_data.Reads as packet-data-reads
-use Rattle.joining.proofs.bench.put_frame.Reads as put-frame-reads
 
 packet-data-requires : tie.Need-packet-data-requires
 packet-data-requires c κs = search needs

@@ -10,9 +10,6 @@ use Rattle.joining.specs.Bench.{packetsFrom, frameBytes}
 use Rattle.joining.proofs.Sending.{packets-more}
 use Rattle.joining.proofs.bench.put_packets.Statement.{statement}
 use Rattle.joining.proofs.bench.put_packets.Tie as tie
-use Rattle.joining.proofs.bench.put_packets.Reads as reads
-use Rattle.joining.proofs.bench.put_packets.Lts as lts
-use Rattle.joining.proofs.bench.put_packet.Reads as put-packet-reads
 
 abbrev Inv-loop : tie.InvT-loop
 Inv-loop room₀ sender p count sent₀ room sent = (sent ≤ count) × (length room ≡ length room₀) × (room ≡ sets room₀ 12 (frameBytes (packetsFrom sender p 1 sent)))

@@ -9,13 +9,6 @@ use Rattle.joining.proofs.Sending.{size-bound, written-front, no-sender
 use borrow.Author.Needs.{needs}
 use Rattle.joining.proofs.bench.Bench.send.Statement.{statement}
 use Rattle.joining.proofs.bench.Bench.send.Tie as tie
-use Rattle.joining.proofs.bench.Bench.send.Reads as reads
-use Rattle.joining.proofs.bench.Bench.send.Lts as lts
-use Rattle.joining.proofs.bench.fill.Reads as fill-reads
-use Rattle.joining.proofs.packets.Reads as packets-reads
-use Rattle.report.proofs.Payload.fault.Reads as fault-reads
-use Rattle.report.proofs.Payload.size.Reads as size-reads
-use Rattle.report.proofs.Payload.write.Reads as write-reads
 
 returns : tie.Need-returns
 returns c = let a = c .before .before .before .args in no-sender (now (a .room)) (a .sender) (a .report) (given (a .noted) (now (a .note))) (c .if1 .taken)
