@@ -7,5 +7,6 @@ pub mod Reached
 pub mod MadeUp
 pub mod Examples
 pub mod Sending
+pub mod Joins
 pub mod RoundTrip
 pub mod BenchOutcomes

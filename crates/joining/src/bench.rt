@@ -24,6 +24,9 @@ impl Bench {
 
     pub const IDENTIFIER: usize = 4;
 
+    // Room for the frames of any report: an announcement and 12 packets.
+    pub const LARGEST: usize = 156;
+
     pub const PRIORITY: u32 = 7;
 
     // What stands where nothing is to be read.
