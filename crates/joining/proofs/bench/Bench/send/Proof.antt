@@ -1,6 +1,7 @@
 -- `joining::bench::Bench::send` meets its contract: it goes by the sender, `fault` and the room, as `sendRefusal` does, and `fill` stores the frames.
 -- Assumes nothing.
 use mathlib.Core.Path.{sym, _∙_}
+use Prim.Native.Nat.{_≤_}
 use native.Mathlib.Omega.{arith}
 use lib.Seq.{length-take-le}
 use denote.Ref.{now}
@@ -22,11 +23,17 @@ returns-2 c = let a = c .before .before .before .before .before .args in faulty 
 size-requires : tie.Need-size-requires
 size-requires c κs = search needs
 
+-- What is not faulty fits 84 bytes.
+within : (c : tie.After-size) → c .size .result ≤ 84
+within c =
+    let a = c .before .before .before .before .before .before .args in
+    omega (arith, size-bound (a .report) (given (a .noted) (now (a .note))) (sym (c .before .before .fault .ensures) ∙ c .before .if2 .left), c .size .ensures)
+
 cast-packets : tie.Need-cast-packets
-cast-packets c = let a = c .before .before .before .before .before .before .args in omega (arith, size-bound (a .report) (given (a .noted) (now (a .note))) (sym (c .before .before .fault .ensures) ∙ c .before .if2 .left), c .size .ensures)
+cast-packets c = omega (arith, within c)
 
 packets-requires : tie.Need-packets-requires
-packets-requires c κs = let a = c .before .before .before .before .before .before .args in omega (arith, size-bound (a .report) (given (a .noted) (now (a .note))) (sym (c .before .before .fault .ensures) ∙ c .before .if2 .left), c .size .ensures)
+packets-requires c κs = omega (arith, within c)
 
 cast-needed : tie.Need-cast-needed
 cast-needed c = search needs
@@ -49,9 +56,7 @@ write-requires : tie.Need-write-requires
 write-requires c κs = search needs
 
 array-share-prefix-payload : tie.Need-array-share-prefix-payload
-array-share-prefix-payload c =
-    let a = c .before .before .before .before .before .before .before .before .before .before .before .before .args in
-    omega (arith, size-bound (a .report) (given (a .noted) (now (a .note))) (sym (c .before .before .before .before .before .before .before .before .fault .ensures) ∙ c .before .before .before .before .before .before .before .if2 .left), c .before .before .before .before .before .before .size .ensures, c .before .before .write .kept .0)
+array-share-prefix-payload c = omega (arith, within (c .before .before .before .before .before .before), c .before .before .write .kept .0)
 
 slice-aggregate-fill : tie.Need-slice-aggregate-fill
 slice-aggregate-fill c = sym (length-take-le _ _ (array-share-prefix-payload (c .before)))
