@@ -12,8 +12,8 @@ use lib.Dec.{ltb, eqb}
 use Rattle.joining.specs.declared.Session.{Session}
 use Rattle.joining.specs.declared.Answer.{Answer}
 use Rattle.joining.specs.Frame.{Frame, senderOf, frameRefusal}
-use Rattle.joining.specs.Joining.{freshSession, take-frame}
-use Rattle.joining.specs.Run.{sessionOf, sessionsAfter, answerTo, sessionsAt, answersAt, soloStep, soloSession, soloAnswers, ownFrames, ownAnswers}
+use Rattle.joining.specs.Joining.{take-frame}
+use Rattle.joining.specs.Run.{nobody, sessionOf, sessionsAfter, answerTo, sessionsAt, answersAt, soloStep, soloSession, soloAnswers, ownFrames, ownAnswers}
 
 module _ (ss : List Session) (f : Frame) where
   sender : ℕ
@@ -32,7 +32,7 @@ module _ (ss : List Session) (f : Frame) where
   pub others-stay : (k : ℕ) → (senderOf (f .identifier) ≡ k → ⊥) → sessionOf k (sessionsAfter ss f) ≡ sessionOf k ss
   unfolding sender
   others-stay k h =
-      after (λ ts. sessionOf k ts ≡ sessionOf k ss) (getD-set-other ss sender k _ freshSession (λ e. h (sym e))) refl
+      after (λ ts. sessionOf k ts ≡ sessionOf k ss) (getD-set-other ss sender k _ nobody (λ e. h (sym e))) refl
 
   pub length-after : length (sessionsAfter ss f) ≡ length ss
   length-after = after (λ ts. length ts ≡ length ss) (length-set ss sender _) refl
@@ -45,7 +45,7 @@ refused-stays s f h = rw (ne-eqb (frameRefusal (f .identifier) (f .data-bytes)) 
 pub refused-changes-none : (ss : List Session) (f : Frame) → (frameRefusal (f .identifier) (f .data-bytes) ≡ 0 → ⊥) → sessionsAfter ss f ≡ ss
 refused-changes-none ss f h =
     after ss f (λ ts. ts ≡ ss)
-    (ap (set ss (sender ss f)) (refused-stays (sessionOf (sender ss f) ss) f h) ∙ set-getD ss (sender ss f) freshSession)
+    (ap (set ss (sender ss f)) (refused-stays (sessionOf (sender ss f) ss) f h) ∙ set-getD ss (sender ss f) nobody)
     refl
 
 pub length-at : (ss : List Session) (fs : List Frame) → length (sessionsAt ss fs) ≡ length ss
@@ -60,7 +60,7 @@ module _ (k : ℕ) (known : k < 254) where
 
   pub own-session : (ss : List Session) (f : Frame) → length ss ≡ 254 → senderOf (f .identifier) ≡ k
       → sessionOf k (sessionsAfter ss f) ≡ soloStep (sessionOf k ss) f .session
-  own-session ss f n e = rw (e, lt-ltb k 254 known) (getD-set-same ss k _ freshSession (omega arith))
+  own-session ss f n e = rw (e, lt-ltb k 254 known) (getD-set-same ss k _ nobody (omega arith))
 
   -- Of every run, the session of k at the end and the answers to k are those of its own frames alone, in their order.
   pub mixing : (ss : List Session) (fs : List Frame) → length ss ≡ 254

@@ -15,7 +15,7 @@ use Rattle.wire.proofs.Fields.{bytes-part}
 use Rattle.joining.specs.declared.Session.{Session}
 use Rattle.joining.specs.Frame.{Frame, senderOf}
 use Rattle.joining.specs.Joining.{carries, freshSession, isClosed, isOpen, fit, opened, stored, advanced, place}
-use Rattle.joining.specs.Run.{freshSessions, sessionOf, sessionsAt, soloStep, soloSession, ownFrames}
+use Rattle.joining.specs.Run.{nobody, freshSessions, sessionOf, sessionsAt, soloStep, soloSession, ownFrames}
 use Rattle.joining.proofs.Fitness.{Open, open-numbers, fit-other, carried-range}
 use Rattle.joining.proofs.Mixing.{mixing}
 use Rattle.joining.proofs.Cases.{Case, passed, shut, stray, good, next, last, cases}
@@ -61,7 +61,7 @@ unfolding fit isClosed
 fresh-fit = refl
 
 pub fresh-of : (k : ℕ) → k < 254 → sessionOf k freshSessions ≡ freshSession
-fresh-of k h = getD-replicate 254 k freshSession freshSession h
+fresh-of k h = getD-replicate 254 k freshSession nobody h
 
 -- Whatever is sent by whom, every session that 254 fresh ones come to is fit.
 pub reached-fit : (fs : List Frame) (k : ℕ) → k < 254 → fit (sessionOf k (sessionsAt freshSessions fs)) ≡ true

@@ -19,9 +19,13 @@ use Rattle.joining.specs.Joining.{packets, fit, freshSession, opened, si
 abbrev pub freshSessions : List Session
 freshSessions = replicate 254 freshSession
 
+-- What stands past the last session.
+abbrev pub nobody : Session
+nobody = record { bytes = []; size = 0; count = 0; next = 0 }
+
 -- The session of sender k.
 abbrev pub sessionOf : ℕ → List Session → Session
-sessionOf k ss = getD ss k freshSession
+sessionOf k ss = getD ss k nobody
 
 -- The sessions that a frame leaves: "a frame call judges and changes its sender's session only".
 abbrev pub sessionsAfter : List Session → Frame → List Session

@@ -1,0 +1,285 @@
+-- A scan over the cells finds the cell that follows: what follows a cell of the visiting order is what is left of the order after its place.
+-- Assumes nothing.
+use mathlib.Core.Path.{_≡_, refl, sym, ap, _∙_, subst}
+use mathlib.Core.Logic.{_⊎_, inl, inr, ⊎-elim, _↔_}
+use mathlib.Core.Bool.{Bool, true, false, _&&_}
+use mathlib.Core.List.{List, [], _∷_, _++_, append-assoc, List·Memᴰ·head, List·Memᴰ·cases-cons, List·Memᴰ·eq-of-singleton, Memᴰ·append-right, List·Memᴰ·not-nil, List·Memᴰ·append-cases}
+use Prim.Native.Nat.{ℕ, zero, suc, _+_, _≤_, _<_}
+use native.Mathlib.Nat.{not-suc-le-zero}
+use native.Mathlib.Omega.{arith}
+use native.Mathlib.Numerals.{add-one}
+use borrow.Author.Tests.{lt-ltb, le-ltb, ltb-true, ltb-false}
+use lib.Dec.{ltb}
+use lib.ListN.{length, take, drop, length-append, take-append-drop, drop-of-length-le}
+use lib.Seq.{take-suc, drop-cons}
+use Rattle.ranking.specs.Best.{_∈_, only}
+use Rattle.ranking.specs.Cells.{before, count, cells, visiting, placeOf, cellAt}
+use Rattle.ranking.specs.Scan.{leads, nearer, placeAfter}
+use Rattle.ranking.specs.declared.Weights.{Weights}
+use Rattle.ranking.proofs.Tests.{Tested, passed, failed, tested, clash, and-both, and-true}
+use Rattle.ranking.proofs.Lists.{Pairwise, here, drop-⊆, lt-or-eq, pairwise-at, pairwise-drop, pairwise-only, only-in, only-of, index-of, getD-in, getD-left, getD-past, only-append, placed, inside, take-more, Other}
+use Rattle.ranking.proofs.Best.{opposite, differs, falling-place, length-same}
+use Rattle.ranking.proofs.Search.{ltb-strict}
+use Rattle.ranking.proofs.Cells.{before-strict, visiting-in, visiting-of, visiting-same, visiting-falling, visiting-distinct, length-visiting, cells-distinct}
+
+-- ---- counting
+
+count-append : (n : ℕ) (rest : List ℕ) → count n rest ≡ count n [] ++ rest
+count-append zero rest = refl
+count-append (suc n) rest =
+    count-append n (n ∷ rest)
+    ∙ sym (append-assoc (count n []) (n ∷ []) rest)
+    ∙ ap (λ l. l ++ rest) (sym (count-append n (n ∷ [])))
+
+-- one more number, which passes the test or not
+pub counted : (p : ℕ → Bool) (n : ℕ) → length (only p (count (n + 1) [])) ≡ length (only p (count n [])) + length (only p (n ∷ []))
+counted p n =
+    ap (λ m. length (only p (count m []))) (add-one n)
+    ∙ ap (λ l. length (only p l)) (count-append n (n ∷ []))
+    ∙ ap length (only-append p (count n []) (n ∷ []))
+    ∙ length-append (only p (count n [])) (only p (n ∷ []))
+
+pub counted-yes : (p : ℕ → Bool) (n : ℕ) → p n ≡ true → length (only p (count (n + 1) [])) ≡ length (only p (count n [])) + 1
+counted-yes p n e = counted p n ∙ rw (e, only)
+
+pub counted-no : (p : ℕ → Bool) (n : ℕ) → p n ≡ false → length (only p (count (n + 1) [])) ≡ length (only p (count n []))
+counted-no p n e = counted p n ∙ rw (e, only) (omega arith)
+
+-- ---- places
+
+module _ (w : Weights) where
+  abbrev Earlier : ℕ → ℕ → Type 0
+  Earlier c d = before w c d ≡ true
+
+  -- the place of the cell at a place
+  pub place-at : (n : ℕ) → n < 256 → placeOf w (cellAt w n) ≡ n
+  place-at n h =
+      length-same ltb ltb-strict (only p cells) (only p (visiting w))
+      (pairwise-only Other p cells cells-distinct) (pairwise-only Other p (visiting w) (visiting-distinct w)) (
+        λ c m. let r = only-of p cells m in only-in p (visiting w) (visiting-same w .0 c (r .0)) (r .1),
+        λ c m. let r = only-of p (visiting w) m in only-in p cells (visiting-same w .1 c (r .0)) (r .1),
+      )
+      ∙ falling-place (before w) (before-strict w) 256 (visiting w) n (visiting-falling w) (rw (length-visiting w) h)
+    where
+      p : ℕ → Bool
+      p d = before w d (cellAt w n)
+
+  -- each cell stands at its place
+  pub at-place : (c : ℕ) → c < 256 → (placeOf w c < 256) × (cellAt w (placeOf w c) ≡ c)
+  at-place c h =
+      let r = index-of 256 (visiting w) (visiting-in w c h) in
+      let below : r .0 < 256 = subst (λ n. r .0 < n) (length-visiting w) (r .1) in
+      let e : placeOf w c ≡ r .0 = ap (placeOf w) (sym (r .2)) ∙ place-at (r .0) below in
+      (subst (λ n. n < 256) (sym e) below, ap (cellAt w) e ∙ r .2)
+
+  pub cell-at : (n : ℕ) → n < 256 → cellAt w n < 256
+  cell-at n h = visiting-of w (cellAt w n) (getD-in 256 (visiting w) n (rw (length-visiting w) h))
+
+  pub place-after : (c : ℕ) → c < 256 → placeAfter w c ≡ placeOf w c + 1
+  place-after c h = let e = lt-ltb c 256 h in rw (e, placeAfter) (sym (add-one (placeOf w c)))
+
+  -- ---- which cells follow
+
+  pub leads-cells : (c d : ℕ) → c < 256 → d < 256 → leads w c d ≡ before w c d
+  leads-cells c d h g =
+      let e = lt-ltb c 256 h in
+      let f = lt-ltb d 256 g in
+      rw (e, f, leads)
+
+  pub leads-from : (c d : ℕ) → 256 ≤ c → leads w c d ≡ true
+  leads-from c d h = let e = le-ltb c 256 h in rw (e, leads)
+
+  pub leads-to : (c d : ℕ) → 256 ≤ d → leads w c d ≡ true
+  leads-to c d h = go (tested (ltb c 256))
+    where
+      last : ltb d 256 ≡ false
+      last = le-ltb d 256 h
+
+      go : Tested (ltb c 256) → leads w c d ≡ true
+      go (passed e) = rw (e, last, leads)
+      go (failed e) = rw (e, leads)
+
+  pub nearer-yes : (from found d : ℕ) → leads w from d ≡ true → leads w d found ≡ true → nearer w from found d ≡ d
+  nearer-yes from found d p q = let e = and-true p q in rw (e, nearer)
+
+  pub nearer-no : (from found d : ℕ) → leads w from d && leads w d found ≡ false → nearer w from found d ≡ found
+  nearer-no from found d e = rw (e, nearer)
+
+  -- what is known after the cells below d have been looked at
+  pub record Scanned (from d found : ℕ) : Type 0 where
+    pub at-most : found ≤ 256
+    pub follows : found < 256 → leads w from found ≡ true
+    pub soonest : (e : ℕ) → e < d → leads w from e ≡ true → (found < 256) × (before w e found ≡ false)
+
+  pub scanned-none : (from : ℕ) → Scanned from 0 256
+  scanned-none from = record { at-most = omega arith; follows = λ h. absurd (no 256 h); soonest = λ e h. absurd (not-suc-le-zero h) }
+    where
+      no : (n : ℕ) → n < n → ⊥
+      no n h = omega arith
+
+  module _ (from found d : ℕ) (cell : d < 256) (so-far : Scanned from d found) where
+    take-d : leads w from d ≡ true → leads w d found ≡ true → Scanned from (d + 1) d
+    take-d p q =
+        record {
+          at-most = omega arith;
+          follows = λ h. p;
+          soonest = λ e h l. (cell, go e (lt-or-eq (below e h)) l);
+        }
+      where
+        below : (e : ℕ) → e < d + 1 → e ≤ d
+        below e h = omega arith
+
+        beaten : (e : ℕ) → e < d → leads w from e ≡ true → Tested (before w e d) → before w e d ≡ false
+        beaten e h l (failed f) = f
+        beaten e h l (passed f) =
+            let r = so-far .soonest e h l in
+            clash (before-strict w .transitive e d found f (sym (leads-cells d found cell (r .0)) ∙ q)) (r .1)
+
+        go : (e : ℕ) → (e < d) ⊎ (e ≡ d) → leads w from e ≡ true → before w e d ≡ false
+        go e (inl h) l = beaten e h l (tested (before w e d))
+        go e (inr h) l = subst (λ z. before w z d ≡ false) (sym h) (before-strict w .irreflexive d)
+
+    leave-d : leads w from d && leads w d found ≡ false → Scanned from (d + 1) found
+    leave-d n =
+        record {
+          at-most = so-far .at-most;
+          follows = so-far .follows;
+          soonest = λ e h l. go e (lt-or-eq (below e h)) l;
+        }
+      where
+        below : (e : ℕ) → e < d + 1 → e ≤ d
+        below e h = omega arith
+
+        behind : leads w from d ≡ true → leads w d found ≡ false
+        behind p = sym (ap (λ b. b && leads w d found) p) ∙ n
+
+        at-d : leads w from d ≡ true → (found < 256) ⊎ (found ≡ 256) → (found < 256) × (before w d found ≡ false)
+        at-d p (inl h) = (h, sym (leads-cells d found cell h) ∙ behind p)
+        at-d p (inr h) = clash (leads-to d found (omega arith)) (behind p)
+
+        go : (e : ℕ) → (e < d) ⊎ (e ≡ d) → leads w from e ≡ true → (found < 256) × (before w e found ≡ false)
+        go e (inl h) l = so-far .soonest e h l
+        go e (inr h) l =
+            subst (λ z. (found < 256) × (before w z found ≡ false)) (sym h)
+            (at-d (subst (λ z. leads w from z ≡ true) h l) (lt-or-eq (so-far .at-most)))
+
+    pub scanned-more : Scanned from (d + 1) (nearer w from found d)
+    scanned-more = go (tested (leads w from d && leads w d found))
+      where
+        go : Tested (leads w from d && leads w d found) → Scanned from (d + 1) (nearer w from found d)
+        go (passed e) =
+            let r = and-both (leads w from d) (leads w d found) e in
+            subst (Scanned from (d + 1)) (sym (nearer-yes from found d (r .0) (r .1))) (take-d (r .0) (r .1))
+        go (failed e) = subst (Scanned from (d + 1)) (sym (nearer-no from found d e)) (leave-d e)
+
+  -- a cell with its place: it ends the cells up to its place, and what follows it is left
+  module _ (from : ℕ) (h : from < 256) where
+    n : ℕ
+    n = placeOf w from
+
+    within : n < length (visiting w)
+    unfolding n
+    within = rw (length-visiting w) (at-place from h .0)
+
+    up-to : take (suc n) (visiting w) ≡ take n (visiting w) ++ (from ∷ [])
+    unfolding n
+    up-to = take-suc (visiting w) n 256 within ∙ ap (λ c. take n (visiting w) ++ (c ∷ [])) (at-place from h .1)
+
+    at-left : from ∈ drop n (visiting w)
+    unfolding n
+    at-left = subst (λ l. from ∈ l) (sym (drop-cons (visiting w) n 256 within)) (List·Memᴰ·head (sym (at-place from h .1)))
+
+    left-follows : (e : ℕ) → e ∈ drop (suc n) (visiting w) → before w from e ≡ true
+    left-follows e m =
+        pairwise-at Earlier (suc n) (visiting w) (visiting-falling w) from e
+        (subst (λ l. from ∈ l) (sym up-to) (Memᴰ·append-right (take n (visiting w)) here)) m
+
+    follows-left : (e : ℕ) → e < 256 → before w from e ≡ true → e ∈ drop (suc n) (visiting w)
+    follows-left e g b =
+        ⊎-elim (λ m. absurd (not-up-to (List·Memᴰ·append-cases (take n (visiting w)) (subst (λ l. e ∈ l) up-to m)))) (λ m. m)
+        (List·Memᴰ·append-cases (take (suc n) (visiting w)) (subst (λ l. e ∈ l) (sym (take-append-drop (suc n) (visiting w))) (visiting-in w e g)))
+      where
+        not-up-to : (e ∈ take n (visiting w)) ⊎ (e ∈ from ∷ []) → ⊥
+        not-up-to (inl m) = opposite (before w) (before-strict w) from e b (pairwise-at Earlier n (visiting w) (visiting-falling w) e from m at-left)
+        not-up-to (inr m) = differs (before w) (before-strict w) from e b (sym (List·Memᴰ·eq-of-singleton m))
+
+  -- the cells that follow are those that are left
+  following : (from e : ℕ) → e < 256 → leads w from e ≡ true ↔ e ∈ drop (placeAfter w from) (visiting w)
+  unfolding n
+  following from e g = go (tested (ltb from 256))
+    where
+      go : Tested (ltb from 256) → leads w from e ≡ true ↔ e ∈ drop (placeAfter w from) (visiting w)
+      go (passed t) =
+          let h = ltb-true from 256 t in
+          rw (t, placeAfter)
+          (λ l. follows-left from h e g (sym (leads-cells from e h g) ∙ l), λ m. leads-cells from e h g ∙ left-follows from h e m)
+      go (failed t) =
+          rw (t, placeAfter) (λ l. visiting-in w e g, λ m. leads-from from e (ltb-false from 256 t))
+
+  -- after all the cells the scan has found the one that follows
+  pub scanned-all : (from found : ℕ) → Scanned from 256 found → found ≡ cellAt w (placeAfter w from)
+  scanned-all from found s = go (drop m (visiting w)) refl
+    where
+      m : ℕ
+      m = placeAfter w from
+
+      found-left : found < 256 → found ∈ drop m (visiting w)
+      found-left h = following from found h .0 (s .follows h)
+
+      go : (left : List ℕ) → drop m (visiting w) ≡ left → found ≡ cellAt w m
+      go [] q =
+          ⊎-elim (λ h. absurd (List·Memᴰ·not-nil (subst (λ l. found ∈ l) q (found-left h)))) (λ e. e ∙ sym (getD-past 256 (visiting w) m q))
+          (lt-or-eq (s .at-most))
+      go (x ∷ xs) q =
+          let x-left : x ∈ drop m (visiting w) = subst (λ l. x ∈ l) (sym q) here in
+          let x-cell = visiting-of w x (drop-⊆ m (visiting w) x x-left) in
+          let r = s .soonest x x-cell (following from x x-cell .1 x-left) in
+          ⊎-elim (λ e. e)
+          (λ k. clash (subst (Pairwise Earlier) q (pairwise-drop Earlier m (visiting w) (visiting-falling w)) .0 found k) (r .1))
+          (List·Memᴰ·cases-cons (subst (λ l. found ∈ l) q (found-left (r .0))))
+          ∙ sym (getD-left 256 (visiting w) m q)
+
+  -- ---- the cells taken so far, by the next one
+
+  -- the next cell begins what is left
+  pub left-at : (m : ℕ) → m < 256 → drop m (visiting w) ≡ cellAt w m ∷ drop (suc m) (visiting w)
+  left-at m h = drop-cons (visiting w) m 256 (rw (length-visiting w) h)
+
+  pub left-none : (m : ℕ) → 256 ≤ m → drop m (visiting w) ≡ []
+  left-none m h = drop-of-length-le (visiting w) {i = m} (subst (λ n. n ≤ m) (sym (length-visiting w)) h)
+
+  -- a cell is among the first m exactly where its place is below m
+  pub taken-place : (m c : ℕ) → c < 256 → c ∈ take m (visiting w) ↔ placeOf w c < m
+  unfolding n
+  taken-place m c h = (to, from)
+    where
+      to : c ∈ take m (visiting w) → placeOf w c < m
+      to t =
+          let r = placed m (visiting w) t in
+          let e = getD-left 256 (visiting w) (r .0) (r .3) in
+          let below = subst (λ z. r .0 < z) (length-visiting w) (inside (r .0) (visiting w) (r .3)) in
+          subst (λ z. z < m) (sym (ap (placeOf w) (sym e) ∙ place-at (r .0) below)) (r .1)
+
+      from : placeOf w c < m → c ∈ take m (visiting w)
+      from l =
+          take-more (visiting w) l c
+          (subst (λ s. c ∈ s) (sym (up-to c h)) (Memᴰ·append-right (take (placeOf w c) (visiting w)) here))
+
+  -- and, while cells are left, exactly where it stands before the next one
+  pub taken-before : (m c : ℕ) → m < 256 → c < 256 → c ∈ take m (visiting w) ↔ before w c (cellAt w m) ≡ true
+  taken-before m c h g = (to, from)
+    where
+      to : c ∈ take m (visiting w) → before w c (cellAt w m) ≡ true
+      to t = pairwise-at Earlier m (visiting w) (visiting-falling w) c (cellAt w m) t (subst (λ l. cellAt w m ∈ l) (sym (left-at m h)) here)
+
+      not-left : before w c (cellAt w m) ≡ true → c ∈ drop m (visiting w) → ⊥
+      not-left b t =
+          let left = subst (Pairwise Earlier) (left-at m h) (pairwise-drop Earlier m (visiting w) (visiting-falling w)) in
+          ⊎-elim (differs (before w) (before-strict w) c (cellAt w m) b)
+          (λ k. opposite (before w) (before-strict w) c (cellAt w m) b (left .0 c k))
+          (List·Memᴰ·cases-cons (subst (λ l. c ∈ l) (left-at m h) t))
+
+      from : before w c (cellAt w m) ≡ true → c ∈ take m (visiting w)
+      from b =
+          ⊎-elim (λ t. t) (λ t. absurd (not-left b t))
+          (List·Memᴰ·append-cases (take m (visiting w)) (subst (λ l. c ∈ l) (sym (take-append-drop m (visiting w))) (visiting-in w c g)))

@@ -1,0 +1,193 @@
+// Scores, the rank order, the grid and the order in which a search takes its cells.
+
+ghost use mathlib.Core.Path.{_≡_};
+ghost use mathlib.Core.Bool.{_&&_};
+ghost use Prim.Native.Nat.{_+_, _%_, _<_};
+ghost use lib.IntN.{pos, _*ℤ_};
+ghost use Rattle.ranking.specs.Cells.{score, cell, corner, bestScore, greater, before, inRange, placeOf, cellAt};
+ghost use Rattle.ranking.specs.Scan.{leads, nearer, placeAfter};
+ghost use Rattle.ranking.specs.Standing.{above};
+
+// A question's weights: a for loss, b for shake.
+pub struct Weights {
+    pub loss: i16,
+    pub shake: i16,
+}
+
+impl Weights {
+    pub const SMALLEST: i16 = -1000;
+
+    pub const LARGEST: i16 = 1000;
+
+    // Both weights are in their range.
+    pub fn fit(self) -> bool
+        ensures { λ r. ⌜ r ≡ (inRange (self .loss) && inRange (self .shake)) ⌝ }
+    {
+        in_range(self.loss) && in_range(self.shake)
+    }
+
+    // The score of a pair of values, of which the low 12 bits count.
+    pub fn score(self, loss: u16, shake: u16) -> i32
+        ensures { λ r. ⌜ r ≡ score self (loss % 4096) (shake % 4096) ⌝ }
+    {
+        part(self.loss, loss) + part(self.shake, shake)
+    }
+
+    // A cell's best possible score.
+    pub fn best(self, cell: u8) -> i32
+        ensures { λ r. ⌜ r ≡ bestScore self cell ⌝ }
+    {
+        let n = cell as u16;
+        let x = corner(self.loss, n % Grid::COLUMNS);
+        let y = corner(self.shake, n / Grid::COLUMNS);
+        self.score(x, y)
+    }
+
+    // A search takes the cell c before the cell d.
+    pub fn before(self, c: u8, d: u8) -> bool
+        ensures { λ r. ⌜ r ≡ before self c d ⌝ }
+    {
+        greater(self.best(c), self.best(d), c < d)
+    }
+
+    // How many cells a search takes before this one.
+    pub fn rank(self, cell: u8) -> u16
+        ensures { λ r. ⌜ r ≡ placeOf self cell ⌝ }
+    {
+        let mut n: u16 = 0;
+        let mut d: u16 = 0;
+        while d < Grid::CELLS {
+            if self.before(d as u8, cell) {
+                n += 1;
+            }
+            d += 1;
+        }
+        n
+    }
+
+    // The cell that a search takes first.
+    pub fn first(self) -> u8
+        ensures { λ r. ⌜ r ≡ cellAt self 0 ⌝ }
+    {
+        self.seek(Grid::CELLS) as u8
+    }
+
+    // The cell that a search takes after this one; CELLS, where it is the last.
+    pub fn next(self, cell: u8) -> u16
+        ensures { λ r. ⌜ r ≡ cellAt self (placeOf self cell + 1) ⌝ }
+    {
+        self.seek(cell as u16)
+    }
+
+    // The cell that is taken next after `from`, or first where `from` is no cell.
+    fn seek(self, from: u16) -> u16
+        ensures { λ r. ⌜ r ≡ cellAt self (placeAfter self from) ⌝ }
+    {
+        let mut found: u16 = Grid::CELLS;
+        let mut d: u16 = 0;
+        while d < Grid::CELLS {
+            found = self.nearer(from, found, d);
+            d += 1;
+        }
+        found
+    }
+
+    // Of the cell found so far and d, the one that follows `from` sooner.
+    fn nearer(self, from: u16, found: u16, d: u16) -> u16
+        ensures { λ r. ⌜ r ≡ nearer self from found d ⌝ }
+    {
+        if self.leads(from, d) {
+            if self.leads(d, found) {
+                return d;
+            }
+        }
+        found
+    }
+
+    // c is taken before d, or one of them is no cell.
+    fn leads(self, c: u16, d: u16) -> bool
+        ensures { λ r. ⌜ r ≡ leads self c d ⌝ }
+    {
+        if c < Grid::CELLS {
+            if d < Grid::CELLS {
+                return self.before(c as u8, d as u8);
+            }
+        }
+        true
+    }
+}
+
+// The weight is SMALLEST to LARGEST.
+fn in_range(weight: i16) -> bool
+    ensures { λ r. ⌜ r ≡ inRange weight ⌝ }
+{
+    Weights::SMALLEST <= weight && weight <= Weights::LARGEST
+}
+
+// What a value counts for by its weight.
+fn part(weight: i16, value: u16) -> i32
+    ensures { λ r. ⌜ r ≡ weight *ℤ pos (value % 4096) ⌝ }
+{
+    let a = weight as i32;
+    let v = (value % Grid::VALUES) as i32;
+    a * v
+}
+
+// The value of a column or a row that counts for most by its weight.
+fn corner(weight: i16, index: u16) -> u16
+    requires { ⌜ index < 16 ⌝ }
+    ensures { λ r. ⌜ r ≡ corner weight index ⌝ }
+{
+    if 0 < weight {
+        Grid::SIDE * index + (Grid::SIDE - 1)
+    } else {
+        Grid::SIDE * index
+    }
+}
+
+// a is greater than b, or they are equal and the tie holds.
+fn greater(a: i32, b: i32, tie: bool) -> bool
+    ensures { λ r. ⌜ r ≡ greater a b tie ⌝ }
+{
+    if b < a {
+        return true;
+    }
+    if a < b {
+        return false;
+    }
+    tie
+}
+
+// A report ranks above another: its score is greater, or equal with the greater number.
+pub fn ranks_above(score: i32, number: u32, other_score: i32, other_number: u32) -> bool
+    ensures { λ r. ⌜
+        r ≡ above (record { number = number; score = score }) (record { number = «other_number»; score = «other_score» })
+        ⌝ }
+{
+    greater(score, other_score, other_number < number)
+}
+
+// The grid over loss and shake: COLUMNS by ROWS cells of SIDE by SIDE values.
+pub struct Grid {}
+
+impl Grid {
+    pub const SIDE: u16 = 256;
+
+    pub const COLUMNS: u16 = 16;
+
+    pub const ROWS: u16 = 16;
+
+    pub const CELLS: u16 = 256;
+
+    // A loss or a shake is below SIDE x COLUMNS.
+    pub const VALUES: u16 = 4096;
+
+    // The cell of a pair of values, of which the low 12 bits count.
+    pub fn cell(loss: u16, shake: u16) -> u8
+        ensures { λ r. ⌜ r ≡ cell (loss % 4096) (shake % 4096) ⌝ }
+    {
+        let column = loss % Grid::VALUES / Grid::SIDE;
+        let row = shake % Grid::VALUES / Grid::SIDE;
+        (Grid::COLUMNS * row + column) as u8
+    }
+}
