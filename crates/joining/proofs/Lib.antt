@@ -7,6 +7,10 @@ pub mod Reached
 pub mod MadeUp
 pub mod Driving
 pub mod Examples
+pub mod Sending
+pub mod Joins
+pub mod RoundTrip
 pub mod Outcomes
 pub mod LentOutcomes
 pub mod Machine
+pub mod BenchOutcomes

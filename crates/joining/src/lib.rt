@@ -6,9 +6,11 @@ ghost use lib.ListN.{length};
 ghost use Rattle.joining.specs.Frame.{foreign, frameRefusal, senderIn};
 ghost use Rattle.joining.specs.Joining.{packets, carries, freshSession, isOpen, fit, closed, opened, stored, finishes, refused, sound, announce, packet, take-frame, sizeHeld, payloadHeld};
 
+mod bench;
 mod bus;
 mod lent;
 
+pub use bench::Bench;
 pub use bus::Bus;
 pub use bus::Heard;
 use report::Payload;
