@@ -6,8 +6,8 @@ use Prim.Native.Nat.{ℕ, zero, suc, _+_, _*_, _%_, _≤_, _<_}
 use native.Mathlib.Numerals.{add-one, towards-suc}
 use native.Mathlib.Omega.{arith}
 use borrow.Author.Tests.{lt-ltb, le-ltb}
-use lib.ListN.{length, getD, set, length-append}
-use lib.Seq.{sets}
+use lib.ListN.{length, take, drop, getD, set, length-append}
+use lib.Seq.{sets, drop-drop}
 use Rattle.wire.specs.Bytes.{number, bytes, part}
 use Rattle.wire.proofs.Stores.{sets-append}
 use Rattle.joining.specs.declared.Session.{Session}
@@ -17,7 +17,12 @@ use Rattle.joining.specs.declared.Taken.{Taken}
 use Rattle.joining.specs.Frame.{Frame, frameRefusal}
 use Rattle.joining.specs.Joining.{take-frame}
 use Rattle.joining.specs.Run.{nobody, sessionsAfter, answerTo, sessionsAt, answersAt}
-use Rattle.joining.specs.Driver.{frameAt, framesIn, nine, answerBytes, allBytes}
+use Rattle.joining.specs.Bench.{framesIn}
+use Rattle.joining.specs.Driver.{nine, answerBytes, allBytes}
+
+-- The frame at place 12 i.
+abbrev frameAt : List ℕ → ℕ → Frame
+frameAt bs i = record { identifier = number (part (12 * i) 4 bs); data-bytes = part (12 * i + 4) 8 bs }
 
 pub sessions-more : (ss : List Session) (fs : List Frame) (f : Frame) → sessionsAt ss (fs ++ (f ∷ [])) ≡ sessionsAfter (sessionsAt ss fs) f
 unfolding sessionsAt
@@ -50,53 +55,69 @@ unfolding answersAt
 length-answers ss [] = refl
 length-answers ss (f ∷ fs) = ap suc (length-answers (sessionsAfter ss f) fs)
 
-pub length-frames : (bs : List ℕ) (n : ℕ) → length (framesIn bs n) ≡ n
+-- The frames in bytes, one after the other, are those at the places 0, 12, 24 and so on.
+frame-behind : (bs : List ℕ) (n : ℕ) → frameAt (drop 12 bs) n ≡ frameAt bs (suc n)
+frame-behind bs n =
+    let head : 12 + 12 * n ≡ 12 * suc n = omega arith in
+    let body : 12 + (12 * n + 4) ≡ 12 * suc n + 4 = omega arith in
+    let id = ap (λ (r : List ℕ). number (take 4 r)) (drop-drop (12 * n) 12 bs ∙ ap (λ (k : ℕ). drop k bs) head) in
+    let carried = ap (take 8) (drop-drop (12 * n + 4) 12 bs ∙ ap (λ (k : ℕ). drop k bs) body) in
+    λ i. record { identifier = id i; data-bytes = carried i }
+
+frames-more : (n : ℕ) (bs : List ℕ) → framesIn (suc n) bs ≡ framesIn n bs ++ (frameAt bs n ∷ [])
 unfolding framesIn
-length-frames bs zero = refl
-length-frames bs (suc n) = omega (arith, length-append (framesIn bs n) (frameAt bs n ∷ []), length-frames bs n)
+frames-more zero bs = refl
+frames-more (suc n) bs =
+    ap (λ (r : List Frame). record { identifier = number (take 4 bs); data-bytes = part 4 8 bs } ∷ r)
+    (frames-more n (drop 12 bs) ∙ ap (λ (f : Frame). framesIn n (drop 12 bs) ++ (f ∷ [])) (frame-behind bs n))
+
+length-frames : (n : ℕ) (bs : List ℕ) → length (framesIn n bs) ≡ n
+unfolding framesIn
+length-frames zero bs = refl
+length-frames (suc n) bs = ap suc (length-frames n (drop 12 bs))
 
 -- A turn of the driver's loop.
 module _ (frames room : List ℕ) (ss : List Session) (i : ℕ) where
   now-sessions : List Session
-  now-sessions = sessionsAt ss (framesIn frames i)
+  now-sessions = sessionsAt ss (framesIn i frames)
 
   stored-answers : ℕ → List ℕ
-  stored-answers n = sets room 0 (allBytes (answersAt ss (framesIn frames n)))
+  stored-answers n = sets room 0 (allBytes (answersAt ss (framesIn n frames)))
 
-  next-sessions : sessionsAt ss (framesIn frames (i + 1)) ≡ sessionsAfter now-sessions (frameAt frames i)
-  unfolding framesIn now-sessions
-  next-sessions = rw add-one (sessions-more ss (framesIn frames i) (frameAt frames i))
+  next-sessions : sessionsAt ss (framesIn (i + 1) frames) ≡ sessionsAfter now-sessions (frameAt frames i)
+  unfolding now-sessions
+  next-sessions = rw (add-one, frames-more) (sessions-more ss (framesIn i frames) (frameAt frames i))
 
   next-answers : sets (stored-answers i) (9 * i) (answerBytes (answerTo now-sessions (frameAt frames i))) ≡ stored-answers (i + 1)
-  unfolding framesIn now-sessions stored-answers
+  unfolding now-sessions stored-answers
   next-answers =
-      let a = answersAt ss (framesIn frames i) in
+      let a = answersAt ss (framesIn i frames) in
       let f = frameAt frames i in
-      let b = answerTo (sessionsAt ss (framesIn frames i)) f in
-      let end : 0 + length (allBytes a) ≡ 9 * i = omega (arith, length-all a, length-answers ss (framesIn frames i), length-frames frames i) in
-      sym (rw (add-one i, answers-more ss (framesIn frames i) f, bytes-more a b, sets-append room 0 (allBytes a) (answerBytes b), end))
+      let b = answerTo (sessionsAt ss (framesIn i frames)) f in
+      let end : 0 + length (allBytes a) ≡ 9 * i = omega (arith, length-all a, length-answers ss (framesIn i frames), length-frames i frames) in
+      sym (rw (add-one i, frames-more i frames, answers-more ss (framesIn i frames) f, bytes-more a b, sets-append room 0 (allBytes a) (answerBytes b), end))
 
   turn : {ss₂ : List Session} {room₂ : List ℕ} → ss₂ ≡ sessionsAfter now-sessions (frameAt frames i)
       → room₂ ≡ sets (stored-answers i) (9 * i) (answerBytes (answerTo now-sessions (frameAt frames i)))
-      → (ss₂ ≡ sessionsAt ss (framesIn frames (i + 1))) × (room₂ ≡ sets room 0 (allBytes (answersAt ss (framesIn frames (i + 1)))))
+      → (ss₂ ≡ sessionsAt ss (framesIn (i + 1) frames)) × (room₂ ≡ sets room 0 (allBytes (answersAt ss (framesIn (i + 1) frames))))
   unfolding stored-answers
   turn e₁ e₂ = (e₁ ∙ sym next-sessions, e₂ ∙ next-answers)
 
   pub turn-heard : {ss₁ ss₂ : List Session} {room₁ room₂ : List ℕ} {id : ℕ} {d : List ℕ} {t : Taken}
-      → ss₁ ≡ sessionsAt ss (framesIn frames i) → room₁ ≡ sets room 0 (allBytes (answersAt ss (framesIn frames i)))
+      → ss₁ ≡ sessionsAt ss (framesIn i frames) → room₁ ≡ sets room 0 (allBytes (answersAt ss (framesIn i frames)))
       → id ≡ number (part (12 * i) 4 frames) → d ≡ part (12 * i + 4) 8 frames → id % 256 < 254
       → t ≡ take-frame (getD ss₁ (id % 256) nobody) id d → ss₂ ≡ set ss₁ (id % 256) (t .session) → room₂ ≡ sets room₁ (9 * i) (answerBytes (t .answer))
-      → (ss₂ ≡ sessionsAt ss (framesIn frames (i + 1))) × (room₂ ≡ sets room 0 (allBytes (answersAt ss (framesIn frames (i + 1)))))
+      → (ss₂ ≡ sessionsAt ss (framesIn (i + 1) frames)) × (room₂ ≡ sets room 0 (allBytes (answersAt ss (framesIn (i + 1) frames))))
   unfolding now-sessions stored-answers
   turn-heard e₁ e₂ e₃ e₄ k e₅ e₆ e₇ =
       let own = lt-ltb (number (part (12 * i) 4 frames) % 256) 254 (rw e₃ at k) in
       turn (rw (e₆, e₅, e₁, e₄, e₃, own)) (rw (e₇, e₅, e₂, e₁, e₄, e₃, own))
 
   pub turn-unheard : {ss₁ ss₂ : List Session} {room₁ room₂ : List ℕ} {id n : ℕ} {d : List ℕ}
-      → ss₁ ≡ sessionsAt ss (framesIn frames i) → room₁ ≡ sets room 0 (allBytes (answersAt ss (framesIn frames i)))
+      → ss₁ ≡ sessionsAt ss (framesIn i frames) → room₁ ≡ sets room 0 (allBytes (answersAt ss (framesIn i frames)))
       → id ≡ number (part (12 * i) 4 frames) → d ≡ part (12 * i + 4) 8 frames → 254 ≤ id % 256
       → n ≡ frameRefusal id d → ss₂ ≡ ss₁ → room₂ ≡ sets room₁ (9 * i) (answerBytes (Refused n))
-      → (ss₂ ≡ sessionsAt ss (framesIn frames (i + 1))) × (room₂ ≡ sets room 0 (allBytes (answersAt ss (framesIn frames (i + 1)))))
+      → (ss₂ ≡ sessionsAt ss (framesIn (i + 1) frames)) × (room₂ ≡ sets room 0 (allBytes (answersAt ss (framesIn (i + 1) frames))))
   unfolding now-sessions stored-answers
   turn-unheard e₁ e₂ e₃ e₄ k e₅ e₆ e₇ =
       let other = le-ltb (number (part (12 * i) 4 frames) % 256) 254 (rw e₃ at k) in

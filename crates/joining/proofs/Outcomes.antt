@@ -6,7 +6,8 @@ use Prim.Native.Nat.{ℕ}
 use lib.Seq.{sets}
 use denote.Ref.{now}
 use Rattle.joining.specs.Run.{sessionsAt, answersAt}
-use Rattle.joining.specs.Driver.{framesIn, allBytes}
+use Rattle.joining.specs.Bench.{framesIn}
+use Rattle.joining.specs.Driver.{allBytes}
 use Rattle.wire.proofs.Outcomes.{OneAnswer, OneLeft, OnePart}
 use Rattle.joining.proofs.Frame.sender.Kinds as sender-kinds
 use Rattle.joining.proofs.Frame.sender.Reads as sender-reads
@@ -44,11 +45,11 @@ bus-fresh-once κs a x y s t p q = λ i. record { sessions = (p ∙ sym q) i }
 hear-once : OneAnswer 2 hear-kinds.ps hear-kinds.r hear-reads.Post
 hear-once κs a x y s t p q =
     let frames = p .0 ∙ sym (q .0) in
-    let sessions = p .1 .0 ∙ ap (λ (n : ℕ). sessionsAt (a .0 .sessions) (framesIn (now (a .1 .0)) n)) frames ∙ sym (q .1 .0) in
+    let sessions = p .1 .0 ∙ ap (λ (n : ℕ). sessionsAt (a .0 .sessions) (framesIn n (now (a .1 .0)))) frames ∙ sym (q .1 .0) in
     λ i. record { frames = frames i; bus = record { sessions = sessions i } }
 
 hear-leaves-once : OneLeft 2 hear-kinds.ps hear-kinds.r hear-reads.Post (List ℕ) (λ κs s. now (s .1 .1 .0))
 hear-leaves-once κs a x y s t p q =
     p .1 .1
-    ∙ ap (λ (n : ℕ). sets (now (a .1 .1 .0)) 0 (allBytes (answersAt (a .0 .sessions) (framesIn (now (a .1 .0)) n)))) (p .0 ∙ sym (q .0))
+    ∙ ap (λ (n : ℕ). sets (now (a .1 .1 .0)) 0 (allBytes (answersAt (a .0 .sessions) (framesIn n (now (a .1 .0)))))) (p .0 ∙ sym (q .0))
     ∙ sym (q .1 .1)

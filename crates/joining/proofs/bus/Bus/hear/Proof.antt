@@ -10,12 +10,13 @@ use mathlib.Core.Logic.{⊎-elim}
 use mathlib.Core.Path.{_≡_, refl, _∙_, ap}
 use native.Mathlib.Omega.{arith}
 use Rattle.joining.specs.Run.{sessionsAt, answersAt}
-use Rattle.joining.specs.Driver.{framesIn, allBytes}
+use Rattle.joining.specs.Bench.{framesIn}
+use Rattle.joining.specs.Driver.{allBytes}
 use Rattle.joining.proofs.bus.Bus.hear.Statement.{statement}
 use Rattle.joining.proofs.bus.Bus.hear.Tie as tie
 
 abbrev Inv-loop : tie.InvT-loop
-Inv-loop frames answers₀ sessions₀ n i₀ answers sessions i = (i ≤ n) × (length answers ≡ length answers₀) × (sessions ≡ sessionsAt sessions₀ (framesIn frames i)) × (answers ≡ sets answers₀ 0 (allBytes (answersAt sessions₀ (framesIn frames i))))
+Inv-loop frames answers₀ sessions₀ n i₀ answers sessions i = (i ≤ n) × (length answers ≡ length answers₀) × (sessions ≡ sessionsAt sessions₀ (framesIn i frames)) × (answers ≡ sets answers₀ 0 (allBytes (answersAt sessions₀ (framesIn i frames))))
 
 abbrev μ-loop : tie.MeasureT-loop
 μ-loop frames answers₀ sessions₀ n i₀ answers sessions i = n - i
