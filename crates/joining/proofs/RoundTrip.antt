@@ -6,7 +6,7 @@ use mathlib.Core.Option.{Option, none, some}
 use mathlib.Core.List.{List, [], _∷_, _++_, append-assoc}
 use Prim.Native.Nat.{ℕ, zero, suc, _+_, _-_, _*_, _/_, _%_, _^_, _≤_, _<_}
 use native.Mathlib.Omega.{arith}
-use borrow.Author.Tests.{le-leb, leb-true, ltb-false}
+use borrow.Author.Tests.{le-leb, leb-true, ltb-false, eq-eqb}
 use lib.Dec.{leb, ltb, eqb}
 use lib.ListN.{length, take, drop, replicate}
 use lib.Seq.{take-at, drop-at, drop-drop}
@@ -18,7 +18,7 @@ use Rattle.report.proofs.Places.{size-payload}
 use Rattle.report.proofs.RoundTrip.{Permitted, write-read, same-note}
 use Rattle.joining.specs.declared.Session.{Session}
 use Rattle.joining.specs.declared.Answer.the-variants.{Kept, Complete}
-use Rattle.joining.specs.Frame.{Frame}
+use Rattle.joining.specs.Frame.{Frame, senderOf}
 use Rattle.joining.specs.Joining.{packets, carries, fit, payloadHeld}
 use Rattle.joining.specs.Bench.{identifier, carrier, opening, packetsFrom, frames, frameBytes, framesIn, roomFor, sendRefusal, sent}
 use Rattle.joining.specs.Run.{sessionOf, sessionsAt, answersAt, soloSession, soloAnswers, ownFrames, ownAnswers}
@@ -76,6 +76,20 @@ module _ (sender : ℕ) (known : sender ≤ 253) (r : Report) (note : Option (Li
 
   pub mixed-payload : payloadHeld (sessionOf sender (sessionsAt ss fs) .bytes) ≡ payload r note
   mixed-payload = rw (mixing sender (omega arith) ss fs all .0, own) (same-payload sender known r note may (sessionOf sender ss) ready)
+
+-- The sender's frames are its own.
+module _ (sender : ℕ) (known : sender ≤ 253) (p : List ℕ) where
+  own : (format : ℕ) → eqb (senderOf (identifier format sender)) sender ≡ true
+  own format = eq-eqb (senderOf (identifier format sender)) sender (omega arith)
+
+  own-packets : (n i : ℕ) → ownFrames sender (packetsFrom sender p i n) ≡ packetsFrom sender p i n
+  unfolding ownFrames packetsFrom
+  own-packets zero i = refl
+  own-packets (suc n) i = rw (own 235) (ap (λ (l : List Frame). carrier sender p i ∷ l) (own-packets n (i + 1)))
+
+  pub own-frames : ownFrames sender (frames sender p) ≡ frames sender p
+  unfolding ownFrames frames
+  own-frames = rw (own 236) (ap (λ (l : List Frame). opening sender p ∷ l) (own-packets (packets (length p)) 1))
 
 -- A frame's 12 bytes give it back, and the frames behind it theirs.
 frame-back : (f : Frame) (fs : List Frame) (n : ℕ) (rest : List ℕ) → f .identifier < 256 ^ 4 → length (f .data-bytes) ≡ 8
