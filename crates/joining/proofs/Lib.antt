@@ -14,3 +14,4 @@ pub mod Outcomes
 pub mod LentOutcomes
 pub mod Machine
 pub mod BenchOutcomes
+pub mod HeldPayload
