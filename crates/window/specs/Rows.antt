@@ -1,0 +1,86 @@
+-- A window of the latest reports, stored as a ring of rows (document 01, "Window and questions").
+use Prim.Native.Nat.{ℕ, zero, suc, _+_, _-_, _%_, min}
+use mathlib.Core.Bool.{Bool, true, cond, _&&_}
+use mathlib.Core.List.{List, [], _∷_}
+use lib.ListN.{getD, set, replicate}
+use lib.Dec.{leb, ltb, eqb}
+use Rattle.ranking.specs.Standing.{Held}
+use Rattle.window.specs.declared.Window.{Window}
+use Rattle.window.specs.declared.Fresh.{Fresh}
+
+-- "A window has a size N, 1 to 1,024."
+abbrev pub sized : ℕ → Bool
+sized size = leb 1 size && leb size 1024
+
+-- A window of that size with nothing entered: every row is 0.
+abbrev pub empty : ℕ → Window
+empty size =
+    record { losses = replicate 1024 0; shakes = replicate 1024 0; numbers = replicate 1024 0; size = size; entered = 0; held = 0 }
+
+-- "18: N out of range: no window"; "a refusal answers its number, every other field 0".
+unfoldable pub freshWindow : ℕ → Fresh
+freshWindow size = cond (sized size) (record { refusal = 0; window = empty size }) (record { refusal = 18; window = empty 0 })
+
+-- Report m lies in row (m - 1) mod N.
+abbrev pub rowOf : ℕ → ℕ → ℕ
+rowOf size m = (m - 1) % size
+
+-- The report of number m, as its row has it.
+abbrev pub reportOf : Window → ℕ → Held
+reportOf w m = record { number = m; loss = getD (w .losses) (rowOf (w .size) m) 0; shake = getD (w .shakes) (rowOf (w .size) m) 0 }
+
+-- The `n` reports from number m on.
+abbrev pub reportsFrom : Window → ℕ → ℕ → List Held
+reportsFrom w m zero = []
+reportsFrom w m (suc n) = reportOf w m ∷ reportsFrom w (m + 1) n
+
+-- The held reports, oldest first: the latest ones, without a gap.
+unfoldable pub heldReports : Window → List Held
+heldReports w = reportsFrom w (w .entered - w .held + 1) (w .held)
+
+-- How many reports ago the row was last written, for a row of the ring.
+abbrev pub age : Window → ℕ → ℕ
+age w r = (w .entered + w .size - 1 - r) % w .size
+
+-- The number that a row holds: that of the latest report that lies there, if it is still held; 0 for none.
+abbrev pub due : Window → ℕ → ℕ
+due w r = cond (ltb r (w .size) && ltb (age w r) (w .held)) (w .entered - age w r) 0
+
+-- A row is as it should be: that number, with loss and shake 0 to 4095; "unused places are 0".
+abbrev pub rowFit : Window → ℕ → Bool
+rowFit w r =
+    eqb (getD (w .numbers) r 0) (due w r)
+    && cond (eqb (due w r) 0)
+        (eqb (getD (w .losses) r 0) 0 && eqb (getD (w .shakes) r 0) 0)
+        (leb (getD (w .losses) r 0) 4095 && leb (getD (w .shakes) r 0) 4095)
+
+-- The first `n` rows are.
+abbrev pub rowsFit : Window → ℕ → Bool
+rowsFit w zero = true
+rowsFit w (suc n) = rowsFit w n && rowFit w n
+
+-- Fit: every stored number is in its range, and "the held numbers are the latest ones without a gap".
+unfoldable pub fitWindow : Window → Bool
+fitWindow w =
+    sized (w .size) && leb (w .entered) 1000000 && leb (w .held) (w .size) && leb (w .held) (w .entered) && rowsFit w 1024
+
+-- The window with one report more, the next in number; where N are held, the oldest gives it its row.
+unfoldable pub added : Window → ℕ → ℕ → Window
+added w loss shake =
+    cond (sized (w .size) && ltb (w .entered) 1000000)
+    (record {
+      losses = set (w .losses) (rowOf (w .size) (w .entered + 1)) loss;
+      shakes = set (w .shakes) (rowOf (w .size) (w .entered + 1)) shake;
+      numbers = set (w .numbers) (rowOf (w .size) (w .entered + 1)) (w .entered + 1);
+      size = w .size;
+      entered = w .entered + 1;
+      held = min (w .size) (w .held + 1)
+    })
+    w
+
+-- The reports that stand in the first `n` rows, of any window, last row first: those of a number that isn't 0, with the low 12 bits of loss and shake. Of a fit window they are the held ones.
+abbrev pub standing : Window → ℕ → List Held
+standing w zero = []
+standing w (suc r) =
+    cond (eqb (getD (w .numbers) r 0) 0) (standing w r)
+    (record { number = getD (w .numbers) r 0; loss = getD (w .losses) r 0 % 4096; shake = getD (w .shakes) r 0 % 4096 } ∷ standing w r)
