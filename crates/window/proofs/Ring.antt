@@ -49,8 +49,11 @@ module _ (N : ℕ) (some : 1 ≤ N) where
       omega (arith, ap (age N m) same)
 
   -- the rows may be counted back from that of the latest report
-  pub age-from : (e r : ℕ) → r < N → (rowOf N (e + N) + N - r) % N ≡ age N e r
-  age-from e r h =
+  pub age-from : (e r last steps : ℕ) → r < N → last ≡ rowOf N (e + N) → steps ≡ (last + N - r) % N → steps ≡ age N e r
+  age-from e r last steps h at counted =
       let x = e + N - 1 in
       let whole = div-add-mod x N in
-      sym (turns N (x - r + N) (x % N + N - r) (x / N) (omega arith)) ∙ add-mod-right (x - r) N
+      counted
+      ∙ ap (λ n. (n + N - r) % N) at
+      ∙ sym (turns N (x - r + N) (x % N + N - r) (x / N) (omega arith))
+      ∙ add-mod-right (x - r) N

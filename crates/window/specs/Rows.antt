@@ -46,17 +46,19 @@ age size entered row = (entered + size - 1 - row) % size
 abbrev pub due : (size entered held row : ℕ) → ℕ
 due size entered held row = cond (ltb row size && ltb (age size entered row) held) (entered - age size entered row) 0
 
--- A row is as it should be: the number that is due, with loss and shake 0 to 4095; a row that holds nothing is 0.
-abbrev pub rowFit : (due number loss shake : ℕ) → Bool
-rowFit due number loss shake =
+-- A row holds the number that is due, with loss and shake 0 to 4095; a row that holds nothing is 0.
+abbrev pub holds : (due number loss shake : ℕ) → Bool
+holds due number loss shake =
     eqb number due && cond (eqb due 0) (eqb loss 0 && eqb shake 0) (leb loss 4095 && leb shake 4095)
 
--- The first `n` rows are.
-abbrev pub rowsFit : Window → ℕ → Bool
+abbrev pub rowFit : Window → ℕ → Bool
+rowFit w row =
+    holds (due (w .size) (w .entered) (w .held) row) (getD (w .numbers) row 0) (getD (w .losses) row 0) (getD (w .shakes) row 0)
+
+-- The first `n` rows are fit.
+unfoldable pub rowsFit : Window → ℕ → Bool
 rowsFit w zero = true
-rowsFit w (suc n) =
-    rowsFit w n
-    && rowFit (due (w .size) (w .entered) (w .held) n) (getD (w .numbers) n 0) (getD (w .losses) n 0) (getD (w .shakes) n 0)
+rowsFit w (suc n) = rowsFit w n && rowFit w n
 
 -- The three counts are in their ranges: N, "at most 1,000,000", and no more held than there are rows or were entered.
 abbrev pub countsFit : (size entered held : ℕ) → Bool

@@ -2,7 +2,7 @@
 ghost use mathlib.Core.Path.{_≡_};
 ghost use mathlib.Core.Bool.{true};
 ghost use Prim.Native.Nat.{min, _+_, _-_, _%_, _<_, _≤_};
-ghost use Rattle.window.specs.Rows.{freshWindow, fitWindow, added, sized, empty, rowOf, due, rowFit, rowsFit, countsFit};
+ghost use Rattle.window.specs.Rows.{freshWindow, fitWindow, added, sized, empty, rowOf, due, holds, rowsFit, countsFit};
 use ranking::Grid;
 
 // Report m lies in row (m - 1) mod `size`; `entered` is the last number, and the latest `held` of them are held. A row
@@ -158,7 +158,7 @@ fn rows_fit(w: Window) -> bool
     let mut row: usize = 0;
     while row < 1024 {
         let n = due(size, entered, held, last, row as u16);
-        if !row_fit(n, numbers[row], losses[row], shakes[row]) {
+        if !holds(n, numbers[row], losses[row], shakes[row]) {
             return false;
         }
         row += 1;
@@ -190,8 +190,8 @@ fn steps_back(size: u16, last: u16, row: u16) -> u16
 }
 
 // A row holds the number that is due, with values in their range; a row that holds nothing is 0.
-fn row_fit(due: u32, number: u32, loss: u16, shake: u16) -> bool
-    ensures { λ r. ⌜ r ≡ rowFit due number loss shake ⌝ }
+fn holds(due: u32, number: u32, loss: u16, shake: u16) -> bool
+    ensures { λ r. ⌜ r ≡ holds due number loss shake ⌝ }
 {
     if number != due {
         return false;
