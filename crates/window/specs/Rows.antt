@@ -68,23 +68,28 @@ countsFit size entered held = sized size && leb entered 1000000 && leb held size
 unfoldable pub fitWindow : Window → Bool
 fitWindow w = countsFit (w .size) (w .entered) (w .held) && rowsFit w 1024
 
--- The window with one report more, the next in number; where N are held, the oldest gives it its row.
-unfoldable pub added : Window → ℕ → ℕ → Window
-added w loss shake =
-    cond (sized (w .size) && ltb (w .entered) 1000000)
-    (record {
+-- The window with the next report in its row; where N are held, that row was the oldest's.
+abbrev pub grown : Window → ℕ → ℕ → Window
+grown w loss shake =
+    record {
       losses = set (w .losses) (rowOf (w .size) (w .entered + 1)) loss;
       shakes = set (w .shakes) (rowOf (w .size) (w .entered + 1)) shake;
       numbers = set (w .numbers) (rowOf (w .size) (w .entered + 1)) (w .entered + 1);
       size = w .size;
       entered = w .entered + 1;
       held = min (w .size) (w .held + 1)
-    })
-    w
+    }
 
--- The reports that stand in the first `n` rows, of any window, last row first: those of a number that isn't 0, with the low 12 bits of loss and shake. Of a fit window they are the held ones.
+-- The window with one report more, "at most 1,000,000"; one that can take none stays.
+unfoldable pub added : Window → ℕ → ℕ → Window
+added w loss shake = cond (sized (w .size) && ltb (w .entered) 1000000) (grown w loss shake) w
+
+-- What stands in a row of any window: its number, and the low 12 bits of its loss and shake.
+abbrev pub reportIn : Window → ℕ → Held
+reportIn w row =
+    record { number = getD (w .numbers) row 0; loss = getD (w .losses) row 0 % 4096; shake = getD (w .shakes) row 0 % 4096 }
+
+-- The reports that stand in the first `n` rows of any window, last row first: those of a number that isn't 0. Of a fit window they are the held ones.
 abbrev pub standing : Window → ℕ → List Held
 standing w zero = []
-standing w (suc r) =
-    cond (eqb (getD (w .numbers) r 0) 0) (standing w r)
-    (record { number = getD (w .numbers) r 0; loss = getD (w .losses) r 0 % 4096; shake = getD (w .shakes) r 0 % 4096 } ∷ standing w r)
+standing w (suc row) = cond (eqb (getD (w .numbers) row 0) 0) (standing w row) (reportIn w row ∷ standing w row)
