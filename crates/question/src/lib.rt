@@ -1,6 +1,5 @@
 // One question: its weights, its list of at most 16 lines, and how far its search has come.
 ghost use mathlib.Core.Path.{_≡_};
-
 use ranking::Weights;
 
 // `next` is the cell that the search takes next, 256 where none is left: the cells before it in the visiting order are the

@@ -42,7 +42,7 @@ counts size entered held h =
       were-entered = leb-true held entered (a .1);
     }
 
-is-sized : (n : ℕ) → 1 ≤ n → n ≤ 1024 → sized n ≡ true
+pub is-sized : (n : ℕ) → 1 ≤ n → n ≤ 1024 → sized n ≡ true
 is-sized n some within = and-true (le-leb 1 n some) (le-leb n 1024 within)
 
 counted : (size entered held : ℕ) → Counts size entered held → countsFit size entered held ≡ true

@@ -1,3 +1,4 @@
 -- Laws that the crates above cite.
 pub mod Ring
 pub mod Fitness
+pub mod Reports

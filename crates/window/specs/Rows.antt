@@ -77,7 +77,7 @@ grown w loss shake =
       numbers = set (w .numbers) (rowOf (w .size) (w .entered + 1)) (w .entered + 1);
       size = w .size;
       entered = w .entered + 1;
-      held = min (w .size) (w .held + 1)
+      held = min (w .size) (w .held + 1);
     }
 
 -- The window with one report more, "at most 1,000,000"; one that can take none stays.

@@ -186,7 +186,11 @@ fn steps_back(size: u16, last: u16, row: u16) -> u16
     requires { ⌜ (last < size) × (row < size) × (size ≤ 1024) ⌝ }
     ensures { λ r. ⌜ r ≡ (last + size - row) % size ⌝ }
 {
-    if row <= last { last - row } else { last + size - row }
+    if row <= last {
+        last - row
+    } else {
+        last + size - row
+    }
 }
 
 // A row holds the number that is due, with values in their range; a row that holds nothing is 0.

@@ -37,7 +37,7 @@ returns-2 c =
     let a = start .args in
     let row = c .before .before .if1 .left in
     let same : c .before .steps-back .result ≡ age (a .size) (a .entered) (a .row) =
-        age-from (a .size) (start .pre .0) (a .entered) (a .row) (a .last) (c .before .steps-back .result) row (start .pre .3) (c .before .steps-back .ensures) in
+    age-from (a .size) (start .pre .0) (a .entered) (a .row) (a .last) (c .before .steps-back .result) row (start .pre .3) (c .before .steps-back .ensures) in
     rw (lt-ltb _ _ row, ← same, lt-ltb _ _ (c .if2 .taken))
 
 -- src/lib.rt:170:1
@@ -47,7 +47,7 @@ returns-3 c =
     let a = start .args in
     let row = c .before .before .if1 .left in
     let same : c .before .steps-back .result ≡ age (a .size) (a .entered) (a .row) =
-        age-from (a .size) (start .pre .0) (a .entered) (a .row) (a .last) (c .before .steps-back .result) row (start .pre .3) (c .before .steps-back .ensures) in
+    age-from (a .size) (start .pre .0) (a .entered) (a .row) (a .last) (c .before .steps-back .result) row (start .pre .3) (c .before .steps-back .ensures) in
     rw (lt-ltb _ _ row, ← same, le-ltb _ _ (c .if2 .left))
 
 pub due-spec : {M : Type 1} → statement M

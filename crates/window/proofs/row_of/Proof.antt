@@ -6,6 +6,7 @@ use Prim.Native.Nat.{_-_}
 use borrow.Author.Needs.{needs}
 use Rattle.window.proofs.row_of.Statement.{statement}
 use Rattle.window.proofs.row_of.Tie as tie
+
 -- src/lib.rt:122:7
 sub-result : tie.Need-sub-result
 sub-result c = search needs

@@ -111,8 +111,7 @@ loop-again : tie.Need-loop-again Inv-loop μ-loop
 unfolding rowsFit
 loop-again c =
     let at = c .before .before .before .before in
-    let w = at .before .before .before .before .before .args .w in
-    (
+    let w = at .before .before .before .before .before .args .w in (
       omega arith,
       rw (add-one (at .loop .row))
           (and-true (at .loop .inv .1) (judged w (at .loop .row) (c .before .before .due .result) (c .before .holds .ensures) (c .before .before .due .ensures) ∙ not-false _ (c .if1 .left))),
