@@ -2,3 +2,4 @@
 pub mod Ring
 pub mod Fitness
 pub mod Reports
+pub mod Standing
