@@ -3,3 +3,4 @@ pub mod Ring
 pub mod Fitness
 pub mod Reports
 pub mod Standing
+pub mod History
