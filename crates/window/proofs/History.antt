@@ -6,7 +6,7 @@ use mathlib.Core.List.{List, [], _∷_, _++_, append-assoc, append-nil}
 use Prim.Native.Nat.{ℕ, zero, suc, min, _+_, _-_, _≤_, _<_}
 use native.Mathlib.Nat.{add-zero}
 use native.Mathlib.Omega.{arith}
-use lib.ListN.{length, drop, length-append, length-drop}
+use lib.ListN.{length, drop, length-append}
 use lib.Seq.{drop-append-le, drop-drop}
 use Rattle.ranking.specs.Standing.{Held}
 use Rattle.ranking.proofs.Lists.{here, there}
@@ -14,7 +14,7 @@ use Rattle.ranking.proofs.Search.{All}
 use Rattle.window.specs.Rows.{sized, empty, heldReports, fitWindow, added, grown}
 use Rattle.window.specs.History.{Values, numbered, latest, after}
 use Rattle.window.specs.declared.Window.{Window}
-use Rattle.window.proofs.Fitness.{Counts, Whole, Fit, fit-facts, empty-fit, empty-whole, added-fit, added-whole, added-taken, is-sized}
+use Rattle.window.proofs.Fitness.{Counts, Whole, fit-facts, empty-fit, empty-whole, added-fit, added-whole, added-taken, is-sized}
 use Rattle.window.proofs.Reports.{entering, empty-holds, held-added}
 
 length-numbered : (n : ℕ) (vs : List Values) → length (numbered n vs) ≡ length vs

@@ -4,3 +4,4 @@ pub mod Fitness
 pub mod Reports
 pub mod Standing
 pub mod History
+pub mod Outcomes

@@ -1,19 +1,17 @@
 -- The held reports are those of a run of numbers, so a report more drops the first of the run where the window is full, and ends it with the new one.
 -- Assumes nothing.
-use mathlib.Core.Path.{_≡_, refl, sym, ap, _∙_, subst}
+use mathlib.Core.Path.{_≡_, refl, sym, ap, _∙_}
 use mathlib.Core.Logic.{_⊎_, inl, inr, ⊎-elim}
-use mathlib.Core.Bool.{true}
-use mathlib.Core.List.{List, [], _∷_, _++_, List·Memᴰ·head, List·Memᴰ·not-nil, List·Memᴰ·cases-cons}
+use mathlib.Core.List.{[], _∷_, _++_, List·Memᴰ·head, List·Memᴰ·not-nil, List·Memᴰ·cases-cons}
 use Prim.Native.Nat.{ℕ, zero, suc, min, _+_, _-_, _≤_, _<_}
-use native.Mathlib.Nat.{add-zero, eq-or-lt-of-le}
+use native.Mathlib.Nat.{add-zero, eq-or-lt-of-le, not-suc-le-zero}
 use native.Mathlib.Omega.{arith}
-use native.Mathlib.Numerals.{add-one}
 use lib.ListN.{length, drop}
 use lib.Seq.{getD-set-other}
 use Rattle.ranking.specs.Best.{_∈_}
 use Rattle.ranking.specs.Standing.{Held}
-use Rattle.ranking.proofs.Lists.{Pairwise, pairwise-map, here, there}
-use Rattle.window.specs.Rows.{sized, empty, rowOf, reportOf, reportsFrom, heldReports, grown, added}
+use Rattle.ranking.proofs.Lists.{Pairwise, pairwise-map, there}
+use Rattle.window.specs.Rows.{empty, rowOf, reportOf, reportsFrom, heldReports, grown, added}
 use Rattle.window.specs.declared.Window.{Window}
 use Rattle.window.proofs.Ring.{rows-differ}
 use Rattle.window.proofs.Fitness.{Counts, Whole, added-taken, is-sized, place, loss-there, shake-there}
@@ -108,6 +106,21 @@ module _ (w : Window) (ranges : Counts (w .size) (w .entered) (w .held)) where
       let entered : r .0 ≤ w .entered = r .2 in
       let numbered : x .number ≡ r .0 = ap (λ (z : Held). z .number) (r .3) in
       (omega arith, omega arith)
+
+  -- A held report is the one that lies in its number's row.
+  pub held-report : (x : Held) → x ∈ heldReports w → x ≡ reportOf w (x .number)
+  held-report x k =
+      let r = held-of k in
+      r .3 ∙ ap (reportOf w) (sym (ap (λ (z : Held). z .number) (r .3)))
+
+-- The oldest stands first: the one that leaves a full window.
+pub oldest-first : (w : Window) → 1 ≤ w .held → heldReports w ≡ reportOf w (w .entered - w .held + 1) ∷ drop 1 (heldReports w)
+unfolding heldReports
+oldest-first w some = first (w .entered - w .held + 1) (w .held) some
+  where
+    first : (m n : ℕ) → 1 ≤ n → reportsFrom w m n ≡ reportOf w m ∷ drop 1 (reportsFrom w m n)
+    first m zero h = absurd (not-suc-le-zero h)
+    first m (suc n) h = refl
 
 -- The held reports are strictly rising in number, oldest first.
 pub held-rising : (w : Window) → Pairwise Older (heldReports w)
