@@ -8,7 +8,7 @@ use native.Mathlib.Nat.{add-zero}
 use native.Mathlib.Omega.{arith}
 use lib.ListN.{length, drop, length-append}
 use lib.Seq.{drop-append-le, drop-drop}
-use Rattle.ranking.specs.Standing.{Held}
+use Rattle.ranking.specs.Standing.{Held, Permitted}
 use Rattle.ranking.proofs.Lists.{here, there}
 use Rattle.ranking.proofs.Search.{All}
 use Rattle.window.specs.Rows.{sized, empty, heldReports, fitWindow, added, grown}
@@ -29,11 +29,6 @@ numbered-snoc n [] v = ap (λ m. report m v ∷ []) (sym (add-zero n))
 numbered-snoc n (u ∷ us) v =
     let same : n + 1 + length us ≡ n + suc (length us) = omega arith in
     ap (λ l. report n u ∷ l) (numbered-snoc (n + 1) us v ∙ ap (λ m. numbered (n + 1) us ++ (report m v ∷ [])) same)
-
--- Loss and shake are 0 to 4095.
-pub record Allowed (v : Values) : Type 0 where
-  pub loss-fits : v .loss ≤ 4095
-  pub shake-fits : v .shake ≤ 4095
 
 -- What is known of a window of size n with this history.
 pub record Since (n : ℕ) (past : List Values) (w : Window) : Type 0 where
@@ -59,15 +54,15 @@ since-fresh n h =
     nothing zero = refl
     nothing (suc k) = refl
 
-module _ (n : ℕ) (past : List Values) (w : Window) (v : Values) (since : Since n past w) (allowed : Allowed v) (room : length past < 1000000) where
-  ranges : Counts (w .size) (w .entered) (w .held)
+module _ (n : ℕ) (past : List Values) (w : Window) (v : Values) (since : Since n past w) (loss-fits : v .loss ≤ 4095) (shake-fits : v .shake ≤ 4095) (room : length past < 1000000) where
+  ranges : Counts w
   ranges = fit-facts w (since .fit) .ranges
 
   free : w .entered < 1000000
   free = omega (arith, since .all-entered)
 
   is-grown : added w (v .loss) (v .shake) ≡ grown w (v .loss) (v .shake)
-  is-grown = added-taken w (v .loss) (v .shake) (is-sized (w .size) (ranges .some) (ranges .within)) free
+  is-grown = added-taken w (v .loss) (v .shake) (is-sized (w .size) (ranges .ring .some) (ranges .within)) free
 
   more : length (past ++ (v ∷ [])) ≡ length past + 1
   more = length-append past (v ∷ [])
@@ -80,7 +75,7 @@ module _ (n : ℕ) (past : List Values) (w : Window) (v : Values) (since : Since
         all-entered = ap (λ (z : Window). z .entered) is-grown ∙ omega (arith, since .all-entered, more);
         as-many-held = ap (λ (z : Window). z .held) is-grown ∙ omega (arith, since .as-many-held, since .of-size, more);
         holds-latest = held-added w (v .loss) (v .shake) ranges (since .whole) free ∙ joined;
-        fit = added-fit w (v .loss) (v .shake) (since .fit) (since .whole) free (allowed .loss-fits) (allowed .shake-fits);
+        fit = added-fit w (v .loss) (v .shake) (since .fit) (since .whole) free loss-fits shake-fits;
         whole = added-whole w (v .loss) (v .shake) (since .whole);
       }
     where
@@ -105,10 +100,10 @@ module _ (n : ℕ) (past : List Values) (w : Window) (v : Values) (since : Since
           ∙ drop-drop (w .held + 1 - w .size) (length past - n) xs
 
       few : gone ≤ length xs
-      few = omega (arith, since .as-many-held, since .of-size, size-here, ranges .some)
+      few = omega (arith, since .as-many-held, since .of-size, size-here, ranges .ring .some)
 
       count : length (xs ++ (new ∷ [])) - n ≡ gone
-      count = omega (arith, length-append xs (new ∷ []), since .as-many-held, since .of-size, size-here, ranges .some)
+      count = omega (arith, length-append xs (new ∷ []), since .as-many-held, since .of-size, size-here, ranges .ring .some)
 
       joined : drop (w .held + 1 - w .size) (heldReports w) ++ (entering w (v .loss) (v .shake) ∷ []) ≡ latest n (numbered 1 (past ++ (v ∷ [])))
       joined =
@@ -118,14 +113,15 @@ module _ (n : ℕ) (past : List Values) (w : Window) (v : Values) (since : Since
           ∙ ap (λ k. drop k (xs ++ (new ∷ []))) (sym count)
           ∙ ap (latest n) (sym (numbered-snoc 1 past v))
 
--- From a window with its history on.
-since-after : (n : ℕ) (past : List Values) (w : Window) (rest : List Values) → Since n past w → All Allowed rest → length past + length rest ≤ 1000000 → Since n (past ++ rest) (after w rest)
-since-after n past w [] since allowed room = subst (λ l. Since n l w) (sym (append-nil past)) since
-since-after n past w (v ∷ vs) since allowed room =
+-- from a window with its history on
+since-after : (n m : ℕ) (past : List Values) (w : Window) (rest : List Values) → Since n past w → All Permitted (numbered m rest) → length past + length rest ≤ 1000000 → Since n (past ++ rest) (after w rest)
+since-after n m past w [] since permitted room = subst (λ l. Since n l w) (sym (append-nil past)) since
+since-after n m past w (v ∷ vs) since permitted room =
+    let p = permitted (report m v) here in
     subst (λ l. Since n l (after (added w (v .loss) (v .shake)) vs)) (append-assoc past (v ∷ []) vs)
-    (since-after n (past ++ (v ∷ [])) (added w (v .loss) (v .shake)) vs
-    (since-added n past w v since (allowed v here) (omega arith)) (λ u k. allowed u (there k)) (rw length-append (omega arith)))
+    (since-after n (m + 1) (past ++ (v ∷ [])) (added w (v .loss) (v .shake)) vs
+    (since-added n past w v since (p .loss-fits) (p .shake-fits) (omega arith)) (λ u k. permitted u (there k)) (rw length-append (omega arith)))
 
--- Every window that is reached from a fresh one by entering reports of permitted values holds the last min(N, entered) of them, with their numbers and the values that they were entered with; and it is fit.
-pub reached : (n : ℕ) → sized n ≡ true → (past : List Values) → All Allowed past → length past ≤ 1000000 → Since n past (after (empty n) past)
-reached n h past allowed room = since-after n [] (empty n) past (since-fresh n h) allowed (omega arith)
+-- A window that is reached from a fresh one by entering at most 1,000,000 reports of permitted values holds the last min(N, entered) of them, with their numbers and the values that they were entered with; and it is fit.
+pub reached : (n : ℕ) → sized n ≡ true → (past : List Values) → All Permitted (numbered 1 past) → length past ≤ 1000000 → Since n past (after (empty n) past)
+reached n h past permitted room = since-after n 1 [] (empty n) past (since-fresh n h) permitted (omega arith)

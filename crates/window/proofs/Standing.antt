@@ -55,17 +55,14 @@ module _ (w : Window) (fit : fitWindow w ≡ true) where
   facts : Fit w
   facts = fit-facts w fit
 
-  ranges : Counts (w .size) (w .entered) (w .held)
+  ranges : Counts w
   ranges = facts .ranges
 
   row : (r : ℕ) → r < 1024 → Held-in (due (w .size) (w .entered) (w .held) r) (getD (w .numbers) r 0) (getD (w .losses) r 0) (getD (w .shakes) r 0)
   row r below = row-holds _ _ _ _ (facts .rows r below)
 
-  kept : (r : ℕ) → (due (w .size) (w .entered) (w .held) r ≡ 0 → ⊥) → Kept (w .size) (ranges .some) (w .entered) (w .held) (ranges .has-rows) (ranges .were-entered) r (due (w .size) (w .entered) (w .held) r)
-  kept = due-kept (w .size) (ranges .some) (w .entered) (w .held) (ranges .has-rows) (ranges .were-entered)
-
   in-ring : (m : ℕ) → rowOf (w .size) m < 1024
-  in-ring m = omega (arith, mod-lt (m - 1) (ranges .some), ranges .within)
+  in-ring m = omega (arith, mod-lt (m - 1) (ranges .ring .some), ranges .within)
 
   -- the values that stand in a row are whole
   whole : (r : ℕ) → r < 1024 → reportIn w r ≡ record { number = getD (w .numbers) r 0; loss = getD (w .losses) r 0; shake = getD (w .shakes) r 0 }
@@ -87,12 +84,12 @@ module _ (w : Window) (fit : fitWindow w ≡ true) where
   pub number-there : (m : ℕ) → w .entered < m + w .held → m ≤ w .entered → getD (w .numbers) (rowOf (w .size) m) 0 ≡ m
   number-there m late entered =
       row (rowOf (w .size) m) (in-ring m) .as-due
-      ∙ due-held (w .size) (ranges .some) (w .entered) (w .held) (ranges .has-rows) (ranges .were-entered) m late entered
+      ∙ due-held (ranges .ring) m late entered
 
   pub there-held : (m : ℕ) → 1 ≤ m → getD (w .numbers) (rowOf (w .size) m) 0 ≡ m → (w .entered < m + w .held) × (m ≤ w .entered)
   there-held m first there =
       let is : due (w .size) (w .entered) (w .held) (rowOf (w .size) m) ≡ m = sym (row (rowOf (w .size) m) (in-ring m) .as-due) ∙ there in
-      let k = kept (rowOf (w .size) m) (λ e. omega (arith, is)) in
+      let k = due-kept (ranges .ring) (rowOf (w .size) m) (λ e. omega (arith, is)) in
       subst (λ n. (w .entered < n + w .held) × (n ≤ w .entered)) is (k .late, k .entered)
 
   stands : (m : ℕ) → w .entered < m + w .held → m ≤ w .entered → reportOf w m ∈ standing w 1024
@@ -105,7 +102,7 @@ module _ (w : Window) (fit : fitWindow w ≡ true) where
       number = number-there m late entered
 
       used : Used w r
-      used e = omega (arith, number, ranges .were-entered)
+      used e = omega (arith, number, ranges .ring .were-entered)
 
   held-there : (r : ℕ) → r < 1024 → Used w r → reportIn w r ∈ heldReports w
   held-there r below used = moved (sym same) (held-in w ranges m (k .late) (k .entered))
@@ -116,8 +113,8 @@ module _ (w : Window) (fit : fitWindow w ≡ true) where
       number : getD (w .numbers) r 0 ≡ m
       number = row r below .as-due
 
-      k : Kept (w .size) (ranges .some) (w .entered) (w .held) (ranges .has-rows) (ranges .were-entered) r m
-      k = kept r (λ e. used (number ∙ e))
+      k : Kept (w .size) (w .entered) (w .held) r m
+      k = due-kept (ranges .ring) r (λ e. used (number ∙ e))
 
       same : reportIn w r ≡ reportOf w m
       same = whole r below ∙ rw (k .its-row, number)

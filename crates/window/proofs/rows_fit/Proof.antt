@@ -7,15 +7,12 @@ use native.Mathlib.Omega.{arith}
 use native.Mathlib.Numerals.{add-one}
 use borrow.Author.Tests.{not-true, not-false}
 use lib.ListN.{getD}
-use Rattle.window.specs.Rows.{countsFit, due, holds, rowFit, rowsFit}
+use Rattle.window.specs.Rows.{due, holds, rowFit, rowsFit}
 use Rattle.window.specs.declared.Window.{Window}
 use Rattle.ranking.proofs.Tests.{and-true}
-use Rattle.window.proofs.Fitness.{Counts, counts, unfit-row}
+use Rattle.window.proofs.Fitness.{counts, unfit-row}
 use Rattle.window.proofs.rows_fit.Statement.{statement}
 use Rattle.window.proofs.rows_fit.Tie as tie
-
-known : (w : Window) → countsFit (w .size) (w .entered) (w .held) ≡ true → Counts (w .size) (w .entered) (w .held)
-known w h = counts (w .size) (w .entered) (w .held) h
 
 -- what the two calls of a turn say of the row
 judged : (w : Window) (row n : ℕ) {b : Bool} → b ≡ holds n (getD (w .numbers) row 0) (getD (w .losses) row 0) (getD (w .shakes) row 0) → n ≡ due (w .size) (w .entered) (w .held) row → rowFit w row ≡ b
@@ -30,13 +27,13 @@ abbrev μ-loop : tie.MeasureT-loop
 μ-loop losses shakes numbers size entered held last row₀ row = 1024 - row
 
 cast-row-of : tie.Need-cast-row-of Inv-loop μ-loop
-cast-row-of c = let k = known (c .before .before .before .args .w) (c .before .before .before .pre) in omega arith
+cast-row-of c = let k = counts (c .before .before .before .args .w) (c .before .before .before .pre) in omega arith
 
 add-row-of : tie.Need-add-row-of Inv-loop μ-loop
-add-row-of c = let k = known (c .before .before .before .args .w) (c .before .before .before .pre) in omega arith
+add-row-of c = let k = counts (c .before .before .before .args .w) (c .before .before .before .pre) in omega arith
 
 row-of-requires : tie.Need-row-of-requires Inv-loop μ-loop
-row-of-requires c κs = let k = known (c .before .before .before .args .w) (c .before .before .before .pre) in omega arith
+row-of-requires c κs = let k = counts (c .before .before .before .args .w) (c .before .before .before .pre) in omega arith
 
 loop-holds : tie.Need-loop-holds Inv-loop μ-loop
 unfolding rowsFit
@@ -48,8 +45,8 @@ cast-due c = omega arith
 due-requires : tie.Need-due-requires Inv-loop μ-loop
 due-requires c κs =
     let start = c .before .before .before .before .before .before in
-    let k = known (start .args .w) (start .pre) in
-    (k .some, k .within, k .were-entered, c .before .before .row-of .ensures)
+    let k = counts (start .args .w) (start .pre) in
+    (k .ring .some, k .within, k .ring .were-entered, c .before .before .row-of .ensures)
 
 mul-holds : tie.Need-mul-holds Inv-loop μ-loop
 mul-holds c = omega arith
