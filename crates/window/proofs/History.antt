@@ -7,7 +7,7 @@ use Prim.Native.Nat.{ℕ, zero, suc, min, _+_, _-_, _≤_, _<_}
 use native.Mathlib.Nat.{add-zero}
 use native.Mathlib.Omega.{arith}
 use lib.ListN.{length, drop, length-append}
-use lib.Seq.{drop-append-le, drop-drop}
+use lib.Seq.{drop-append-le, drop-drop, drop-nil}
 use Rattle.ranking.specs.Standing.{Held, Permitted}
 use Rattle.ranking.proofs.Lists.{here, there}
 use Rattle.ranking.proofs.Search.{All}
@@ -45,14 +45,10 @@ since-fresh n h =
       of-size = refl;
       all-entered = refl;
       as-many-held = omega arith;
-      holds-latest = empty-holds n ∙ sym (nothing (0 - n));
+      holds-latest = empty-holds n ∙ sym (drop-nil (0 - n));
       fit = empty-fit n h;
       whole = empty-whole n;
     }
-  where
-    nothing : (k : ℕ) → _≡_ {A = List Held} (drop k []) []
-    nothing zero = refl
-    nothing (suc k) = refl
 
 module _ (n : ℕ) (past : List Values) (w : Window) (v : Values) (since : Since n past w) (loss-fits : v .loss ≤ 4095) (shake-fits : v .shake ≤ 4095) (room : length past < 1000000) where
   ranges : Counts w
