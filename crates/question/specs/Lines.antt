@@ -49,6 +49,14 @@ stepsTaken q = cond (ltb (q .next) 256) (placeOf (q .weights) (q .next)) 256
 abbrev pub marked : Question → List ℕ
 marked q = take (stepsTaken q) (visiting (q .weights))
 
+-- One entry put in its rank among the lines, "each once"; a list has room for 16.
+abbrev pub withEntry : Question → Entry → Question
+withEntry q e = asked (q .k) (q .weights) (take 16 (place above e (lines q))) (q .next)
+
+-- "The list is cut to k."
+abbrev pub cutToK : Question → Question
+cutToK q = asked (q .k) (q .weights) (take (q .k) (lines q)) (q .next)
+
 -- "It ends when no cell is left, or when the list has k entries and the next cell's best possible score is below the last entry's score."
 unfoldable pub finished : Question → Bool
 finished q =
