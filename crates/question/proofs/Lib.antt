@@ -1,2 +1,3 @@
 pub mod Stored
 pub mod Placed
+pub mod Ending

@@ -1,3 +1,12 @@
+use mathlib.Core.Path.{sym, ap₂, _∙_}
+use Prim.Native.Nat.{_-_}
+use lib.IntN.{pos}
+use lib.ListN.{getD}
+use lib.Signed.{ltZ}
+use mir.Syntax.{w32}
+use Rattle.ranking.proofs.Words.{kept}
+use Rattle.question.proofs.Stored.{roomy}
+use Rattle.question.proofs.Ending.{finished-none, finished-other, finished-empty, finished-full}
 use borrow.Author.Needs.{needs}
 use Rattle.question.proofs.Question.finished.Statement.{statement}
 use Rattle.question.proofs.Question.finished.Tie as tie
@@ -8,11 +17,11 @@ use Rattle.ranking.proofs.Weights.best.Reads as best-reads
 
 -- src/lib.rt:137:13
 returns : tie.Need-returns
-returns c = ?
+returns c = sym (finished-none (c .before .args .self) (c .if1 .taken))
 
 -- src/lib.rt:140:13
 returns-2 : tie.Need-returns-2
-returns-2 c = ?
+returns-2 c = sym (finished-other (c .before .before .before .args .self) (c .before .before .if1 .left) (c .if2 .taken))
 
 -- src/lib.rt:142:17
 shown-requires : tie.Need-shown-requires
@@ -24,7 +33,9 @@ cast-n c = search needs
 
 -- src/lib.rt:144:13
 returns-3 : tie.Need-returns-3
-returns-3 c = ?
+returns-3 c =
+    let first = c .before .before .before .before in
+    sym (finished-empty (first .before .args .self) (first .if1 .left) (sym (c .before .shown .ensures) ∙ c .if3 .taken))
 
 -- src/lib.rt:147:20
 sub-last : tie.Need-sub-last
@@ -48,7 +59,15 @@ array-copy-out-result c = search needs
 
 -- src/lib.rt:132:5
 returns-4 : tie.Need-returns-4
-returns-4 c = ?
+returns-4 c =
+    let counted = c .before .before .before .before in
+    let first = counted .before .before .before in
+    let start = first .before in
+    let q = start .args .self in
+    let good = start .good .0 .1 .1 .1 .1 in
+    let i = counted .shown .result - 1 in
+    ap₂ ltZ (kept w32 (c .before .best .result) (c .before .best .ok) ∙ c .before .best .ensures) (kept w32 (getD (q .scores) i (pos 0)) (c .result .given))
+    ∙ sym (finished-full q (first .if1 .left) (roomy q (good .0 .1 .0 .1) (good .1 .0 .1 .0 .1)) (counted .before .if2 .left) i (search needs))
 
 pub finished-spec : {M : Type 1} → statement M
 finished-spec =
