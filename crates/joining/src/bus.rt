@@ -6,7 +6,6 @@ ghost use lib.Seq.{sets};
 ghost use Rattle.joining.specs.Joining.{freshSession};
 ghost use Rattle.joining.specs.Run.{sessionsAt, answersAt};
 ghost use Rattle.joining.specs.Driver.{framesIn, nine, answerBytes, allBytes, taken};
-
 use crate::Answer;
 use crate::Session;
 
@@ -25,6 +24,7 @@ impl Bus {
     pub const SENDERS: usize = 254;
     // The bytes of a frame and of an answer.
     pub const FRAME: usize = 12;
+
     pub const ANSWER: usize = 9;
 
     // A fresh session for each sender.

@@ -34,7 +34,7 @@ asked k w l next =
       numbers = take 16 (map (λ e. e .number) l ++ replicate 16 0);
       scores = take 16 (map (λ e. e .score) l ++ replicate 16 (pos 0));
       len = length l;
-      next = next
+      next = next;
     }
 
 -- "An empty slot is k = 0 and everything else 0."

@@ -38,49 +38,58 @@ reportsFrom w m (suc n) = reportOf w m ∷ reportsFrom w (m + 1) n
 unfoldable pub heldReports : Window → List Held
 heldReports w = reportsFrom w (w .entered - w .held + 1) (w .held)
 
--- How many reports ago the row was last written, for a row of the ring.
-abbrev pub age : Window → ℕ → ℕ
-age w r = (w .entered + w .size - 1 - r) % w .size
+-- How many reports came after the latest one that lies in a row of the ring.
+abbrev pub age : (size entered row : ℕ) → ℕ
+age size entered row = (entered + size - 1 - row) % size
 
--- The number that a row holds: that of the latest report that lies there, if it is still held; 0 for none.
-abbrev pub due : Window → ℕ → ℕ
-due w r = cond (ltb r (w .size) && ltb (age w r) (w .held)) (w .entered - age w r) 0
+-- The number that a row must hold: that of the latest report that lies there, if it is still held; 0 for none.
+abbrev pub due : (size entered held row : ℕ) → ℕ
+due size entered held row = cond (ltb row size && ltb (age size entered row) held) (entered - age size entered row) 0
 
--- A row is as it should be: that number, with loss and shake 0 to 4095; "unused places are 0".
+-- A row holds the number that is due, with loss and shake 0 to 4095; a row that holds nothing is 0.
+abbrev pub holds : (due number loss shake : ℕ) → Bool
+holds due number loss shake =
+    eqb number due && cond (eqb due 0) (eqb loss 0 && eqb shake 0) (leb loss 4095 && leb shake 4095)
+
 abbrev pub rowFit : Window → ℕ → Bool
-rowFit w r =
-    eqb (getD (w .numbers) r 0) (due w r)
-    && cond (eqb (due w r) 0)
-        (eqb (getD (w .losses) r 0) 0 && eqb (getD (w .shakes) r 0) 0)
-        (leb (getD (w .losses) r 0) 4095 && leb (getD (w .shakes) r 0) 4095)
+rowFit w row =
+    holds (due (w .size) (w .entered) (w .held) row) (getD (w .numbers) row 0) (getD (w .losses) row 0) (getD (w .shakes) row 0)
 
--- The first `n` rows are.
-abbrev pub rowsFit : Window → ℕ → Bool
+-- The first `n` rows are fit.
+unfoldable pub rowsFit : Window → ℕ → Bool
 rowsFit w zero = true
 rowsFit w (suc n) = rowsFit w n && rowFit w n
 
+-- The three counts are in their ranges: N, "at most 1,000,000", and no more held than there are rows or were entered.
+abbrev pub countsFit : (size entered held : ℕ) → Bool
+countsFit size entered held = sized size && leb entered 1000000 && leb held size && leb held entered
+
 -- Fit: every stored number is in its range, and "the held numbers are the latest ones without a gap".
 unfoldable pub fitWindow : Window → Bool
-fitWindow w =
-    sized (w .size) && leb (w .entered) 1000000 && leb (w .held) (w .size) && leb (w .held) (w .entered) && rowsFit w 1024
+fitWindow w = countsFit (w .size) (w .entered) (w .held) && rowsFit w 1024
 
--- The window with one report more, the next in number; where N are held, the oldest gives it its row.
-unfoldable pub added : Window → ℕ → ℕ → Window
-added w loss shake =
-    cond (sized (w .size) && ltb (w .entered) 1000000)
-    (record {
+-- The window with the next report in its row; where N are held, that row was the oldest's.
+abbrev pub grown : Window → ℕ → ℕ → Window
+grown w loss shake =
+    record {
       losses = set (w .losses) (rowOf (w .size) (w .entered + 1)) loss;
       shakes = set (w .shakes) (rowOf (w .size) (w .entered + 1)) shake;
       numbers = set (w .numbers) (rowOf (w .size) (w .entered + 1)) (w .entered + 1);
       size = w .size;
       entered = w .entered + 1;
-      held = min (w .size) (w .held + 1)
-    })
-    w
+      held = min (w .size) (w .held + 1);
+    }
 
--- The reports that stand in the first `n` rows, of any window, last row first: those of a number that isn't 0, with the low 12 bits of loss and shake. Of a fit window they are the held ones.
+-- The window with one report more, "at most 1,000,000"; one that can take none stays.
+unfoldable pub added : Window → ℕ → ℕ → Window
+added w loss shake = cond (sized (w .size) && ltb (w .entered) 1000000) (grown w loss shake) w
+
+-- What stands in a row of any window: its number, and the low 12 bits of its loss and shake.
+abbrev pub reportIn : Window → ℕ → Held
+reportIn w row =
+    record { number = getD (w .numbers) row 0; loss = getD (w .losses) row 0 % 4096; shake = getD (w .shakes) row 0 % 4096 }
+
+-- The reports that stand in the first `n` rows of any window, last row first: those of a number that isn't 0. Of a fit window they are the held ones.
 abbrev pub standing : Window → ℕ → List Held
 standing w zero = []
-standing w (suc r) =
-    cond (eqb (getD (w .numbers) r 0) 0) (standing w r)
-    (record { number = getD (w .numbers) r 0; loss = getD (w .losses) r 0 % 4096; shake = getD (w .shakes) r 0 % 4096 } ∷ standing w r)
+standing w (suc row) = cond (eqb (getD (w .numbers) row 0) 0) (standing w row) (reportIn w row ∷ standing w row)

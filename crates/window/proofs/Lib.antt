@@ -1,0 +1,5 @@
+-- Laws that the crates above cite.
+pub mod Ring
+pub mod Fitness
+pub mod Reports
+pub mod Standing

@@ -1,0 +1,200 @@
+-- The held reports are those of a run of numbers, so a report more drops the first of the run where the window is full, and ends it with the new one.
+-- Assumes nothing.
+use mathlib.Core.Path.{_≡_, refl, sym, ap, _∙_, subst}
+use mathlib.Core.Logic.{_⊎_, inl, inr, ⊎-elim}
+use mathlib.Core.Bool.{true}
+use mathlib.Core.List.{List, [], _∷_, _++_, List·Memᴰ·head, List·Memᴰ·not-nil, List·Memᴰ·cases-cons}
+use Prim.Native.Nat.{ℕ, zero, suc, min, _+_, _-_, _≤_, _<_}
+use native.Mathlib.Nat.{add-zero, eq-or-lt-of-le}
+use native.Mathlib.Omega.{arith}
+use native.Mathlib.Numerals.{add-one}
+use lib.ListN.{length, drop}
+use lib.Seq.{getD-set-other}
+use Rattle.ranking.specs.Best.{_∈_}
+use Rattle.ranking.specs.Standing.{Held}
+use Rattle.ranking.proofs.Lists.{Pairwise, pairwise-map, here, there}
+use Rattle.window.specs.Rows.{sized, empty, rowOf, reportOf, reportsFrom, heldReports, grown, added}
+use Rattle.window.specs.declared.Window.{Window}
+use Rattle.window.proofs.Ring.{rows-differ}
+use Rattle.window.proofs.Fitness.{Counts, Whole, added-taken, is-sized, place, loss-there, shake-there}
+
+-- of a smaller number
+abbrev pub Older : Held → Held → Type 0
+Older q r = q .number < r .number
+
+module _ (w : Window) where
+  length-reports : (m n : ℕ) → length (reportsFrom w m n) ≡ n
+  length-reports m zero = refl
+  length-reports m (suc n) = ap suc (length-reports (m + 1) n)
+
+  -- as many as are held
+  pub length-held : length (heldReports w) ≡ w .held
+  unfolding heldReports
+  length-held = length-reports (w .entered - w .held + 1) (w .held)
+
+  reports-snoc : (m n : ℕ) → reportsFrom w m (suc n) ≡ reportsFrom w m n ++ (reportOf w (m + n) ∷ [])
+  reports-snoc m zero = ap (λ j. reportOf w j ∷ []) (sym (add-zero m))
+  reports-snoc m (suc n) =
+      let same : m + 1 + n ≡ m + suc n = omega arith in
+      ap (λ l. reportOf w m ∷ l) (reports-snoc (m + 1) n ∙ ap (λ j. reportsFrom w (m + 1) n ++ (reportOf w j ∷ [])) same)
+
+  reports-drop : (k m n : ℕ) → drop k (reportsFrom w m n) ≡ reportsFrom w (m + k) (n - k)
+  reports-drop zero m n =
+      let from : m ≡ m + 0 = omega arith in
+      let some : n ≡ n - 0 = omega arith in
+      ap (λ j. reportsFrom w j n) from ∙ ap (reportsFrom w (m + 0)) some
+  reports-drop (suc k) m zero =
+      let none : 0 ≡ 0 - suc k = omega arith in
+      ap (reportsFrom w (m + suc k)) none
+  reports-drop (suc k) m (suc n) =
+      let from : m + 1 + k ≡ m + suc k = omega arith in
+      let some : n - k ≡ suc n - suc k = omega arith in
+      reports-drop k (m + 1) n ∙ ap (λ j. reportsFrom w j (n - k)) from ∙ ap (reportsFrom w (m + suc k)) some
+
+  -- the reports of the run, by their numbers
+  reports-in : (m n j : ℕ) → m ≤ j → j < m + n → reportOf w j ∈ reportsFrom w m n
+  reports-in m zero j from below = absurd (no from below)
+    where
+      no : m ≤ j → j < m + 0 → ⊥
+      no a b = omega arith
+  reports-in m (suc n) j from below =
+      ⊎-elim (λ e. List·Memᴰ·head (ap (reportOf w) (sym e))) (λ l. there (reports-in (m + 1) n j (omega arith) (omega arith))) (first from)
+    where
+      first : m ≤ j → (m ≡ j) ⊎ (m < j)
+      first h = eq-or-lt-of-le h
+
+  reports-of : (m n : ℕ) {x : Held} → x ∈ reportsFrom w m n → (j : ℕ) × (m ≤ j) × (j < m + n) × (x ≡ reportOf w j)
+  reports-of m zero k = absurd (List·Memᴰ·not-nil k)
+  reports-of m (suc n) {x} k = go (List·Memᴰ·cases-cons k) (reports-of (m + 1) n)
+    where
+      go : (x ≡ reportOf w m) ⊎ (x ∈ reportsFrom w (m + 1) n) → (x ∈ reportsFrom w (m + 1) n → (j : ℕ) × (m + 1 ≤ j) × (j < m + 1 + n) × (x ≡ reportOf w j)) → (j : ℕ) × (m ≤ j) × (j < m + suc n) × (x ≡ reportOf w j)
+      go (inl e) rest = (m, omega arith, omega arith, e)
+      go (inr q) rest =
+          let r = rest q in
+          let from : m + 1 ≤ r .0 = r .1 in
+          let below : r .0 < m + 1 + n = r .2 in
+          (r .0, omega arith, omega arith, r .3)
+
+  reports-rising : (m n : ℕ) → Pairwise Older (reportsFrom w m n)
+  reports-rising m zero = tt
+  reports-rising m (suc n) = (λ y k. later y (reports-of (m + 1) n k), reports-rising (m + 1) n)
+    where
+      later : (y : Held) → (j : ℕ) × (m + 1 ≤ j) × (j < m + 1 + n) × (y ≡ reportOf w j) → m < y .number
+      later y r =
+          let from : m + 1 ≤ r .0 = r .1 in
+          let numbered : y .number ≡ r .0 = ap (λ (z : Held). z .number) (r .3) in
+          omega arith
+
+-- numbers between the first and the last held
+module _ (w : Window) (ranges : Counts (w .size) (w .entered) (w .held)) where
+  pub held-in : (m : ℕ) → w .entered < m + w .held → m ≤ w .entered → reportOf w m ∈ heldReports w
+  unfolding heldReports
+  held-in m late entered =
+      reports-in w (w .entered - w .held + 1) (w .held) m (omega (arith, ranges .were-entered)) (omega (arith, ranges .were-entered))
+
+  pub held-of : {x : Held} → x ∈ heldReports w → (m : ℕ) × (w .entered < m + w .held) × (m ≤ w .entered) × (x ≡ reportOf w m)
+  unfolding heldReports
+  held-of {x} k =
+      let r = reports-of w (w .entered - w .held + 1) (w .held) k in
+      let from : w .entered - w .held + 1 ≤ r .0 = r .1 in
+      let below : r .0 < w .entered - w .held + 1 + w .held = r .2 in
+      (r .0, omega (arith, ranges .were-entered), omega (arith, ranges .were-entered), r .3)
+
+  -- The held numbers are the latest ones: above `entered` less `held`, and up to `entered`.
+  pub held-latest : (x : Held) → x ∈ heldReports w → (w .entered < x .number + w .held) × (x .number ≤ w .entered)
+  held-latest x k =
+      let r = held-of k in
+      let late : w .entered < r .0 + w .held = r .1 in
+      let entered : r .0 ≤ w .entered = r .2 in
+      let numbered : x .number ≡ r .0 = ap (λ (z : Held). z .number) (r .3) in
+      (omega arith, omega arith)
+
+-- The held reports are strictly rising in number, oldest first.
+pub held-rising : (w : Window) → Pairwise Older (heldReports w)
+unfolding heldReports
+held-rising w = reports-rising w (w .entered - w .held + 1) (w .held)
+
+-- No two have one number.
+pub held-distinct : (w : Window) → Pairwise (λ (q r : Held). q .number ≡ r .number → ⊥) (heldReports w)
+held-distinct w = pairwise-map (λ q r l e. apart q r l e) (heldReports w) (held-rising w)
+  where
+    apart : (q r : Held) → q .number < r .number → q .number ≡ r .number → ⊥
+    apart q r l e = omega arith
+
+-- A fresh window holds nothing.
+pub empty-holds : (n : ℕ) → heldReports (empty n) ≡ []
+unfolding heldReports
+empty-holds n = refl
+
+-- ---- a report more
+
+-- two windows with the same reports of a run's numbers
+reports-same : (v w : Window) (m n : ℕ) → ((j : ℕ) → m ≤ j → j < m + n → reportOf v j ≡ reportOf w j) → reportsFrom v m n ≡ reportsFrom w m n
+reports-same v w m zero h = refl
+reports-same v w m (suc n) h =
+    ap (λ r. r ∷ reportsFrom v (m + 1) n) (h m (omega arith) (omega arith))
+    ∙ ap (λ l. reportOf w m ∷ l) (reports-same v w (m + 1) n (λ j a b. h j (omega arith) (omega arith)))
+
+-- The report that enters: the next in number.
+abbrev pub entering : Window → ℕ → ℕ → Held
+entering w loss shake = record { number = w .entered + 1; loss = loss; shake = shake }
+
+module _ (w : Window) (loss shake : ℕ) (ranges : Counts (w .size) (w .entered) (w .held)) (whole : Whole w) where
+  new-report : reportOf (grown w loss shake) (w .entered + 1) ≡ entering w loss shake
+  new-report = rw (loss-there w loss shake ranges whole, shake-there w loss shake ranges whole)
+
+  old-report : (m : ℕ) → 1 ≤ m → m ≤ w .entered → w .entered + 1 < m + w .size → reportOf (grown w loss shake) m ≡ reportOf w m
+  old-report m first entered near =
+      let other = rows-differ (w .size) (ranges .some) m (w .entered + 1) first (omega arith) near in
+      rw (
+        getD-set-other (w .losses) (place w loss shake ranges whole) (rowOf (w .size) m) loss 0 other,
+        getD-set-other (w .shakes) (place w loss shake ranges whole) (rowOf (w .size) m) shake 0 other,
+      )
+
+  -- The held reports of a window with one report more: those that were held, without the oldest where N were, and then the new one.
+  pub held-added : w .entered < 1000000 → heldReports (added w loss shake) ≡ drop (w .held + 1 - w .size) (heldReports w) ++ (entering w loss shake ∷ [])
+  unfolding heldReports
+  held-added room =
+      ap heldReports (added-taken w loss shake (is-sized (w .size) (ranges .some) (ranges .within)) room)
+      ∙ ap (λ n. reportsFrom g (e + 1 - n + 1) n) next
+      ∙ ap (λ m. reportsFrom g m (suc n)) from
+      ∙ reports-snoc g (e - n + 1) n
+      ∙ ap (λ m. reportsFrom g (e - n + 1) n ++ (reportOf g m ∷ [])) last
+      ∙ ap (λ r. reportsFrom g (e - n + 1) n ++ (r ∷ [])) new-report
+      ∙ ap (λ l. l ++ (entering w loss shake ∷ [])) (kept ∙ sym dropped)
+    where
+      g : Window
+      g = grown w loss shake
+
+      e : ℕ
+      e = w .entered
+
+      n : ℕ
+      n = min (w .size) (w .held + 1) - 1
+
+      next : min (w .size) (w .held + 1) ≡ suc n
+      next = omega (arith, ranges .some)
+
+      bound : (n ≤ e) × (n < w .size)
+      bound = (omega (arith, ranges .some, ranges .were-entered), omega (arith, ranges .some))
+
+      from : e + 1 - suc n + 1 ≡ e - n + 1
+      from = omega (arith, bound)
+
+      last : e - n + 1 + n ≡ e + 1
+      last = omega (arith, bound)
+
+      kept : reportsFrom g (e - n + 1) n ≡ reportsFrom w (e - n + 1) n
+      kept = reports-same g w (e - n + 1) n (λ j a b. old-report j (omega arith) (omega (arith, bound)) (omega (arith, bound)))
+
+      gone : e - w .held + 1 + (w .held + 1 - w .size) ≡ e - n + 1
+      gone = omega (arith, ranges .some, ranges .has-rows, ranges .were-entered)
+
+      left : w .held - (w .held + 1 - w .size) ≡ n
+      left = omega (arith, ranges .some, ranges .has-rows)
+
+      dropped : drop (w .held + 1 - w .size) (reportsFrom w (e - w .held + 1) (w .held)) ≡ reportsFrom w (e - n + 1) n
+      dropped =
+          reports-drop w (w .held + 1 - w .size) (e - w .held + 1) (w .held)
+          ∙ ap (λ m. reportsFrom w m (w .held - (w .held + 1 - w .size))) gone
+          ∙ ap (reportsFrom w (e - n + 1)) left

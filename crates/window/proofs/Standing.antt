@@ -1,0 +1,133 @@
+-- The rows of a fit window hold exactly its held reports: a row's number says which report lies there, and each held report has a row.
+-- Assumes nothing.
+use mathlib.Core.Path.{_≡_, refl, sym, ap, _∙_, subst}
+use mathlib.Core.Logic.{_⊎_, inl, inr, ⊎-elim}
+use mathlib.Core.Bool.{true}
+use mathlib.Core.List.{List, map, List·Memᴰ·head, List·Memᴰ·not-nil, List·Memᴰ·cases-cons, Memᴰ·map, Memᴰ·of-map}
+use Prim.Native.Nat.{ℕ, zero, suc, _+_, _-_, _%_, _≤_, _<_}
+use native.Mathlib.Nat.{mod-lt, not-suc-le-zero, le-of-suc-le-suc}
+use native.Mathlib.Omega.{arith}
+use borrow.Author.Tests.{eqb-true, eqb-false, ne-eqb}
+use lib.Dec.{eqb}
+use lib.ListN.{getD}
+use Rattle.ranking.specs.Best.{_∈_, best}
+use Rattle.ranking.specs.Standing.{Held, Entry, above, entry, Permitted}
+use Rattle.ranking.specs.declared.Weights.{Weights}
+use Rattle.ranking.proofs.Tests.{Tested, passed, failed, tested}
+use Rattle.ranking.proofs.Lists.{Same, lt-or-eq, moved, there}
+use Rattle.ranking.proofs.Best.{best-same}
+use Rattle.ranking.proofs.Search.{All}
+use Rattle.ranking.proofs.Standing.{above-strict}
+use Rattle.window.specs.Rows.{rowOf, reportOf, heldReports, due, fitWindow, reportIn, standing}
+use Rattle.window.specs.declared.Window.{Window}
+use Rattle.window.proofs.Ring.{due-held, due-kept, Kept}
+use Rattle.window.proofs.Fitness.{Counts, Fit, fit-facts, Held-in, row-holds}
+use Rattle.window.proofs.Reports.{held-in, held-of}
+
+-- what stands in the rows of any window
+module _ (w : Window) where
+  abbrev Used : ℕ → Type 0
+  Used r = getD (w .numbers) r 0 ≡ 0 → ⊥
+
+  standing-in : (n r : ℕ) → r < n → Used r → reportIn w r ∈ standing w n
+  standing-in zero r below used = absurd (not-suc-le-zero below)
+  standing-in (suc n) r below used = go (tested (eqb (getD (w .numbers) n 0) 0)) (lt-or-eq (le-of-suc-le-suc below)) (λ l. standing-in n r l used)
+    where
+      go : Tested (eqb (getD (w .numbers) n 0) 0) → (r < n) ⊎ (r ≡ n) → (r < n → reportIn w r ∈ standing w n) → reportIn w r ∈ standing w (suc n)
+      go (passed t) (inl l) rest = rw (t, standing) (rest l)
+      go (passed t) (inr e) rest = absurd (used (ap (λ m. getD (w .numbers) m 0) e ∙ eqb-true _ _ t))
+      go (failed f) (inl l) rest = rw (f, standing) (there (rest l))
+      go (failed f) (inr e) rest = rw (f, standing) (List·Memᴰ·head (ap (reportIn w) e))
+
+  standing-of : (n : ℕ) {x : Held} → x ∈ standing w n → (r : ℕ) × (r < n) × Used r × (x ≡ reportIn w r)
+  standing-of zero k = absurd (List·Memᴰ·not-nil k)
+  standing-of (suc n) {x} k = go (tested (eqb (getD (w .numbers) n 0) 0)) (standing-of n)
+    where
+      more : (r : ℕ) × (r < n) × Used r × (x ≡ reportIn w r) → (r : ℕ) × (r < suc n) × Used r × (x ≡ reportIn w r)
+      more s = let below : s .0 < n = s .1 in (s .0, omega arith, s .2, s .3)
+
+      go : Tested (eqb (getD (w .numbers) n 0) 0) → (x ∈ standing w n → (r : ℕ) × (r < n) × Used r × (x ≡ reportIn w r)) → (r : ℕ) × (r < suc n) × Used r × (x ≡ reportIn w r)
+      go (passed t) rest = more (rest (rw (t, standing) at k))
+      go (failed f) rest =
+          ⊎-elim (λ e. (n, omega arith, eqb-false _ _ f, e)) (λ q. more (rest q)) (List·Memᴰ·cases-cons (rw (f, standing) at k))
+
+module _ (w : Window) (fit : fitWindow w ≡ true) where
+  facts : Fit w
+  facts = fit-facts w fit
+
+  ranges : Counts (w .size) (w .entered) (w .held)
+  ranges = facts .ranges
+
+  row : (r : ℕ) → r < 1024 → Held-in (due (w .size) (w .entered) (w .held) r) (getD (w .numbers) r 0) (getD (w .losses) r 0) (getD (w .shakes) r 0)
+  row r below = row-holds _ _ _ _ (facts .rows r below)
+
+  in-ring : (m : ℕ) → rowOf (w .size) m < 1024
+  in-ring m = omega (arith, mod-lt (m - 1) (ranges .some), ranges .within)
+
+  -- the values that stand in a row are whole
+  whole : (r : ℕ) → r < 1024 → reportIn w r ≡ record { number = getD (w .numbers) r 0; loss = getD (w .losses) r 0; shake = getD (w .shakes) r 0 }
+  whole r below =
+      let h = row r below in
+      rw (low (getD (w .losses) r 0) (h .loss-fits), low (getD (w .shakes) r 0) (h .shake-fits))
+    where
+      low : (n : ℕ) → n ≤ 4095 → n % 4096 ≡ n
+      low n l = omega arith
+
+  -- Every held report has permitted values.
+  pub held-permitted : All Permitted (heldReports w)
+  held-permitted x k =
+      let r = held-of w ranges k in
+      let h = row (rowOf (w .size) (r .0)) (in-ring (r .0)) in
+      subst Permitted (sym (r .3)) (record { loss-fits = h .loss-fits; shake-fits = h .shake-fits })
+
+  stands : (m : ℕ) → w .entered < m + w .held → m ≤ w .entered → reportOf w m ∈ standing w 1024
+  stands m late entered = moved same (standing-in w 1024 r (in-ring m) used)
+    where
+      r : ℕ
+      r = rowOf (w .size) m
+
+      number : getD (w .numbers) r 0 ≡ m
+      number =
+          row r (in-ring m) .as-due
+          ∙ due-held (w .size) (ranges .some) (w .entered) (w .held) (ranges .has-rows) (ranges .were-entered) m late entered
+
+      used : Used w r
+      used e = omega (arith, number, ranges .were-entered)
+
+      same : reportIn w r ≡ reportOf w m
+      same = whole r (in-ring m) ∙ rw number
+
+  held-there : (r : ℕ) → r < 1024 → Used w r → reportIn w r ∈ heldReports w
+  held-there r below used = moved (sym same) (held-in w ranges m (k .late) (k .entered))
+    where
+      m : ℕ
+      m = due (w .size) (w .entered) (w .held) r
+
+      number : getD (w .numbers) r 0 ≡ m
+      number = row r below .as-due
+
+      k : Kept (w .size) (ranges .some) (w .entered) (w .held) (ranges .has-rows) (ranges .were-entered) r m
+      k = due-kept (w .size) (ranges .some) (w .entered) (w .held) (ranges .has-rows) (ranges .were-entered) r (λ e. used (number ∙ e))
+
+      same : reportIn w r ≡ reportOf w m
+      same = whole r below ∙ rw (k .its-row, number)
+
+  -- What stands in the rows of a fit window are the held reports.
+  pub standing-held : Same (standing w 1024) (heldReports w)
+  standing-held = (
+    λ x k. let r = standing-of w 1024 k in moved (sym (r .3)) (held-there (r .0) (r .1) (r .2)),
+    λ x k. let r = held-of w ranges k in moved (sym (r .3)) (stands (r .0) (r .1) (r .2)),
+  )
+
+  -- So the best k of either is the same.
+  pub best-standing : (q : Weights) (k : ℕ) → best above k (map (entry q) (standing w 1024)) ≡ best above k (map (entry q) (heldReports w))
+  best-standing q k =
+      best-same above above-strict k (map (entry q) (standing w 1024)) (map (entry q) (heldReports w)) (
+        mapped (standing w 1024) (heldReports w) (standing-held .0),
+        mapped (heldReports w) (standing w 1024) (standing-held .1),
+      )
+    where
+      mapped : (xs ys : List Held) → ((x : Held) → x ∈ xs → x ∈ ys) → (e : Entry) → e ∈ map (entry q) xs → e ∈ map (entry q) ys
+      mapped xs ys h e k =
+          let r = Memᴰ·of-map (entry q) xs k in
+          moved (r .2) (Memᴰ·map (entry q) (h (r .0) (r .1)))
