@@ -1,3 +1,6 @@
 pub mod Stored
 pub mod Placed
 pub mod Ending
+pub mod Taking
+pub mod Marking
+pub mod Steps

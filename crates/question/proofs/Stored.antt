@@ -151,6 +151,11 @@ cut-lines q r n e m f =
     ∙ ap (λ j. take j (lines q)) (f ∙ ap (min (q .k)) (e ∙ sym (length-lines q r)))
     ∙ sym (take-min (q .k) (lines q))
 
+pub all-lines : (q : Question) → Roomy (q .numbers) (q .scores) → (n : ℕ) → n ≡ shown q → (m : ℕ) → m ≡ n → take m (take n (linesOf (q .numbers) (q .scores))) ≡ lines q
+all-lines q r n e m f =
+    let l = take n (linesOf (q .numbers) (q .scores)) in
+    take-all m l (omega (arith, length-front (q .numbers) (q .scores) r n (omega arith))) ∙ shown-lines q r n e
+
 -- the last line
 pub last-line : (q : Question) → Roomy (q .numbers) (q .scores) → (i : ℕ) → i + 1 ≡ shown q → (p : Entry → Bool) → onLast p (lines q) ≡ p (lineAt (q .numbers) (q .scores) i)
 last-line q r i e p = go (lines q) refl

@@ -8,12 +8,13 @@ use lib.IntN.{ℤ, pos}
 use lib.Signed.{leZ}
 use Rattle.ranking.specs.declared.Weights.{Weights}
 use Rattle.ranking.specs.Best.{best, place, onLast, only}
-use Rattle.ranking.specs.Cells.{inRange, cell, visiting, placeOf, cellAt}
-use Rattle.ranking.specs.Search.{steps, found}
+use Rattle.ranking.specs.Cells.{inRange, cell, cells, visiting, placeOf, cellAt}
+use Rattle.ranking.specs.Search.{has, steps, found}
 use Rattle.ranking.specs.Standing.{Held, Entry, above, entry, reaches, searchOf}
 use Rattle.window.specs.declared.Window.{Window}
 use Rattle.window.specs.Rows.{reportOf, heldReports, fitWindow, standing}
 use Rattle.question.specs.declared.Question.{Question}
+use Rattle.question.specs.declared.Searched.{Searched}
 
 -- The lines of a list, from their numbers and scores.
 abbrev pub linesOf : List ℕ → List ℤ → List Entry
@@ -42,11 +43,11 @@ abbrev pub emptySlot : Question
 emptySlot = asked 0 (record { loss = pos 0; shake = pos 0 }) [] 0
 
 -- The steps that the search has taken: the cells before the next one in the visiting order, all of them where none is left.
-abbrev pub stepsTaken : Question → ℕ
+unfoldable pub stepsTaken : Question → ℕ
 stepsTaken q = cond (ltb (q .next) 256) (placeOf (q .weights) (q .next)) 256
 
 -- "Those n cells are marked."
-abbrev pub marked : Question → List ℕ
+unfoldable pub marked : Question → List ℕ
 marked q = take (stepsTaken q) (visiting (q .weights))
 
 -- One entry put in its rank among the lines, "each once"; a list has room for 16.
@@ -56,6 +57,14 @@ withEntry q e = asked (q .k) (q .weights) (take 16 (place above e (lines q))) (q
 -- "The list is cut to k."
 abbrev pub cutToK : Question → Question
 cutToK q = asked (q .k) (q .weights) (take (q .k) (lines q)) (q .next)
+
+-- The cell is among them.
+unfoldable pub isMarked : Question → ℕ → Bool
+isMarked q c = has c (marked q)
+
+-- Of each cell, whether it is marked.
+unfoldable pub marksOf : Question → List Bool
+marksOf q = map (isMarked q) cells
 
 -- "It ends when no cell is left, or when the list has k entries and the next cell's best possible score is below the last entry's score."
 unfoldable pub finished : Question → Bool
@@ -67,14 +76,29 @@ abbrev pub begun : Question → Question
 begun q = asked (q .k) (q .weights) [] (cellAt (q .weights) 0)
 
 -- "The next cell is marked, and the list becomes the best k of its old entries and that cell's held reports, each once."
-abbrev pub stepped : Question → List Held → Question
+unfoldable pub stepped : Question → List Held → Question
 stepped q hs =
     asked (q .k) (q .weights)
     (best above (q .k) (lines q ++ map (entry (q .weights)) (only (λ h. eqb (cell (h .loss) (h .shake)) (q .next)) hs)))
     (cellAt (q .weights) (placeOf (q .weights) (q .next) + 1))
 
 -- A search from its beginning to its end.
-abbrev pub searched : Question → List Held → Question
+unfoldable pub searched : Question → List Held → Question
 searched q hs =
     asked (q .k) (q .weights) (found (searchOf (q .weights)) (q .k) hs)
     (cellAt (q .weights) (steps (searchOf (q .weights)) (q .k) hs))
+
+-- The reports that stand in a window's rows, whatever they hold; of a fit window they are the held ones.
+unfoldable pub inRows : Window → List Held
+inRows w = standing w 1024
+
+-- A step on whatever stands in a window's rows; none, where k is over 16 or no cell is left.
+unfoldable pub stepOn : Question → Window → Question
+stepOn q w = cond (leb (q .k) 16 && ltb (q .next) 256) (stepped q (inRows w)) q
+
+-- A search of whatever stands in a window's rows, and its steps; none, where k is over 16.
+unfoldable pub searchedOn : Question → Window → Searched
+searchedOn q w =
+    cond (leb (q .k) 16)
+    (record { steps = steps (searchOf (q .weights)) (q .k) (inRows w); question = searched q (inRows w) })
+    (record { steps = 0; question = q })

@@ -1,13 +1,16 @@
 // One question: its weights, its list of at most 16 lines, and how far its search has come.
 ghost use mathlib.Core.Path.{_≡_};
 ghost use mathlib.Core.List.{[]};
-ghost use Prim.Native.Nat.{min};
-ghost use Rattle.question.specs.Lines.{asked, emptySlot, withEntry, cutToK, finished};
-ghost use Rattle.question.specs.Inner.{pushed, shown, passed, closed, joined};
+ghost use Prim.Native.Nat.{min, _%_, _≤_};
+ghost use Rattle.ranking.specs.Best.{best};
+ghost use Rattle.ranking.specs.Standing.{above};
+ghost use Rattle.question.specs.Lines.{asked, lines, emptySlot, withEntry, cutToK, finished, begun, stepOn, searchedOn, stepsTaken, isMarked, marksOf};
+ghost use Rattle.question.specs.Inner.{pushed, shown, passed, closed, joined, taking, listTaken, at};
 
 use ranking::Grid;
 use ranking::Weights;
 use ranking::ranks_above;
+use window::Window;
 
 // `next` is the cell that the search takes next, 256 where none is left: the cells before it in the visiting order are the
 // marked ones. An empty slot has k 0 and everything else 0, and so has every line past the first `len`.
@@ -18,6 +21,12 @@ pub struct Question {
     pub scores: [i32; 16],
     pub len: u8,
     pub next: u16,
+}
+
+// A question whose search has ended, and the steps that it took.
+pub struct Searched {
+    pub steps: u16,
+    pub question: Question,
 }
 
 // A list under way, while one entry waits for its rank among the lines that are still to come.
@@ -146,6 +155,134 @@ impl Question {
         let scores = self.scores;
         let last = n - 1;
         self.weights.best(next as u8) < scores[last]
+    }
+
+    // A search anew: no lines, and the first cell is next.
+    fn begun(self) -> Question
+        ensures { λ r. ⌜ r ≡ begun self ⌝ }
+    {
+        Question::blank(self.k, self.weights, self.weights.first() as u16)
+    }
+
+    // The best k of the lines.
+    fn ranked(self) -> Question
+        requires { ⌜ self .k ≤ 16 ⌝ }
+        ensures { λ r. ⌜ r ≡ asked (self .k) (self .weights) (best above (self .k) (lines self)) (self .next) ⌝ }
+    {
+        let n = self.shown() as usize;
+        let numbers = self.numbers;
+        let scores = self.scores;
+        let mut list = Question::blank(self.k, self.weights, self.next);
+        let mut i: usize = 0;
+        while i < n {
+            list = list.joined(numbers[i], scores[i]);
+            i += 1;
+        }
+        list
+    }
+
+    // The report of one row joins the lines, if it lies in the next cell.
+    fn taking(self, number: u32, loss: u16, shake: u16) -> Question
+        ensures { λ r. ⌜ r ≡ taking self (record { number = number; loss = loss % 4096; shake = shake % 4096 }) ⌝ }
+    {
+        if number == 0 {
+            return self;
+        }
+        if Grid::cell(loss, shake) as u16 != self.next {
+            return self;
+        }
+        self.joined(number, self.weights.score(loss, shake))
+    }
+
+    // The best k of the lines and of the next cell's reports.
+    fn list_taken(self, window: Window) -> Question
+        requires { ⌜ self .k ≤ 16 ⌝ }
+        ensures { λ r. ⌜ r ≡ listTaken self window 1024 ⌝ }
+    {
+        let mut list = self.ranked();
+        let mut row: usize = 0;
+        while row < 1024 {
+            list = list.taking(window.numbers[row], window.losses[row], window.shakes[row]);
+            row += 1;
+        }
+        list
+    }
+
+    // The same list, and another cell is next.
+    fn at(self, next: u16) -> Question
+        ensures { λ r. ⌜ r ≡ at self next ⌝ }
+    {
+        let mut question = self;
+        question.next = next;
+        question
+    }
+
+    // One step of the search, whatever the window's rows hold; none, where k is over 16 or no cell is left.
+    pub fn stepped(self, window: Window) -> Question
+        ensures { λ r. ⌜ r ≡ stepOn self window ⌝ }
+    {
+        let next = self.next;
+        if Question::LINES < self.k {
+            return self;
+        }
+        if Grid::CELLS <= next {
+            return self;
+        }
+        self.list_taken(window).at(self.weights.next(next as u8))
+    }
+
+    // A search from its beginning to its end, whatever the window's rows hold; none, where k is over 16.
+    pub fn searched(self, window: Window) -> Searched
+        ensures { λ r. ⌜ r ≡ searchedOn self window ⌝ }
+    {
+        if Question::LINES < self.k {
+            return Searched {
+                steps: 0,
+                question: self,
+            };
+        }
+        let mut steps: u16 = 0;
+        let mut question = self.begun();
+        while !question.finished() {
+            question = question.stepped(window);
+            steps += 1;
+        }
+        Searched { steps, question }
+    }
+
+    // The steps that the search has taken.
+    pub fn steps(self) -> u16
+        ensures { λ r. ⌜ r ≡ stepsTaken self ⌝ }
+    {
+        let next = self.next;
+        if next < Grid::CELLS {
+            return self.weights.rank(next as u8);
+        }
+        Grid::CELLS
+    }
+
+    // The search has taken this cell.
+    pub fn marked(self, cell: u8) -> bool
+        ensures { λ r. ⌜ r ≡ isMarked self cell ⌝ }
+    {
+        let next = self.next;
+        if next < Grid::CELLS {
+            return self.weights.before(cell, next as u8);
+        }
+        true
+    }
+
+    // Of each cell, whether the search has taken it.
+    pub fn marks(self) -> [bool; 256]
+        ensures { λ r. ⌜ r ≡ marksOf self ⌝ }
+    {
+        let mut marks = [false; 256];
+        let mut cell: usize = 0;
+        while cell < 256 {
+            marks[cell] = self.marked(cell as u8);
+            cell += 1;
+        }
+        marks
     }
 }
 
