@@ -4,3 +4,4 @@ pub mod Ending
 pub mod Taking
 pub mod Marking
 pub mod Steps
+pub mod Fitness

@@ -111,7 +111,7 @@ abbrev pub lineAt : List ℕ → List ℤ → ℕ → Entry
 lineAt ns ss i = record { number = getD ns i 0; score = getD ss i (pos 0) }
 
 module _ (ns : List ℕ) (ss : List ℤ) (r : Roomy ns ss) where
-  length-all : length (linesOf ns ss) ≡ 16
+  pub length-all : length (linesOf ns ss) ≡ 16
   length-all = length-of ns ss (r .numbers ∙ sym (r .scores)) ∙ r .numbers
 
   module _ (n : ℕ) (h : n ≤ 16) where
