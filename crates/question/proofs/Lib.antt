@@ -5,3 +5,4 @@ pub mod Taking
 pub mod Marking
 pub mod Steps
 pub mod Fitness
+pub mod Doors

@@ -8,7 +8,6 @@ ghost use Rattle.ranking.specs.Standing.{above};
 ghost use Rattle.question.specs.Lines.{asked, linesOf, lines, emptySlot, withEntry, cutToK, finished, begun, stepOn, searchedOn, stepsTaken, isMarked, marksOf};
 ghost use Rattle.question.specs.Calls.{allOf, holdsNumber, heldAs, falls, blank, rangesFit, fitQuestion, stepCall, beginCall};
 ghost use Rattle.question.specs.Inner.{pushed, shown, passed, closed, joined, taking, listTaken, at};
-
 use ranking::Grid;
 use ranking::Weights;
 use ranking::ranks_above;
@@ -55,14 +54,7 @@ impl Question {
     pub fn fresh() -> Question
         ensures { λ r. ⌜ r ≡ emptySlot ⌝ }
     {
-        Question::blank(
-            0,
-            Weights {
-                loss: 0,
-                shake: 0,
-            },
-            0,
-        )
+        Question::blank(0, Weights { loss: 0, shake: 0 }, 0)
     }
 
     // A question with no lines.
@@ -337,17 +329,19 @@ impl Question {
     pub fn begin(self, window: Window) -> Stepped
         ensures { λ r. ⌜ r ≡ beginCall window self ⌝ }
     {
-        if window.fit() {
-            if self.fit(window) {
-                if self.finished() {
-                    return Stepped {
-                        refusal: 0,
-                        question: self.begun(),
-                    };
-                }
-            }
+        if !window.fit() {
+            return self.refused(Question::UNFIT);
         }
-        self.refused(Question::UNFIT)
+        if !self.fit(window) {
+            return self.refused(Question::UNFIT);
+        }
+        if !self.finished() {
+            return self.refused(Question::UNFIT);
+        }
+        Stepped {
+            refusal: 0,
+            question: self.begun(),
+        }
     }
 
     fn refused(self, refusal: u8) -> Stepped
@@ -406,7 +400,12 @@ impl Question {
         let mut i: usize = 0;
         while i + 1 < n {
             let next = i + 1;
-            if !ranks_above(self.scores[i], self.numbers[i], self.scores[next], self.numbers[next]) {
+            if !ranks_above(
+                self.scores[i],
+                self.numbers[i],
+                self.scores[next],
+                self.numbers[next],
+            ) {
                 return false;
             }
             i = next;
