@@ -6,3 +6,5 @@ pub mod Marking
 pub mod Steps
 pub mod Fitness
 pub mod Doors
+pub mod Listed
+pub mod Searches

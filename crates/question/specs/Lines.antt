@@ -82,6 +82,11 @@ stepped q hs =
     (best above (q .k) (lines q ++ map (entry (q .weights)) (only (λ h. eqb (cell (h .loss) (h .shake)) (q .next)) hs)))
     (cellAt (q .weights) (placeOf (q .weights) (q .next) + 1))
 
+-- n steps, one after the other.
+unfoldable pub takes : ℕ → Question → List Held → Question
+takes zero q hs = q
+takes (suc n) q hs = stepped (takes n q hs) hs
+
 -- A search from its beginning to its end.
 unfoldable pub searched : Question → List Held → Question
 searched q hs =
