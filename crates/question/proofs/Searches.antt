@@ -8,7 +8,8 @@ use Prim.Native.Nat.{ℕ, zero, suc, _+_, min, _≤_, _<_}
 use native.Mathlib.Nat.{le-of-eq}
 use native.Mathlib.Numerals.{add-one}
 use native.Mathlib.Omega.{arith}
-use lib.Dec.{eqb}
+use borrow.Author.Tests.{ltb-true, ltb-false}
+use lib.Dec.{eqb, ltb}
 use lib.ListN.{length, take, drop, length-map}
 use lib.Seq.{take-suc}
 use Rattle.ranking.specs.Best.{_∈_, best, only}
@@ -44,16 +45,16 @@ use Rattle.question.proofs.Listed.{fit-asked}
 
 -- no question has taken more than 256 steps
 pub steps-few : (q : Question) → stepsTaken q ≤ 256
-steps-few q = ⊎-elim some none (le-or-lt 256 (q .next))
+steps-few q = go (tested (ltb (q .next) 256))
   where
-    some : 256 ≤ q .next → stepsTaken q ≤ 256
-    some h = le-of-eq (steps-all q h)
+    below : {n : ℕ} → n < 256 → n ≤ 256
+    below l = omega arith
 
-    none : q .next < 256 → stepsTaken q ≤ 256
-    none h = rw (steps-left q h) (below (at-place (q .weights) (q .next) h .0))
-      where
-        below : {n : ℕ} → n < 256 → n ≤ 256
-        below l = omega arith
+    go : Tested (ltb (q .next) 256) → stepsTaken q ≤ 256
+    go (passed t) =
+        let h = ltb-true (q .next) 256 t in
+        rw (steps-left q h) (below (at-place (q .weights) (q .next) h .0))
+    go (failed t) = le-of-eq (steps-all q (ltb-false (q .next) 256 t))
 
 -- a question whose next cell is at the place n has taken n steps
 pub steps-at : (q : Question) (n : ℕ) → n ≤ 256 → q .next ≡ cellAt (q .weights) n → stepsTaken q ≡ n
@@ -104,3 +105,112 @@ one-step q hs small left = record { list = listed; next-marked = then-marked; co
         ap (λ m. take m (visiting w)) (then ∙ ap (λ m. m + 1) (steps-left q left) ∙ add-one n)
         ∙ take-suc (visiting w) n 256 (rw (length-visiting w) (place .0))
         ∙ ap₂ (λ m c. take m (visiting w) ++ (c ∷ [])) (sym (steps-left q left)) (place .1)
+
+-- ---- n steps
+
+-- "After n steps the list is the best k of the reports in the first n cells, and those n cells are marked."
+pub record After (q : Question) (hs : List Held) (n : ℕ) (p : Question) : Type 0 where
+  pub list : lines p ≡ listAfter (searchOf (q .weights)) (q .k) hs n
+  pub marks-are : marked p ≡ take n (visiting (q .weights))
+  pub counted : stepsTaken p ≡ n
+  pub stored : p ≡ asked (q .k) (q .weights) (lines p) (cellAt (q .weights) n)
+
+module _ (q : Question) (small : q .k ≤ 16) (hs : List Held) where
+  abbrev w : Weights
+  w = q .weights
+
+  pub takes-reached : (n : ℕ) → n ≤ 256 → takes n (begun q) hs ≡ reached (q .k) w hs n
+  unfolding takes
+  takes-reached zero h = reached-none (q .k) small w hs
+  takes-reached (suc n) h =
+      ap (λ b. stepped b hs) (takes-reached n (omega arith)) ∙ reached-more (q .k) small w hs n h
+
+  pub after-reached : (n : ℕ) → n ≤ 256 → After q hs n (reached (q .k) w hs n)
+  unfolding reached marked
+  after-reached n h =
+      let back = reached-lines (q .k) small w hs n in
+      let count = steps-at (reached (q .k) w hs n) n h refl in
+      record {
+        list = back;
+        marks-are = ap (λ m. take m (visiting w)) count;
+        counted = count;
+        stored = ap (λ l. asked (q .k) w l (cellAt w n)) (sym back);
+      }
+
+  -- From the beginning, by steps alone.
+  pub n-steps : (n : ℕ) → n ≤ 256 → After q hs n (takes n (begun q) hs)
+  n-steps n h = subst (After q hs n) (sym (takes-reached n h)) (after-reached n h)
+
+  -- ---- the end
+
+  pub searched-is : searched q hs ≡ reached (q .k) w hs (steps (searchOf w) (q .k) hs)
+  unfolding searched reached
+  searched-is = refl
+
+  -- A search is stepping until it has ended, and it has not ended before.
+  pub record Whole : Type 0 where
+    pub by-steps : searched q hs ≡ takes (steps (searchOf w) (q .k) hs) (begun q) hs
+    pub has-ended : finished (searched q hs) ≡ true
+    pub not-before : (n : ℕ) → n < steps (searchOf w) (q .k) hs → finished (takes n (begun q) hs) ≡ false
+    pub few : steps (searchOf w) (q .k) hs ≤ 256
+    pub come-to : After q hs (steps (searchOf w) (q .k) hs) (searched q hs)
+
+  pub whole-search : Whole
+  whole-search =
+      let few = steps-bounded w (q .k) hs in
+      record {
+        by-steps = searched-is ∙ sym (takes-reached (steps (searchOf w) (q .k) hs) few);
+        has-ended = ap finished searched-is ∙ reached-end (q .k) small w hs (steps (searchOf w) (q .k) hs) few ∙ ends (searchOf w) (q .k) hs;
+        not-before = λ n l. before n (less l) l;
+        few = few;
+        come-to = subst (After q hs (steps (searchOf w) (q .k) hs)) (sym searched-is) (after-reached (steps (searchOf w) (q .k) hs) few);
+      }
+    where
+      less : {n : ℕ} → n < steps (searchOf w) (q .k) hs → n ≤ 256
+      less l = omega (arith, steps-bounded w (q .k) hs)
+
+      before : (n : ℕ) → n ≤ 256 → n < steps (searchOf w) (q .k) hs → finished (takes n (begun q) hs) ≡ false
+      before n h l = ap finished (takes-reached n h) ∙ reached-end (q .k) small w hs n h ∙ goes-on (searchOf w) (q .k) hs n l
+
+-- ---- of a fit window
+
+-- Demands 2 and 3 at the end of a search, for a fit window: the list is the best k of all that is held, a cell is marked exactly where it is wanted, and the steps are the number of the marked cells.
+pub record Found (w : Window) (q p : Question) : Type 0 where
+  pub list : lines p ≡ best above (q .k) (map (entry (q .weights)) (heldReports w))
+  pub length-is : length (lines p) ≡ min (q .k) (w .held)
+  pub marks-are : (c : ℕ) → c < 256 → isMarked p c ≡ true ↔ Wanted (q .weights) (q .k) (heldReports w) (w .entered + 1) c
+  pub steps-are : stepsTaken p ≡ length (only (isMarked p) cells)
+
+pub search-finds : (w : Window) → fitWindow w ≡ true → (q : Question) → 1 ≤ q .k → q .k ≤ 16 → Found w q (searched q (heldReports w))
+unfolding isMarked
+search-finds w fit q some small =
+    record {
+      list = list;
+      length-is = ap length list ∙ length-list (q .weights) (q .k) hs (held-distinct w) ∙ ap (min (q .k)) (length-held w);
+      marks-are = is;
+      steps-are = come .counted ∙ exact .number (isMarked p) is;
+    }
+  where
+    hs : List Held
+    hs = heldReports w
+
+    p : Question
+    p = searched q hs
+
+    newer : (r : Held) → r ∈ hs → r .number < w .entered + 1
+    newer r m = omega (arith, held-latest w (window.fit-facts w fit .ranges) r m .1)
+
+    exact : Exact (q .weights) (q .k) hs (w .entered + 1)
+    exact = demand-3 (q .weights) (q .k) some hs (held-permitted w fit) (w .entered + 1) newer
+
+    come : After q hs (steps (searchOf (q .weights)) (q .k) hs) p
+    come = whole-search q small hs .come-to
+
+    list : lines p ≡ best above (q .k) (map (entry (q .weights)) hs)
+    list = come .list ∙ exact .list
+
+    is : (c : ℕ) → c < 256 → isMarked p c ≡ true ↔ Wanted (q .weights) (q .k) hs (w .entered + 1) c
+    is c h = (
+      λ t. exact .marks-are c h .0 (subst (λ l. c ∈ l) (come .marks-are) (has-in c (marked p) t)),
+      λ v. in-has c (marked p) (subst (λ l. c ∈ l) (sym (come .marks-are)) (exact .marks-are c h .1 v)),
+    )
