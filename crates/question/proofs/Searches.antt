@@ -8,7 +8,7 @@ use Prim.Native.Nat.{ℕ, zero, suc, _+_, min, _≤_, _<_}
 use native.Mathlib.Nat.{le-of-eq}
 use native.Mathlib.Numerals.{add-one}
 use native.Mathlib.Omega.{arith}
-use borrow.Author.Tests.{ltb-true, ltb-false}
+use borrow.Author.Tests.{ltb-true, ltb-false, le-leb}
 use lib.Dec.{eqb, ltb}
 use lib.ListN.{length, take, drop, length-map}
 use lib.Seq.{take-suc}
@@ -32,7 +32,7 @@ use Rattle.window.proofs.Standing.{held-permitted}
 use Rattle.question.specs.declared.Question.{Question}
 use Rattle.question.specs.declared.Searched.{Searched}
 use Rattle.question.specs.declared.Stepped.{Stepped}
-use Rattle.question.specs.Lines.{lines, asked, stepsTaken, marked, isMarked, finished, begun, stepped, takes, searched, inRows, searchedOn}
+use Rattle.question.specs.Lines.{lines, asked, stepsTaken, marked, isMarked, finished, begun, stepped, takes, searched, searchedIn, inRows, searchedOn}
 use Rattle.question.specs.Calls.{fitQuestion, stepCall}
 use Rattle.question.proofs.Stored.{lines-asked}
 use Rattle.question.proofs.Taking.{if-so}
@@ -214,3 +214,117 @@ search-finds w fit q some small =
       λ t. exact .marks-are c h .0 (subst (λ l. c ∈ l) (come .marks-are) (has-in c (marked p) t)),
       λ v. in-has c (marked p) (subst (λ l. c ∈ l) (sym (come .marks-are)) (exact .marks-are c h .1 v)),
     )
+
+-- ---- which windows give the same
+
+-- Locality: any reports that are the same in the marked cells, and others only in unmarked cells, give the same search.
+pub same-search : (q : Question) (hs hs′ : List Held) → Same (heldIn (searchOf (q .weights)) (marks (searchOf (q .weights)) (q .k) hs) hs) (heldIn (searchOf (q .weights)) (marks (searchOf (q .weights)) (q .k) hs) hs′) → searchedIn q hs ≡ searchedIn q hs′
+unfolding searched
+same-search q hs hs′ same =
+    ap₂ (λ n l. record { steps = n; question = asked (q .k) (q .weights) l (cellAt (q .weights) n) }) (alike .same-steps) (alike .same-list)
+  where
+    alike : Alike (q .weights) (q .k) hs hs′
+    alike = local (q .weights) (q .k) hs hs′ same
+
+-- What stands in the rows of a fit window is searched as what it holds.
+pub searched-held : (w : Window) → fitWindow w ≡ true → (q : Question) → q .k ≤ 16 → searchedOn q w ≡ searchedIn q (heldReports w)
+unfolding searchedOn
+searched-held w fit q small =
+    if-so (searchedIn q (inRows w)) (record { steps = 0; question = q }) (le-leb (q .k) 16 small)
+    ∙ same-search q (inRows w) (heldReports w) (over (inRows w) (heldReports w) (same .0), over (heldReports w) (inRows w) (same .1))
+  where
+    same : Same (inRows w) (heldReports w)
+    same = rows-held w fit
+
+    marked-in : Held → Bool
+    marked-in h = has (cell (h .loss) (h .shake)) (marks (searchOf (q .weights)) (q .k) (inRows w))
+
+    over : (rs rs′ : List Held) → rs ⊆ rs′ → only marked-in rs ⊆ only marked-in rs′
+    over rs rs′ f x m = let r = only-of marked-in rs m in only-in marked-in rs′ (f x (r .0)) (r .1)
+
+-- ---- by calls alone
+
+-- A question after n steps is fit, so its next step is not refused before the search's end, and is then.
+module _ (w : Window) (fit : fitWindow w ≡ true) (q : Question) (some : 1 ≤ q .k) (small : q .k ≤ 16) (loss-range : inRange (q .weights .loss) ≡ true) (shake-range : inRange (q .weights .shake) ≡ true) where
+  abbrev hs : List Held
+  hs = heldReports w
+
+  fewer : {A : Type 0} (p : A → Bool) (l : List A) → length (only p l) ≤ length l
+  fewer p [] = omega arith
+  fewer p (x ∷ l) = go (tested (p x)) (fewer p l)
+    where
+      go : Tested (p x) → length (only p l) ≤ length l → length (only p (x ∷ l)) ≤ suc (length l)
+      go (passed e) h = rw (e, only) (omega arith)
+      go (failed e) h = rw (e, only) (omega arith)
+
+  pub reached-fit : (n : ℕ) → n ≤ 256 → fitQuestion w (reached (q .k) (q .weights) hs n) ≡ true
+  unfolding reached
+  reached-fit n h =
+      fit-asked w fit (q .k) (q .weights) l (cellAt (q .weights) n)
+      (record {
+        some = some;
+        small = small;
+        loss-range = loss-range;
+        shake-range = shake-range;
+        cell-range = ⊎-elim near last (lt-or-eq h);
+        short = short;
+      })
+      (λ e m. held-part (searchOf (q .weights)) taken hs e (best-of above above-strict (q .k) inside e m))
+      (best-falling above above-strict (q .k) inside)
+    where
+      taken : List ℕ
+      taken = take n (visiting (q .weights))
+
+      inside : List Entry
+      inside = entries (searchOf (q .weights)) (heldIn (searchOf (q .weights)) taken hs)
+
+      l : List Entry
+      l = best above (q .k) inside
+
+      short : length l ≤ min (q .k) (w .held)
+      short =
+          omega (
+            arith,
+            length-list (q .weights) (q .k) (heldIn (searchOf (q .weights)) taken hs) (pairwise-only (λ (a b : Held). a .number ≡ b .number → ⊥) (λ r. has (cell (r .loss) (r .shake)) taken) hs (held-distinct w)),
+            fewer (λ (r : Held). has (cell (r .loss) (r .shake)) taken) hs,
+            length-held w,
+          )
+
+      near : n < 256 → cellAt (q .weights) n ≤ 256
+      near g = less (cell-at (q .weights) n g)
+        where
+          less : {m : ℕ} → m < 256 → m ≤ 256
+          less k = omega arith
+
+      last : n ≡ 256 → cellAt (q .weights) n ≤ 256
+      last e = le-of-eq (getD-past 256 (visiting (q .weights)) n (left-none (q .weights) n (le-of-eq (sym e))))
+
+  -- every step before the end is answered, and comes to the question after one step more
+  pub calls-step : (n : ℕ) → n < steps (searchOf (q .weights)) (q .k) hs → stepCall w (takes n (begun q) hs) ≡ record { refusal = 0; question = takes (suc n) (begun q) hs }
+  unfolding takes
+  calls-step n l =
+      ap (stepCall w) at
+      ∙ step-goes w here fit fit-here going
+      ∙ ap (λ b. record { refusal = 0; question = b }) (step-held w here fit fit-here going ∙ ap (λ b. stepped b hs) (sym at))
+    where
+      within : n ≤ 256
+      within = omega (arith, steps-bounded (q .weights) (q .k) hs)
+
+      here : Question
+      here = reached (q .k) (q .weights) hs n
+
+      at : takes n (begun q) hs ≡ here
+      at = takes-reached q small hs n within
+
+      fit-here : fitQuestion w here ≡ true
+      fit-here = reached-fit n within
+
+      going : finished here ≡ false
+      going = reached-end (q .k) small (q .weights) hs n within ∙ goes-on (searchOf (q .weights)) (q .k) hs n l
+
+  -- and one more is refused 25
+  pub calls-end : stepCall w (searched q hs) ≡ record { refusal = 25; question = searched q hs }
+  calls-end =
+      step-ended w (searched q hs) fit
+      (ap (fitQuestion w) (searched-is q small hs) ∙ reached-fit (steps (searchOf (q .weights)) (q .k) hs) (steps-bounded (q .weights) (q .k) hs))
+      (whole-search q small hs .has-ended)
