@@ -70,7 +70,7 @@ module _ (w : Window) (fit : fitWindow w ≡ true) (weights : Weights) where
   facts : window.Fit w
   facts = window.fit-facts w fit
 
-  counts : window.Counts (w .size) (w .entered) (w .held)
+  counts : window.Counts w
   counts = facts .ranges
 
   -- the row of a held number has that report's score
@@ -106,9 +106,9 @@ module _ (w : Window) (fit : fitWindow w ≡ true) (weights : Weights) where
           let late : w .entered < s .0 + w .held = s .1 in
           let was : s .0 ≤ w .entered = s .2 in
           let h : Holds (w .size) (w .entered) (w .held) (s .0) = record {
-            some = counts .some;
+            some = counts .ring .some;
             within = counts .within;
-            first = omega (arith, counts .were-entered);
+            first = omega (arith, counts .ring .were-entered);
             was-entered = was;
             late = late;
           } in
