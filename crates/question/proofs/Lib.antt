@@ -8,3 +8,4 @@ pub mod Fitness
 pub mod Doors
 pub mod Listed
 pub mod Searches
+pub mod Outcomes

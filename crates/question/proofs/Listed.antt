@@ -7,9 +7,9 @@ use mathlib.Core.List.{List, [], _∷_, _++_, map, List·Memᴰ·cases-cons, Lis
 use Prim.Native.Nat.{ℕ, zero, suc, _+_, min, _%_, _≤_, _<_}
 use native.Mathlib.Nat.{le-of-suc-le-suc, not-suc-le-zero}
 use native.Mathlib.Omega.{arith}
-use borrow.Author.Tests.{le-leb, lt-ltb}
-use lib.Dec.{leb, ltb}
-use lib.IntN.{pos}
+use borrow.Author.Tests.{le-leb, lt-ltb, eqb-true}
+use lib.Dec.{eqb}
+use lib.IntN.{ℤ, pos}
 use lib.ListN.{length, take, drop, getD, replicate}
 use Rattle.ranking.specs.Best.{_∈_}
 use Rattle.ranking.specs.Cells.{score, inRange}
@@ -26,9 +26,9 @@ use Rattle.window.proofs.Reports.{held-in, held-of}
 use Rattle.question.specs.declared.Question.{Question}
 use Rattle.question.specs.Lines.{linesOf, lines, asked}
 use Rattle.question.specs.Calls.{allOf, equal, holdsNumber, heldAs, falls, blank, rangesFit, fitQuestion}
-use Rattle.question.proofs.Stored.{lines-asked, take-replicate}
+use Rattle.question.proofs.Stored.{Roomy, lines-asked, take-replicate, length-all, length-lines}
 use Rattle.question.proofs.Fitness.{Holds, holds, row-within, equal-same, equal-true}
-use Rattle.question.proofs.Doors.{Ranges}
+use Rattle.question.proofs.Doors.{Ranges, Fit, fit-facts}
 
 -- ---- tests over a list
 
@@ -144,3 +144,94 @@ fit-asked w fit k weights l next r held fall =
   where
     back : lines (asked k weights l next) ≡ l
     back = lines-asked k weights l next (omega (arith, r .small, r .short))
+
+-- ---- a fit question and its meaning
+
+numbers-of : (ns : List ℕ) (ss : List ℤ) → length ns ≡ length ss → map (λ e. e .number) (linesOf ns ss) ≡ ns
+numbers-of [] ss h = refl
+numbers-of (n ∷ ns) [] h = absurd (no (length ns) h)
+  where
+    no : (m : ℕ) → suc m ≡ 0 → ⊥
+    no m e = omega arith
+numbers-of (n ∷ ns) (s ∷ ss) h = ap (λ l. n ∷ l) (numbers-of ns ss (less (length ns) (length ss) h))
+  where
+    less : (a b : ℕ) → suc a ≡ suc b → a ≡ b
+    less a b e = omega arith
+
+scores-of : (ns : List ℕ) (ss : List ℤ) → length ns ≡ length ss → map (λ e. e .score) (linesOf ns ss) ≡ ss
+scores-of [] [] h = refl
+scores-of [] (s ∷ ss) h = absurd (no (length ss) h)
+  where
+    no : (m : ℕ) → 0 ≡ suc m → ⊥
+    no m e = omega arith
+scores-of (n ∷ ns) [] h = absurd (no (length ns) h)
+  where
+    no : (m : ℕ) → suc m ≡ 0 → ⊥
+    no m e = omega arith
+scores-of (n ∷ ns) (s ∷ ss) h = ap (λ l. s ∷ l) (scores-of ns ss (less (length ns) (length ss) h))
+  where
+    less : (a b : ℕ) → suc a ≡ suc b → a ≡ b
+    less a b e = omega arith
+
+module _ {A : Type 0} (f : Entry → A) (d : A) where
+  alike : (l : List Entry) → ((e : Entry) → e ∈ l → f e ≡ d) → replicate (length l) d ≡ map f l
+  alike [] h = refl
+  alike (x ∷ l) h = ap₂ (λ a m. a ∷ m) (sym (h x here)) (alike l (λ e m. h e (there m)))
+
+  -- a column whose rest is d is stored as its first lines
+  column-back : (n p : ℕ) → n ≤ p → (len : ℕ) (l : List Entry) → length l ≡ n → ((e : Entry) → e ∈ drop len l → f e ≡ d) → take n (map f (take len l) ++ replicate p d) ≡ map f l
+  column-back n p h zero l e rest = take-replicate d n p h ∙ ap (λ m. replicate m d) (sym e) ∙ alike l rest
+  column-back n p h (suc len) [] e rest = take-replicate d n p h ∙ ap (λ m. replicate m d) (sym e)
+  column-back zero p h (suc len) (x ∷ l) e rest = absurd (no (length l) e)
+    where
+      no : (m : ℕ) → suc m ≡ 0 → ⊥
+      no m e = omega arith
+  column-back (suc n) p h (suc len) (x ∷ l) e rest =
+      ap (λ m. f x ∷ m) (column-back n p (omega arith) len l (less (length l) n e) rest)
+    where
+      less : (a b : ℕ) → suc a ≡ suc b → a ≡ b
+      less a b e = omega arith
+
+-- A fit question is its list, stored: k, weights, lines and next cell say all of it.
+pub fit-stored : (w : Window) (q : Question) → Roomy (q .numbers) (q .scores) → fitQuestion w q ≡ true → q ≡ asked (q .k) (q .weights) (lines q) (q .next)
+fit-stored w q room fit i =
+    record {
+      k = q .k;
+      weights = q .weights;
+      numbers = numbers i;
+      scores = scores i;
+      len = len i;
+      next = q .next;
+    }
+  where
+    facts : Fit w q
+    facts = fit-facts w q fit
+
+    L : List Entry
+    L = linesOf (q .numbers) (q .scores)
+
+    zeros : (e : Entry) → e ∈ drop (q .len) L → (e .number ≡ 0) × (e .score ≡ pos 0)
+    zeros e m =
+        let both = and-both (eqb (e .number) 0) (equal (e .score) (pos 0)) (all-in blank (drop (q .len) L) (facts .rest) e m) in
+        (eqb-true (e .number) 0 (both .0), equal-true (e .score) (pos 0) (both .1))
+
+    as-long : length (q .numbers) ≡ length (q .scores)
+    as-long = room .numbers ∙ sym (room .scores)
+
+    numbers : q .numbers ≡ take 16 (map (λ e. e .number) (lines q) ++ replicate 16 0)
+    numbers =
+        sym
+        (column-back (λ e. e .number) 0 16 16 (omega arith) (q .len) L (length-all (q .numbers) (q .scores) room) (λ e m. zeros e m .0)
+        ∙ numbers-of (q .numbers) (q .scores) as-long)
+
+    scores : q .scores ≡ take 16 (map (λ e. e .score) (lines q) ++ replicate 16 (pos 0))
+    scores =
+        sym
+        (column-back (λ e. e .score) (pos 0) 16 16 (omega arith) (q .len) L (length-all (q .numbers) (q .scores) room) (λ e m. zeros e m .1)
+        ∙ scores-of (q .numbers) (q .scores) as-long)
+
+    len : q .len ≡ length (lines q)
+    len = sym (length-lines q room ∙ few)
+      where
+        few : min (q .len) 16 ≡ q .len
+        few = omega (arith, facts .numbers .small, facts .numbers .short)

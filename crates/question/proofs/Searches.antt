@@ -106,6 +106,18 @@ one-step q hs small left = record { list = listed; next-marked = then-marked; co
         ∙ take-suc (visiting w) n 256 (rw (length-visiting w) (place .0))
         ∙ ap₂ (λ m c. take m (visiting w) ++ (c ∷ [])) (sym (steps-left q left)) (place .1)
 
+-- "Beginning a search anew: empty list, no marks, no steps taken."
+pub record Beginning (q : Question) : Type 0 where
+  pub no-lines : lines (begun q) ≡ []
+  pub no-marks : marked (begun q) ≡ []
+  pub no-steps : stepsTaken (begun q) ≡ 0
+
+pub beginning : (q : Question) → Beginning q
+unfolding marked
+beginning q =
+    let none = steps-at (begun q) 0 (omega arith) refl in
+    record { no-lines = refl; no-marks = ap (λ n. take n (visiting (q .weights))) none; no-steps = none }
+
 -- ---- n steps
 
 -- "After n steps the list is the best k of the reports in the first n cells, and those n cells are marked."
