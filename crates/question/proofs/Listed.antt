@@ -2,25 +2,24 @@
 -- Assumes nothing.
 use mathlib.Core.Path.{_≡_, refl, sym, ap, ap₂, _∙_, subst}
 use mathlib.Core.Logic.{⊎-elim, _↔_}
-use mathlib.Core.Bool.{Bool, true, _&&_}
+use mathlib.Core.Bool.{Bool, true}
 use mathlib.Core.List.{List, [], _∷_, _++_, map, List·Memᴰ·cases-cons, List·Memᴰ·not-nil, Memᴰ·map, Memᴰ·of-map}
 use Prim.Native.Nat.{ℕ, zero, suc, _+_, min, _%_, _≤_, _<_}
-use native.Mathlib.Nat.{le-of-suc-le-suc, not-suc-le-zero}
 use native.Mathlib.Omega.{arith}
 use borrow.Author.Tests.{le-leb, lt-ltb, eqb-true}
 use lib.Dec.{eqb}
 use lib.IntN.{ℤ, pos}
 use lib.ListN.{length, take, drop, getD, replicate}
 use Rattle.ranking.specs.Best.{_∈_}
-use Rattle.ranking.specs.Cells.{score, inRange}
-use Rattle.ranking.specs.Standing.{Held, Entry, above, entry}
+use Rattle.ranking.specs.Cells.{score}
+use Rattle.ranking.specs.Standing.{Entry, above, entry}
 use Rattle.ranking.specs.declared.Weights.{Weights}
 use Rattle.ranking.proofs.Tests.{and-both, and-true}
 use Rattle.ranking.proofs.Lists.{here, there, moved}
 use Rattle.ranking.proofs.Best.{Falling}
 use Rattle.ranking.proofs.Standing.{above-strict}
 use Rattle.window.specs.declared.Window.{Window}
-use Rattle.window.specs.Rows.{sized, rowOf, reportOf, reportIn, heldReports, due, fitWindow}
+use Rattle.window.specs.Rows.{rowOf, reportOf, reportIn, heldReports, due, fitWindow}
 use Rattle.window.proofs.Fitness as window
 use Rattle.window.proofs.Reports.{held-in, held-of}
 use Rattle.question.specs.declared.Question.{Question}

@@ -1,6 +1,7 @@
 -- A list as a question stores it: each column by induction on the list, so that a line pushed behind it and the lines read back are what they should be.
 -- Assumes nothing.
-use mathlib.Core.Path.{_≡_, refl, sym, ap, _∙_, subst}
+use mathlib.Core.Path.{_≡_, refl, sym, ap, _∙_}
+use mathlib.Core.Logic.{⊎-elim}
 use mathlib.Core.Bool.{Bool, true, false}
 use mathlib.Core.List.{List, [], _∷_, _++_, map}
 use Prim.Native.Nat.{ℕ, zero, suc, _+_, min, _≤_, _<_}
@@ -17,7 +18,6 @@ use Rattle.ranking.specs.Standing.{Entry}
 use Rattle.ranking.specs.declared.Weights.{Weights}
 use Rattle.ranking.proofs.Lists.{lt-or-eq, last-at}
 use Rattle.ranking.proofs.Tests.{Tested, passed, failed, tested}
-use mathlib.Core.Logic.{_⊎_, ⊎-elim}
 use Rattle.question.specs.declared.Question.{Question}
 use Rattle.question.specs.Lines.{linesOf, lines, asked}
 use Rattle.question.specs.Inner.{pushed, shown}

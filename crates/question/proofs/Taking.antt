@@ -1,10 +1,10 @@
 -- What a scan does to a list: the lines one after the other, and then the rows' reports, are put in their rank and the list is cut, which is the best k of them all.
 -- Assumes nothing.
-use mathlib.Core.Path.{_≡_, refl, sym, ap, ap₂, _∙_, subst}
-use mathlib.Core.Logic.{_⊎_, inl, inr, ⊎-elim}
+use mathlib.Core.Path.{_≡_, sym, ap, ap₂, _∙_, subst}
+use mathlib.Core.Logic.{⊎-elim}
 use mathlib.Core.Bool.{Bool, true, false, cond, _&&_, and-false}
 use mathlib.Core.List.{List, [], _∷_, _++_, map, append-nil, List·Memᴰ·head, List·Memᴰ·cases-cons, Memᴰ·append-left, Memᴰ·append-right, List·Memᴰ·append-cases}
-use Prim.Native.Nat.{ℕ, suc, _+_, min, _≤_, _<_}
+use Prim.Native.Nat.{ℕ, suc, _+_, _≤_, _<_}
 use native.Mathlib.Numerals.{add-one}
 use native.Mathlib.Omega.{arith}
 use borrow.Author.Tests.{lt-leb, le-leb, le-ltb, lt-ltb}
@@ -18,7 +18,7 @@ use Rattle.ranking.specs.Standing.{Held, Entry, above, entry}
 use Rattle.ranking.specs.declared.Weights.{Weights}
 use Rattle.ranking.proofs.Tests.{Tested, passed, failed, tested, and-true}
 use Rattle.ranking.proofs.Lists.{_⊆_, there}
-use Rattle.ranking.proofs.Best.{best-best, best-cons, best-snoc, best-append, best-same, length-best-le}
+use Rattle.ranking.proofs.Best.{best-cons, best-snoc, best-append, best-same, length-best-le}
 use Rattle.ranking.proofs.Standing.{above-strict}
 use Rattle.window.specs.declared.Window.{Window}
 use Rattle.window.specs.Rows.{reportIn, standing}

@@ -1,18 +1,17 @@
 -- A question as it is stored, and what its search does to it (document 01, "Window and questions").
-use Prim.Native.Nat.{ℕ, zero, suc, _+_, _-_, min}
-use mathlib.Core.Bool.{Bool, true, false, cond, not, _&&_, _||_}
+use Prim.Native.Nat.{ℕ, zero, suc, _+_}
+use mathlib.Core.Bool.{Bool, cond, not, _&&_, _||_}
 use mathlib.Core.List.{List, [], _∷_, _++_, map}
-use lib.ListN.{length, getD, take, drop, replicate}
+use lib.ListN.{length, take, replicate}
 use lib.Dec.{leb, ltb, eqb}
 use lib.IntN.{ℤ, pos}
-use lib.Signed.{leZ}
 use Rattle.ranking.specs.declared.Weights.{Weights}
 use Rattle.ranking.specs.Best.{best, place, onLast, only}
-use Rattle.ranking.specs.Cells.{inRange, cell, cells, visiting, placeOf, cellAt}
+use Rattle.ranking.specs.Cells.{cell, cells, visiting, placeOf, cellAt}
 use Rattle.ranking.specs.Search.{has, steps, found}
 use Rattle.ranking.specs.Standing.{Held, Entry, above, entry, reaches, searchOf}
 use Rattle.window.specs.declared.Window.{Window}
-use Rattle.window.specs.Rows.{reportOf, heldReports, fitWindow, standing}
+use Rattle.window.specs.Rows.{standing}
 use Rattle.question.specs.declared.Question.{Question}
 use Rattle.question.specs.declared.Searched.{Searched}
 
