@@ -49,14 +49,6 @@ stepsTaken q = cond (ltb (q .next) 256) (placeOf (q .weights) (q .next)) 256
 unfoldable pub marked : Question → List ℕ
 marked q = take (stepsTaken q) (visiting (q .weights))
 
--- One entry put in its rank among the lines, "each once"; a list has room for 16.
-abbrev pub withEntry : Question → Entry → Question
-withEntry q e = asked (q .k) (q .weights) (take 16 (place above e (lines q))) (q .next)
-
--- "The list is cut to k."
-abbrev pub cutToK : Question → Question
-cutToK q = asked (q .k) (q .weights) (take (q .k) (lines q)) (q .next)
-
 -- The cell is among them.
 unfoldable pub isMarked : Question → ℕ → Bool
 isMarked q c = has c (marked q)
@@ -64,6 +56,14 @@ isMarked q c = has c (marked q)
 -- Of each cell, whether it is marked.
 unfoldable pub marksOf : Question → List Bool
 marksOf q = map (isMarked q) cells
+
+-- One entry put in its rank among the lines, "each once"; a list has room for 16.
+abbrev pub withEntry : Question → Entry → Question
+withEntry q e = asked (q .k) (q .weights) (take 16 (place above e (lines q))) (q .next)
+
+-- "The list is cut to k."
+abbrev pub cutToK : Question → Question
+cutToK q = asked (q .k) (q .weights) (take (q .k) (lines q)) (q .next)
 
 -- "It ends when no cell is left, or when the list has k entries and the next cell's best possible score is below the last entry's score."
 unfoldable pub finished : Question → Bool
@@ -106,7 +106,4 @@ stepOn q w = cond (leb (q .k) 16 && ltb (q .next) 256) (stepped q (inRows w)) q
 
 -- A search of whatever stands in a window's rows, and its steps; none, where k is over 16.
 unfoldable pub searchedOn : Question → Window → Searched
-searchedOn q w =
-    cond (leb (q .k) 16)
-    (searchedIn q (inRows w))
-    (record { steps = 0; question = q })
+searchedOn q w = cond (leb (q .k) 16) (searchedIn q (inRows w)) (record { steps = 0; question = q })
