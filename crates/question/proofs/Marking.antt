@@ -1,0 +1,97 @@
+-- A cell is marked exactly where it stands before the next one in the visiting order; all are where none is left.
+-- Assumes nothing.
+use mathlib.Core.Path.{_≡_, refl, sym, ap, _∙_, subst}
+use mathlib.Core.Logic.{_↔_}
+use mathlib.Core.Bool.{Bool, true, false}
+use mathlib.Core.List.{List, [], _∷_, _++_, map, append-assoc}
+use Prim.Native.Nat.{ℕ, zero, suc, _+_, _≤_, _<_}
+use native.Mathlib.Numerals.{add-one}
+use native.Mathlib.Omega.{arith}
+use borrow.Author.Tests.{lt-ltb, le-ltb}
+use lib.ListN.{length, take, set, length-set}
+use lib.Seq.{take-suc-set, take-all, take-length}
+use Rattle.ranking.specs.Best.{_∈_}
+use Rattle.ranking.specs.Cells.{before, count, visiting, placeOf, cellAt}
+use Rattle.ranking.proofs.Tests.{Tested, passed, failed, tested}
+use Rattle.ranking.proofs.Search.{has-in, in-has}
+use Rattle.ranking.proofs.Cells.{visiting-in, length-visiting}
+use Rattle.ranking.proofs.Scan.{at-place, taken-before}
+use Rattle.question.specs.declared.Question.{Question}
+use Rattle.question.specs.Lines.{stepsTaken, marked, isMarked, marksOf}
+use Rattle.question.proofs.Taking.{if-so, if-not}
+
+-- two tests that pass together are one
+pub one-test : (a b : Bool) → (a ≡ true → b ≡ true) → (b ≡ true → a ≡ true) → a ≡ b
+one-test true b f g = sym (f refl)
+one-test false b f g = go (tested b)
+  where
+    go : Tested b → false ≡ b
+    go (passed e) = g e ∙ sym e
+    go (failed e) = sym e
+
+module _ (q : Question) where
+  pub steps-left : q .next < 256 → stepsTaken q ≡ placeOf (q .weights) (q .next)
+  unfolding stepsTaken
+  steps-left h = if-so (placeOf (q .weights) (q .next)) 256 (lt-ltb (q .next) 256 h)
+
+  pub steps-all : 256 ≤ q .next → stepsTaken q ≡ 256
+  unfolding stepsTaken
+  steps-all h = if-not (placeOf (q .weights) (q .next)) 256 (le-ltb (q .next) 256 h)
+
+  taken : ℕ → List ℕ
+  taken n = take n (visiting (q .weights))
+
+  pub marked-left : q .next < 256 → (c : ℕ) → c < 256 → isMarked q c ≡ before (q .weights) c (q .next)
+  unfolding isMarked marked taken
+  marked-left h c g =
+      one-test (isMarked q c) (before (q .weights) c (q .next))
+      (λ t. subst (λ d. before (q .weights) c d ≡ true) (place .1) (is .0 (subst (λ n. c ∈ taken n) (steps-left h) (has-in c (marked q) t))))
+      (λ b. in-has c (marked q) (subst (λ n. c ∈ taken n) (sym (steps-left h)) (is .1 (subst (λ d. before (q .weights) c d ≡ true) (sym (place .1)) b))))
+    where
+      place : (placeOf (q .weights) (q .next) < 256) × (cellAt (q .weights) (placeOf (q .weights) (q .next)) ≡ q .next)
+      place = at-place (q .weights) (q .next) h
+
+      is : c ∈ take (placeOf (q .weights) (q .next)) (visiting (q .weights)) ↔ before (q .weights) c (cellAt (q .weights) (placeOf (q .weights) (q .next))) ≡ true
+      is = taken-before (q .weights) (placeOf (q .weights) (q .next)) c (place .0) g
+
+  pub marked-all : 256 ≤ q .next → (c : ℕ) → c < 256 → isMarked q c ≡ true
+  unfolding isMarked marked taken
+  marked-all h c g = in-has c (marked q) (subst (λ l. c ∈ l) (sym all) (visiting-in (q .weights) c g))
+    where
+      all : marked q ≡ visiting (q .weights)
+      all =
+          ap taken (steps-all h ∙ sym (length-visiting (q .weights)))
+          ∙ take-length (visiting (q .weights))
+
+count-append : (n : ℕ) (rest : List ℕ) → count n rest ≡ count n [] ++ rest
+count-append zero rest = refl
+count-append (suc n) rest =
+    count-append n (n ∷ rest)
+    ∙ sym (append-assoc (count n []) (n ∷ []) rest)
+    ∙ ap (λ l. l ++ rest) (sym (count-append n (n ∷ [])))
+
+map-append : {A B : Type 0} (f : A → B) (xs ys : List A) → map f (xs ++ ys) ≡ map f xs ++ map f ys
+map-append f [] ys = refl
+map-append f (x ∷ xs) ys = ap (λ l. f x ∷ l) (map-append f xs ys)
+
+-- the first n places of a list hold f of each number
+pub record Filled (f : ℕ → Bool) (n : ℕ) (l : List Bool) : Type 0 where
+  pub whole : length l ≡ 256
+  pub first : take n l ≡ map f (count n [])
+
+pub filled-more : (f : ℕ → Bool) (n : ℕ) (l : List Bool) → n < 256 → Filled f n l → Filled f (n + 1) (set l n (f n))
+filled-more f n l h s =
+    record {
+      whole = length-set l n (f n) ∙ s .whole;
+      first =
+          ap (λ m. take m (set l n (f n))) (add-one n)
+          ∙ take-suc-set l n (f n) (omega (arith, s .whole))
+          ∙ ap (λ m. m ++ (f n ∷ [])) (s .first)
+          ∙ sym (map-append f (count n []) (n ∷ []))
+          ∙ ap (map f) (sym (count-append n (n ∷ [])))
+          ∙ ap (λ m. map f (count m [])) (sym (add-one n));
+    }
+
+pub filled-all : (q : Question) (l : List Bool) → Filled (isMarked q) 256 l → l ≡ marksOf q
+unfolding marksOf
+filled-all q l s = sym (take-all 256 l (omega (arith, s .whole))) ∙ s .first

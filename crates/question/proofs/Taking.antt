@@ -1,0 +1,182 @@
+-- What a scan does to a list: the lines one after the other, and then the rows' reports, are put in their rank and the list is cut, which is the best k of them all.
+-- Assumes nothing.
+use mathlib.Core.Path.{_≡_, sym, ap, ap₂, _∙_, subst}
+use mathlib.Core.Logic.{⊎-elim}
+use mathlib.Core.Bool.{Bool, true, false, cond, _&&_, and-false}
+use mathlib.Core.List.{List, [], _∷_, _++_, map, append-nil, List·Memᴰ·head, List·Memᴰ·cases-cons, Memᴰ·append-left, Memᴰ·append-right, List·Memᴰ·append-cases}
+use Prim.Native.Nat.{ℕ, suc, _+_, _≤_, _<_}
+use native.Mathlib.Numerals.{add-one}
+use native.Mathlib.Omega.{arith}
+use borrow.Author.Tests.{lt-leb, le-leb, le-ltb, lt-ltb}
+use lib.Dec.{eqb, leb, ltb}
+use lib.IntN.{ℤ}
+use lib.ListN.{length, take, getD, length-take}
+use lib.Seq.{take-take, take-nil}
+use Rattle.ranking.specs.Best.{best, place, only}
+use Rattle.ranking.specs.Cells.{cell, placeOf, cellAt}
+use Rattle.ranking.specs.Standing.{Held, Entry, above, entry}
+use Rattle.ranking.specs.declared.Weights.{Weights}
+use Rattle.ranking.proofs.Tests.{Tested, passed, failed, tested, and-true}
+use Rattle.ranking.proofs.Lists.{_⊆_, there}
+use Rattle.ranking.proofs.Best.{best-cons, best-snoc, best-append, best-same, length-best-le}
+use Rattle.ranking.proofs.Standing.{above-strict}
+use Rattle.window.specs.declared.Window.{Window}
+use Rattle.window.specs.Rows.{reportIn, standing}
+use Rattle.question.specs.declared.Question.{Question}
+use Rattle.question.specs.Lines.{linesOf, lines, asked, cutToK, stepped, stepOn, inRows}
+use Rattle.question.specs.Inner.{joined, taking, listTaken, at}
+use Rattle.question.proofs.Stored.{Roomy, lineAt, take-line, lines-asked}
+use Rattle.question.proofs.Placed.{Has, has-none}
+
+-- ---- tests
+
+pub if-so : {A : Type 0} {b : Bool} (x y : A) → b ≡ true → cond b x y ≡ x
+if-so x y e = ap (λ t. cond t x y) e
+
+pub if-not : {A : Type 0} {b : Bool} (x y : A) → b ≡ false → cond b x y ≡ y
+if-not x y e = ap (λ t. cond t x y) e
+
+only-yes : {A : Type 0} (p : A → Bool) (x : A) (l : List A) → p x ≡ true → only p (x ∷ l) ≡ x ∷ only p l
+only-yes p x l e = rw (e, only)
+
+only-no : {A : Type 0} (p : A → Bool) (x : A) (l : List A) → p x ≡ false → only p (x ∷ l) ≡ only p l
+only-no p x l e = rw (e, only)
+
+module _ (q : Question) (h : Held) where
+  pub taking-none : eqb (h .number) 0 ≡ true → taking q h ≡ q
+  unfolding taking
+  taking-none e = if-so _ _ e
+
+  pub taking-other : eqb (h .number) 0 ≡ false → eqb (cell (h .loss) (h .shake)) (q .next) ≡ false → taking q h ≡ q
+  unfolding taking
+  taking-other e f = if-not _ _ e ∙ if-not _ _ f
+
+  pub taking-here : eqb (h .number) 0 ≡ false → eqb (cell (h .loss) (h .shake)) (q .next) ≡ true → taking q h ≡ joined q (entry (q .weights) h)
+  unfolding taking
+  taking-here e f = if-not _ _ e ∙ if-so _ _ f
+
+-- ---- one entry
+
+-- one entry put in its rank, and the list cut
+pub joined-asked : (k : ℕ) (w : Weights) (l : List Entry) (next : ℕ) (e : Entry) → k ≤ 16 → length l ≤ 16 → joined (asked k w l next) e ≡ asked k w (take k (place above e l)) next
+joined-asked k w l next e small r =
+    ap (λ m. cutToK (asked k w (take 16 (place above e m)) next)) (lines-asked k w l next r)
+    ∙ ap (λ m. asked k w (take k m) next) (lines-asked k w (take 16 (place above e l)) next (rw length-take (omega arith)))
+    ∙ ap (λ m. asked k w m next) (take-take k 16 (place above e l) small)
+
+-- ---- the lines
+
+pub ranked-none : (first : Question) (k : ℕ) (w : Weights) (next : ℕ) → first ≡ asked k w [] next → Has first first (best above (first .k) [])
+ranked-none first k w next e = subst (Has first first) (sym (take-nil (first .k))) (has-none first k w next e)
+
+module _ (ns : List ℕ) (ss : List ℤ) (r : Roomy ns ss) (n : ℕ) (h : n ≤ 16) (i : ℕ) (g : i < n) where
+  pub ranked-more : (first q p : Question) → first .k ≤ 16 → Has first q (best above (first .k) (take i (take n (linesOf ns ss)))) → p ≡ joined q (lineAt ns ss i) → Has first p (best above (first .k) (take (i + 1) (take n (linesOf ns ss))))
+  ranked-more first q p small has e =
+      record {
+        room = omega (arith, length-best-le above above-strict k (take (i + 1) L));
+        is =
+            e
+            ∙ ap (λ b. joined b (lineAt ns ss i)) (has .is)
+            ∙ joined-asked k (first .weights) (best above k (take i L)) (first .next) (lineAt ns ss i) small (has .room)
+            ∙ ap (λ m. asked k (first .weights) m (first .next))
+            (sym (best-snoc above above-strict k (take i L) (lineAt ns ss i)) ∙ ap (best above k) (sym (take-line ns ss r n h i g)));
+      }
+    where
+      k : ℕ
+      k = first .k
+
+      L : List Entry
+      L = take n (linesOf ns ss)
+
+-- ---- the rows
+
+module _ (q : Question) (small : q .k ≤ 16) (w : Window) where
+  -- one row more
+  pub taken-more : (row : ℕ) → taking (listTaken q w row) (reportIn w row) ≡ listTaken q w (row + 1)
+  taken-more row = go (tested (eqb (getD (w .numbers) row 0) 0)) (tested (inCell (reportIn w row))) ∙ ap (listTaken q w) (sym (add-one row))
+    where
+      inCell : Held → Bool
+      inCell h = eqb (cell (h .loss) (h .shake)) (q .next)
+
+      e : Entry
+      e = entry (q .weights) (reportIn w row)
+
+      old : List Entry
+      old = map (entry (q .weights)) (only inCell (standing w row))
+
+      listing : List Entry → Question
+      listing l = asked (q .k) (q .weights) (best above (q .k) l) (q .next)
+
+      rows : List Held → Question
+      rows hs = listing (lines q ++ map (entry (q .weights)) (only inCell hs))
+
+      middle : best above (q .k) (lines q ++ (e ∷ old)) ≡ take (q .k) (place above e (best above (q .k) (lines q ++ old)))
+      middle =
+          best-same above above-strict (q .k) (lines q ++ (e ∷ old)) (e ∷ (lines q ++ old)) (to, from)
+          ∙ best-cons above above-strict (q .k) e (lines q ++ old)
+        where
+          to : (lines q ++ (e ∷ old)) ⊆ (e ∷ (lines q ++ old))
+          to z m =
+              ⊎-elim (λ h. there (Memᴰ·append-left old h))
+              (λ h. ⊎-elim (λ p. List·Memᴰ·head p) (λ t. there (Memᴰ·append-right (lines q) t)) (List·Memᴰ·cases-cons h))
+              (List·Memᴰ·append-cases (lines q) m)
+
+          from : (e ∷ (lines q ++ old)) ⊆ (lines q ++ (e ∷ old))
+          from z m =
+              ⊎-elim (λ p. Memᴰ·append-right (lines q) (List·Memᴰ·head p))
+              (λ h. ⊎-elim (λ t. Memᴰ·append-left (e ∷ old) t) (λ t. Memᴰ·append-right (lines q) (there t)) (List·Memᴰ·append-cases (lines q) h))
+              (List·Memᴰ·cases-cons m)
+
+      go : Tested (eqb (getD (w .numbers) row 0) 0) → Tested (inCell (reportIn w row)) → taking (listTaken q w row) (reportIn w row) ≡ listTaken q w (suc row)
+      go (passed z) t = taking-none (listTaken q w row) (reportIn w row) z ∙ ap rows (sym (if-so (standing w row) (reportIn w row ∷ standing w row) z))
+      go (failed z) (failed t) =
+          taking-other (listTaken q w row) (reportIn w row) z t
+          ∙ ap (λ hs. listing (lines q ++ map (entry (q .weights)) hs)) (sym (only-no inCell (reportIn w row) (standing w row) t))
+          ∙ ap rows (sym (if-not (standing w row) (reportIn w row ∷ standing w row) z))
+      go (failed z) (passed t) =
+          taking-here (listTaken q w row) (reportIn w row) z t
+          ∙ joined-asked (q .k) (q .weights) (best above (q .k) (lines q ++ old)) (q .next) e small (omega (arith, length-best-le above above-strict (q .k) (lines q ++ old)))
+          ∙ ap (λ l. asked (q .k) (q .weights) l (q .next)) (sym middle)
+          ∙ ap (λ hs. listing (lines q ++ map (entry (q .weights)) hs)) (sym (only-yes inCell (reportIn w row) (standing w row) t))
+          ∙ ap rows (sym (if-not (standing w row) (reportIn w row ∷ standing w row) z))
+
+-- a list that is ranked first
+module _ (q first : Question) (small : q .k ≤ 16) (e : first ≡ asked (q .k) (q .weights) (best above (q .k) (lines q)) (q .next)) (w : Window) where
+  first-lines : lines first ≡ best above (q .k) (lines q)
+  first-lines =
+      ap lines e
+      ∙ lines-asked (q .k) (q .weights) (best above (q .k) (lines q)) (q .next) (omega (arith, length-best-le above above-strict (q .k) (lines q)))
+
+  -- and then rows are taken: as if it had not been
+  pub taken-same : (n : ℕ) → listTaken first w n ≡ listTaken q w n
+  taken-same n =
+      ap₂ (λ b l. asked (b .k) (b .weights) (best above (b .k) (l ++ rows b)) (b .next)) e first-lines
+      ∙ ap (λ l. asked (q .k) (q .weights) l (q .next)) (best-append above above-strict (q .k) (lines q) (rows q))
+    where
+      rows : Question → List Entry
+      rows b = map (entry (b .weights)) (only (λ h. eqb (cell (h .loss) (h .shake)) (b .next)) (standing w n))
+
+  -- before the first row
+  pub taken-none : first ≡ listTaken first w 0
+  taken-none = e ∙ ap (λ l. asked (q .k) (q .weights) (best above (q .k) l) (q .next)) (sym (append-nil (lines q))) ∙ sym (taken-same 0)
+
+-- ---- a step
+
+module _ (q : Question) (w : Window) where
+  pub step-wide : 16 < q .k → stepOn q w ≡ q
+  unfolding stepOn
+  step-wide h = if-not (stepped q (inRows w)) q (ap (λ b. b && ltb (q .next) 256) (lt-leb (q .k) 16 h))
+
+  pub step-none : 256 ≤ q .next → stepOn q w ≡ q
+  unfolding stepOn
+  step-none h =
+      if-not (stepped q (inRows w)) q (ap (λ b. leb (q .k) 16 && b) (le-ltb (q .next) 256 h) ∙ and-false (leb (q .k) 16))
+
+  module _ (small : q .k ≤ 16) (left : q .next < 256) where
+    pub step-is : stepOn q w ≡ stepped q (inRows w)
+    unfolding stepOn
+    step-is = if-so (stepped q (inRows w)) q (and-true (le-leb (q .k) 16 small) (lt-ltb (q .next) 256 left))
+
+    pub step-taken : stepOn q w ≡ at (listTaken q w 1024) (cellAt (q .weights) (placeOf (q .weights) (q .next) + 1))
+    unfolding stepped inRows
+    step-taken = step-is

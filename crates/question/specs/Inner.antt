@@ -1,0 +1,64 @@
+-- What the inner functions of a question answer; no public contract cites it.
+use Prim.Native.Nat.{ℕ, _+_, min}
+use mathlib.Core.Bool.{false, cond, _&&_}
+use mathlib.Core.List.{map, _++_}
+use lib.ListN.{set}
+use lib.Dec.{ltb, eqb}
+use Rattle.ranking.specs.Best.{best, only}
+use Rattle.ranking.specs.Cells.{cell}
+use Rattle.ranking.specs.Standing.{Held, Entry, above, entry}
+use Rattle.window.specs.declared.Window.{Window}
+use Rattle.window.specs.Rows.{standing}
+use Rattle.question.specs.Lines.{lines, asked, withEntry, cutToK}
+use Rattle.question.specs.declared.Question.{Question}
+use Rattle.question.specs.declared.Placing.{Placing}
+
+-- How many lines there are.
+abbrev pub shown : Question → ℕ
+shown q = min (q .len) 16
+
+-- One line more, behind the others; none, where the list has no room.
+unfoldable pub pushed : Question → Entry → Question
+pushed q e =
+    cond (ltb (q .len) 16)
+    (record {
+      k = q .k;
+      weights = q .weights;
+      numbers = set (q .numbers) (q .len) (e .number);
+      scores = set (q .scores) (q .len) (e .score);
+      len = q .len + 1;
+      next = q .next;
+    })
+    q
+
+-- A line goes by while an entry x may wait for its rank: x takes its place before it, waits on behind it, or is that line.
+unfoldable pub passed : Placing → Entry → Entry → Placing
+passed at x line =
+    cond (at .waiting && above x line)
+    (record { question = pushed (pushed (at .question) x) line; waiting = false })
+    (record { question = pushed (at .question) line; waiting = at .waiting && above line x })
+
+-- No line is left.
+unfoldable pub closed : Placing → Entry → Question
+closed at x = cond (at .waiting) (pushed (at .question) x) (at .question)
+
+-- One entry among the first k.
+abbrev pub joined : Question → Entry → Question
+joined q e = cutToK (withEntry q e)
+
+-- The report of one row joins the lines, if there is one and it lies in the next cell.
+unfoldable pub taking : Question → Held → Question
+taking q h =
+    cond (eqb (h .number) 0) q (cond (eqb (cell (h .loss) (h .shake)) (q .next)) (joined q (entry (q .weights) h)) q)
+
+-- The best k of the lines and of the next cell's reports in the first `n` rows.
+abbrev pub listTaken : Question → Window → ℕ → Question
+listTaken q w n =
+    asked (q .k) (q .weights)
+    (best above (q .k) (lines q ++ map (entry (q .weights)) (only (λ h. eqb (cell (h .loss) (h .shake)) (q .next)) (standing w n))))
+    (q .next)
+
+-- The same list, and another cell is next.
+abbrev pub at : Question → ℕ → Question
+at q next =
+    record { k = q .k; weights = q .weights; numbers = q .numbers; scores = q .scores; len = q .len; next = next }

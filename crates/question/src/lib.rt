@@ -1,0 +1,515 @@
+// One question: its weights, its list of at most 16 lines, and how far its search has come.
+ghost use mathlib.Core.Path.{_≡_};
+ghost use mathlib.Core.List.{[]};
+ghost use Prim.Native.Nat.{min, _%_, _≤_};
+ghost use lib.ListN.{drop};
+ghost use Rattle.ranking.specs.Best.{best};
+ghost use Rattle.ranking.specs.Standing.{above};
+ghost use Rattle.question.specs.Lines.{asked, linesOf, lines, emptySlot, withEntry, cutToK, finished, begun, stepOn, searchedOn, stepsTaken, isMarked, marksOf};
+ghost use Rattle.question.specs.Calls.{allOf, holdsNumber, heldAs, falls, blank, rangesFit, fitQuestion, stepCall, beginCall};
+ghost use Rattle.question.specs.Inner.{pushed, shown, passed, closed, joined, taking, listTaken, at};
+use ranking::Grid;
+use ranking::Weights;
+use ranking::ranks_above;
+use window::Window;
+
+// `next` is the cell that the search takes next, 256 where none is left: the cells before it in the visiting order are the
+// marked ones. An empty slot has k 0 and everything else 0, and so has every line past the first `len`.
+pub struct Question {
+    pub k: u8,
+    pub weights: Weights,
+    pub numbers: [u32; 16],
+    pub scores: [i32; 16],
+    pub len: u8,
+    pub next: u16,
+}
+
+// A question whose search has ended, and the steps that it took.
+pub struct Searched {
+    pub steps: u16,
+    pub question: Question,
+}
+
+// What a step or a beginning answers: the refusal's number, or 0, and the question as it leaves it.
+pub struct Stepped {
+    pub refusal: u8,
+    pub question: Question,
+}
+
+// A list under way, while one entry waits for its rank among the lines that are still to come.
+struct Placing {
+    question: Question,
+    waiting: bool,
+}
+
+impl Question {
+    // A list's room, and the largest k.
+    pub const LINES: u8 = 16;
+
+    pub const UNFIT: u8 = 24;
+
+    pub const FINISHED: u8 = 25;
+
+    // An empty slot.
+    pub fn fresh() -> Question
+        ensures { λ r. ⌜ r ≡ emptySlot ⌝ }
+    {
+        Question::blank(0, Weights { loss: 0, shake: 0 }, 0)
+    }
+
+    // A question with no lines.
+    fn blank(k: u8, weights: Weights, next: u16) -> Question
+        ensures { λ r. ⌜ r ≡ asked k weights [] next ⌝ }
+    {
+        let numbers = [0u32; 16];
+        let scores = [0i32; 16];
+        Question {
+            k,
+            weights,
+            numbers,
+            scores,
+            len: 0,
+            next,
+        }
+    }
+
+    // How many lines there are.
+    fn shown(self) -> u8
+        ensures { λ r. ⌜ r ≡ shown self ⌝ }
+    {
+        fewer(self.len, Question::LINES)
+    }
+
+    // One line more, behind the others; none, where the list has no room.
+    fn pushed(self, number: u32, score: i32) -> Question
+        ensures { λ r. ⌜ r ≡ pushed self (record { number = number; score = score }) ⌝ }
+    {
+        let len = self.len;
+        if Question::LINES <= len {
+            return self;
+        }
+        let at = len as usize;
+        let mut longer = self;
+        longer.numbers[at] = number;
+        longer.scores[at] = score;
+        longer.len = len + 1;
+        longer
+    }
+
+    // One entry put in its rank among the lines, once, of which at most 16 are kept.
+    pub fn added(self, number: u32, score: i32) -> Question
+        ensures { λ r. ⌜ r ≡ withEntry self (record { number = number; score = score }) ⌝ }
+    {
+        let n = self.shown() as usize;
+        let numbers = self.numbers;
+        let scores = self.scores;
+        let mut placing = Placing {
+            question: Question::blank(self.k, self.weights, self.next),
+            waiting: true,
+        };
+        let mut i: usize = 0;
+        while i < n {
+            placing = placing.passed(number, score, numbers[i], scores[i]);
+            i += 1;
+        }
+        placing.closed(number, score)
+    }
+
+    // The first k lines.
+    pub fn cut(self) -> Question
+        ensures { λ r. ⌜ r ≡ cutToK self ⌝ }
+    {
+        let n = self.shown();
+        let k = self.k;
+        let m = fewer(k, n) as usize;
+        let numbers = self.numbers;
+        let scores = self.scores;
+        let mut kept = Question::blank(k, self.weights, self.next);
+        let mut i: usize = 0;
+        while i < m {
+            kept = kept.pushed(numbers[i], scores[i]);
+            i += 1;
+        }
+        kept
+    }
+
+    // One entry among the first k.
+    fn joined(self, number: u32, score: i32) -> Question
+        ensures { λ r. ⌜ r ≡ joined self (record { number = number; score = score }) ⌝ }
+    {
+        self.added(number, score).cut()
+    }
+
+    // The search has ended: no cell is left, or k lines are there and the next cell's best possible score is below the last
+    // one's.
+    pub fn finished(self) -> bool
+        ensures { λ r. ⌜ r ≡ finished self ⌝ }
+    {
+        let next = self.next;
+        if Grid::CELLS <= next {
+            return true;
+        }
+        if self.len != self.k {
+            return false;
+        }
+        let n = self.shown() as usize;
+        if n == 0 {
+            return false;
+        }
+        let scores = self.scores;
+        let last = n - 1;
+        self.weights.best(next as u8) < scores[last]
+    }
+
+    // A search anew: no lines, and the first cell is next.
+    fn begun(self) -> Question
+        ensures { λ r. ⌜ r ≡ begun self ⌝ }
+    {
+        Question::blank(self.k, self.weights, self.weights.first() as u16)
+    }
+
+    // The best k of the lines.
+    fn ranked(self) -> Question
+        requires { ⌜ self .k ≤ 16 ⌝ }
+        ensures { λ r. ⌜ r ≡ asked (self .k) (self .weights) (best above (self .k) (lines self)) (self .next) ⌝ }
+    {
+        let n = self.shown() as usize;
+        let numbers = self.numbers;
+        let scores = self.scores;
+        let mut list = Question::blank(self.k, self.weights, self.next);
+        let mut i: usize = 0;
+        while i < n {
+            list = list.joined(numbers[i], scores[i]);
+            i += 1;
+        }
+        list
+    }
+
+    // The report of one row joins the lines, if it lies in the next cell.
+    fn taking(self, number: u32, loss: u16, shake: u16) -> Question
+        ensures { λ r. ⌜ r ≡ taking self (record { number = number; loss = loss % 4096; shake = shake % 4096 }) ⌝ }
+    {
+        if number == 0 {
+            return self;
+        }
+        if Grid::cell(loss, shake) as u16 != self.next {
+            return self;
+        }
+        self.joined(number, self.weights.score(loss, shake))
+    }
+
+    // The best k of the lines and of the next cell's reports.
+    fn list_taken(self, window: Window) -> Question
+        requires { ⌜ self .k ≤ 16 ⌝ }
+        ensures { λ r. ⌜ r ≡ listTaken self window 1024 ⌝ }
+    {
+        let mut list = self.ranked();
+        let mut row: usize = 0;
+        while row < 1024 {
+            list = list.taking(window.numbers[row], window.losses[row], window.shakes[row]);
+            row += 1;
+        }
+        list
+    }
+
+    // The same list, and another cell is next.
+    fn at(self, next: u16) -> Question
+        ensures { λ r. ⌜ r ≡ at self next ⌝ }
+    {
+        let mut question = self;
+        question.next = next;
+        question
+    }
+
+    // One step of the search, whatever the window's rows hold; none, where k is over 16 or no cell is left.
+    pub fn stepped(self, window: Window) -> Question
+        ensures { λ r. ⌜ r ≡ stepOn self window ⌝ }
+    {
+        let next = self.next;
+        if Question::LINES < self.k {
+            return self;
+        }
+        if Grid::CELLS <= next {
+            return self;
+        }
+        self.list_taken(window).at(self.weights.next(next as u8))
+    }
+
+    // A search from its beginning to its end, whatever the window's rows hold; none, where k is over 16.
+    pub fn searched(self, window: Window) -> Searched
+        ensures { λ r. ⌜ r ≡ searchedOn self window ⌝ }
+    {
+        if Question::LINES < self.k {
+            return Searched {
+                steps: 0,
+                question: self,
+            };
+        }
+        let mut steps: u16 = 0;
+        let mut question = self.begun();
+        while !question.finished() {
+            question = question.stepped(window);
+            steps += 1;
+        }
+        Searched { steps, question }
+    }
+
+    // The steps that the search has taken.
+    pub fn steps(self) -> u16
+        ensures { λ r. ⌜ r ≡ stepsTaken self ⌝ }
+    {
+        let next = self.next;
+        if next < Grid::CELLS {
+            return self.weights.rank(next as u8);
+        }
+        Grid::CELLS
+    }
+
+    // The search has taken this cell.
+    pub fn marked(self, cell: u8) -> bool
+        ensures { λ r. ⌜ r ≡ isMarked self cell ⌝ }
+    {
+        let next = self.next;
+        if next < Grid::CELLS {
+            return self.weights.before(cell, next as u8);
+        }
+        true
+    }
+
+    // Of each cell, whether the search has taken it.
+    pub fn marks(self) -> [bool; 256]
+        ensures { λ r. ⌜ r ≡ marksOf self ⌝ }
+    {
+        let mut marks = [false; 256];
+        let mut cell: usize = 0;
+        while cell < 256 {
+            marks[cell] = self.marked(cell as u8);
+            cell += 1;
+        }
+        marks
+    }
+
+    // Every stored number is in its range, and the lines are reports that the window holds, with their scores, strictly
+    // falling in rank. Of the window itself `Window::fit` speaks.
+    pub fn fit(self, window: Window) -> bool
+        ensures { λ r. ⌜ r ≡ fitQuestion window self ⌝ }
+    {
+        if self.ranges_fit(window.held) {
+            if self.lines_held(window) {
+                if self.falls() {
+                    return self.rest_blank();
+                }
+            }
+        }
+        false
+    }
+
+    // The next cell is marked, and its reports join the list. Refused 24 where the window or the question is unfit, 25
+    // where the search has ended.
+    pub fn step(self, window: Window) -> Stepped
+        ensures { λ r. ⌜ r ≡ stepCall window self ⌝ }
+    {
+        if !window.fit() {
+            return self.refused(Question::UNFIT);
+        }
+        if !self.fit(window) {
+            return self.refused(Question::UNFIT);
+        }
+        if self.finished() {
+            return self.refused(Question::FINISHED);
+        }
+        Stepped {
+            refusal: 0,
+            question: self.stepped(window),
+        }
+    }
+
+    // The search anew: no lines, no marks. Refused 24 where the window or the question is unfit, and so it is while its
+    // search has not ended.
+    pub fn begin(self, window: Window) -> Stepped
+        ensures { λ r. ⌜ r ≡ beginCall window self ⌝ }
+    {
+        if !window.fit() {
+            return self.refused(Question::UNFIT);
+        }
+        if !self.fit(window) {
+            return self.refused(Question::UNFIT);
+        }
+        if !self.finished() {
+            return self.refused(Question::UNFIT);
+        }
+        Stepped {
+            refusal: 0,
+            question: self.begun(),
+        }
+    }
+
+    fn refused(self, refusal: u8) -> Stepped
+        ensures { λ r. ⌜ r ≡ record { refusal = refusal; question = self } ⌝ }
+    {
+        Stepped {
+            refusal,
+            question: self,
+        }
+    }
+
+    // k, the weights, the next cell and the list's length are in their ranges.
+    fn ranges_fit(self, held: u16) -> bool
+        ensures { λ r. ⌜ r ≡ rangesFit self held ⌝ }
+    {
+        let k = self.k;
+        let len = self.len;
+        if k < 1 {
+            return false;
+        }
+        if Question::LINES < k {
+            return false;
+        }
+        if !self.weights.fit() {
+            return false;
+        }
+        if Grid::CELLS < self.next {
+            return false;
+        }
+        if k < len {
+            return false;
+        }
+        len as u16 <= held
+    }
+
+    // Every line names a report that the window holds, with its score.
+    fn lines_held(self, window: Window) -> bool
+        ensures { λ r. ⌜ r ≡ allOf (heldAs window (self .weights)) (lines self) ⌝ }
+    {
+        let n = self.shown() as usize;
+        let mut i: usize = 0;
+        while i < n {
+            if !held_as(window, self.weights, self.numbers[i], self.scores[i]) {
+                return false;
+            }
+            i += 1;
+        }
+        true
+    }
+
+    // Each line ranks above the next.
+    fn falls(self) -> bool
+        ensures { λ r. ⌜ r ≡ falls (lines self) ⌝ }
+    {
+        let n = self.shown() as usize;
+        let mut i: usize = 0;
+        while i + 1 < n {
+            let next = i + 1;
+            if !ranks_above(
+                self.scores[i],
+                self.numbers[i],
+                self.scores[next],
+                self.numbers[next],
+            ) {
+                return false;
+            }
+            i = next;
+        }
+        true
+    }
+
+    // The places past the list's end are 0.
+    fn rest_blank(self) -> bool
+        ensures { λ r. ⌜ r ≡ allOf blank (drop (self .len) (linesOf (self .numbers) (self .scores))) ⌝ }
+    {
+        let mut i = self.shown() as usize;
+        while i < 16 {
+            if !is_blank(self.numbers[i], self.scores[i]) {
+                return false;
+            }
+            i += 1;
+        }
+        true
+    }
+}
+
+impl Placing {
+    // One line goes by: the entry takes its place before it, waits on, or is that line.
+    fn passed(self, number: u32, score: i32, line_number: u32, line_score: i32) -> Placing
+        ensures { λ r. ⌜
+            r ≡ passed self (record { number = number; score = score }) (record { number = «line_number»; score = «line_score» })
+            ⌝ }
+    {
+        let list = self.question;
+        if !self.waiting {
+            return Placing {
+                question: list.pushed(line_number, line_score),
+                waiting: false,
+            };
+        }
+        if ranks_above(score, number, line_score, line_number) {
+            let with = list.pushed(number, score);
+            return Placing {
+                question: with.pushed(line_number, line_score),
+                waiting: false,
+            };
+        }
+        Placing {
+            question: list.pushed(line_number, line_score),
+            waiting: ranks_above(line_score, line_number, score, number),
+        }
+    }
+
+    // No line is left: an entry that still waits stands last.
+    fn closed(self, number: u32, score: i32) -> Question
+        ensures { λ r. ⌜ r ≡ closed self (record { number = number; score = score }) ⌝ }
+    {
+        let list = self.question;
+        if self.waiting {
+            return list.pushed(number, score);
+        }
+        list
+    }
+}
+
+// The smaller of two numbers.
+fn fewer(a: u8, b: u8) -> u8
+    ensures { λ r. ⌜ r ≡ min a b ⌝ }
+{
+    if a < b { a } else { b }
+}
+
+// An unused place is 0.
+fn is_blank(number: u32, score: i32) -> bool
+    ensures { λ r. ⌜ r ≡ blank (record { number = number; score = score }) ⌝ }
+{
+    if number != 0 {
+        return false;
+    }
+    score == 0
+}
+
+// The window holds the report of that number, with that score.
+fn held_as(window: Window, weights: Weights, number: u32, score: i32) -> bool
+    ensures { λ r. ⌜ r ≡ heldAs window weights (record { number = number; score = score }) ⌝ }
+{
+    if !holds_number(window.size, window.entered, window.held, number) {
+        return false;
+    }
+    let row = ((number - 1) % (window.size as u32)) as usize;
+    score == weights.score(window.losses[row], window.shakes[row])
+}
+
+// The window holds the report of that number.
+fn holds_number(size: u16, entered: u32, held: u16, number: u32) -> bool
+    ensures { λ r. ⌜ r ≡ holdsNumber size entered held number ⌝ }
+{
+    if size < Window::SMALLEST {
+        return false;
+    }
+    if Window::LARGEST < size {
+        return false;
+    }
+    if number < 1 {
+        return false;
+    }
+    if entered < number {
+        return false;
+    }
+    (entered as u64) < (number as u64) + (held as u64)
+}
