@@ -1,0 +1,4 @@
+-- Laws that the crates above cite.
+pub mod Decimal
+pub mod Lengths
+pub mod Places
