@@ -2,3 +2,4 @@
 pub mod Decimal
 pub mod Lengths
 pub mod Places
+pub mod Lists

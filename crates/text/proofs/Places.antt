@@ -1,6 +1,6 @@
 -- One text behind another is one text; a place that no `usize` holds lies past the end of any buffer.
 -- Assumes nothing.
-use mathlib.Core.Path.{_≡_, refl, sym, _∙_, ap, ap₂}
+use mathlib.Core.Path.{_≡_, refl, sym, _∙_, ap, ap₂, subst}
 use mathlib.Core.Logic.{⊎-elim}
 use mathlib.Core.List.{List, [], _∷_, _++_}
 use Prim.Native.Nat.{ℕ, _+_, _-_, _^_, _≤_, _<_, min}
@@ -19,6 +19,9 @@ pub record Put (l : List ℕ) (at : ℕ) (text : List ℕ) (next : ℕ) (left : 
 
 pub put : {l left : List ℕ} {at next : ℕ} {text : List ℕ} → (next ≡ behind at text) × (left ≡ sets l at text) → Put l at text next left
 put e = record { place = e .0; bytes = e .1 }
+
+pub both : {l left : List ℕ} {at next : ℕ} {text : List ℕ} → Put l at text next left → (next ≡ behind at text) × (left ≡ sets l at text)
+both p = (p .place, p .bytes)
 
 behind-append : (at : ℕ) (v w : List ℕ) → behind (behind at v) w ≡ behind at (v ++ w)
 unfolding behind
@@ -42,6 +45,10 @@ then {l} {l₁} {l₂} {at} {p} {q} {v} {w} h a b =
           b .bytes ∙ ap₂ (λ (r : List ℕ) (k : ℕ). sets r k w) (a .bytes) (a .place)
           ∙ sets-behind (sets l at v) at v w (rw length-sets h) ∙ sym (sets-append l at v w);
     }
+
+-- The same text, said otherwise.
+pub said : {l left : List ℕ} {at next : ℕ} {v w : List ℕ} → v ≡ w → Put l at v next left → Put l at w next left
+said {l} {left} {at} {next} e p = subst (λ (t : List ℕ). Put l at t next left) e p
 
 -- No text at all.
 pub none : (l : List ℕ) (at : ℕ) → at < 2 ^ 64 → Put l at [] at l

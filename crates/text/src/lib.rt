@@ -170,7 +170,8 @@ fn magnitude(z: i32) -> u64
 }
 
 // Fills the end of `digits` with those of n, and answers where they start.
-fn spell(digits: &mut [u8; 20], n: u64) -> usize
+fn spell(digits: &mut [u8], n: u64) -> usize
+    requires { ⌜ length (now digits) ≡ 20 ⌝ }
     ensures { λ r. ⌜ r ≡ 20 - length (decimal n) ⌝ }
     ensures { λ r. ⌜ drop r (now (digits .exit)) ≡ decimal n ⌝ }
 {
