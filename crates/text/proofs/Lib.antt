@@ -3,3 +3,4 @@ pub mod Decimal
 pub mod Lengths
 pub mod Places
 pub mod Lists
+pub mod Outcomes

@@ -2,12 +2,12 @@
 -- Assumes nothing.
 use mathlib.Core.Path.{_≡_, refl, sym, _∙_, ap, ap₂, subst}
 use mathlib.Core.Logic.{⊎-elim}
-use mathlib.Core.List.{List, [], _∷_, _++_}
+use mathlib.Core.List.{List, [], _++_}
 use Prim.Native.Nat.{ℕ, _+_, _-_, _^_, _≤_, _<_, min}
 use native.Mathlib.Omega.{arith}
 use lib.Dec.{ltb}
-use lib.ListN.{length, length-append}
-use lib.Seq.{sets, length-sets}
+use lib.ListN.{length, take, drop, length-append}
+use lib.Seq.{sets, length-sets, sets-eq}
 use Rattle.wire.proofs.Stores.{sets-append, sets-past}
 use Rattle.text.specs.Text.{behind}
 use Rattle.text.proofs.Decimal.{below-or}
@@ -54,3 +54,9 @@ said {l} {left} {at} {next} e p = subst (λ (t : List ℕ). Put l at t next left
 pub none : (l : List ℕ) (at : ℕ) → at < 2 ^ 64 → Put l at [] at l
 unfolding behind
 none l at h = record { place = omega arith; bytes = refl }
+
+-- Where the text ends within the buffer, its bytes stand there in a row and the rest is as it was.
+pub fits : {l left : List ℕ} {at next : ℕ} {text : List ℕ} → length l < 2 ^ 64 → at + length text ≤ length l → Put l at text next left
+    → (next ≡ at + length text) × (left ≡ take at l ++ text ++ drop (at + length text) l)
+unfolding behind
+fits {l} {left} {at} {next} {text} h room p = (p .place ∙ omega arith, p .bytes ∙ sets-eq text l at room)

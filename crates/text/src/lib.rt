@@ -2,42 +2,42 @@
 // Every function stores its text from any place on and answers the place behind it, so that one call follows another.
 // What lies past the buffer's end is not stored; a place that no usize holds is answered as the largest one.
 ghost use mathlib.Core.Path.{_≡_};
-ghost use mathlib.Core.List.{[], _∷_, _++_};
+ghost use mathlib.Core.List.{[], _∷_};
 ghost use Prim.Native.Nat.{_+_, _-_, _^_, _≤_, min};
 ghost use lib.ListN.{drop, length, take};
 ghost use lib.IntN.{natAbs};
 ghost use lib.Seq.{sets};
-ghost use Rattle.text.specs.Text.{Entry, decimal, signed, word, sLine, rLine, entry, entries, qLine, listed, behind};
+ghost use Rattle.text.specs.Text.{decimal, signed, word, sLine, rLine, entry, entries, qLine, listed, behind};
 
-// How long the texts get.
+// How long the texts get, in bytes.
 pub struct Text {}
 
 impl Text {
-    // A number of 64 bits and one of 32.
+    // A number of 64 bits, and one of 32.
     pub const NUMBER: usize = 20;
 
-    pub const SHORT: usize = 10;
+    pub const SHORT_NUMBER: usize = 10;
 
     // A score, with its minus.
     pub const SCORE: usize = 11;
 
-    // The lines.
-    pub const S_LINE: usize = 33;
+    // The three kinds of lines, with their ends.
+    pub const S_LONGEST: usize = 33;
 
-    pub const R_LINE: usize = 27;
+    pub const R_LONGEST: usize = 27;
 
-    pub const Q_LINE: usize = 377;
+    pub const Q_LONGEST: usize = 377;
 
-    // The entries of a Q line.
+    // The most entries of a Q line.
     pub const ENTRIES: usize = 16;
 }
 
-// Stores the digits of a number.
+// Stores a number.
 pub fn put_decimal(buf: &mut [u8], at: usize, n: u64) -> usize
     ensures { λ r. ⌜ r ≡ behind at (decimal n) ⌝ }
     ensures { λ _. ⌜ now (buf .exit) ≡ sets (now (buf .entry)) at (decimal n) ⌝ }
 {
-    let mut digits = [0u8; 20];
+    let mut digits = [0u8; Text::NUMBER];
     let start = spell(&mut digits, n);
     wire::put_all(buf, at, &digits[start..]);
     moved(at, Text::NUMBER - start)
@@ -85,8 +85,8 @@ pub fn put_q(
     buf: &mut [u8],
     at: usize,
     slot: u8,
-    numbers: [u32; 16],
-    scores: [i32; 16],
+    numbers: [u32; Text::ENTRIES],
+    scores: [i32; Text::ENTRIES],
     n: usize,
 ) -> usize
     ensures { λ r. ⌜ r ≡ behind at (qLine slot (take n (listed numbers scores))) ⌝ }
@@ -101,7 +101,13 @@ pub fn put_q(
 }
 
 // Stores the first n numbers with their scores.
-fn put_entries(buf: &mut [u8], at: usize, numbers: [u32; 16], scores: [i32; 16], n: usize) -> usize
+fn put_entries(
+    buf: &mut [u8],
+    at: usize,
+    numbers: [u32; Text::ENTRIES],
+    scores: [i32; Text::ENTRIES],
+    n: usize,
+) -> usize
     requires { ⌜ n ≤ 16 ⌝ }
     ensures { λ r. ⌜ r ≡ behind at (entries (take n (listed numbers scores))) ⌝ }
     ensures { λ _. ⌜ now (buf .exit) ≡ sets (now (buf .entry)) at (entries (take n (listed numbers scores))) ⌝ }

@@ -1,4 +1,4 @@
--- `text::put_decimal` meets its contract: . 
+-- `text::put_decimal` meets its contract: the digits that `spell` put at the end of a local array are stored, and they are 20 less where they start.
 -- Assumes nothing.
 use Prim.Native.Nat.{_-_}
 use native.Mathlib.Omega.{arith}

@@ -1,8 +1,7 @@
--- `text::put_entries` meets its contract: .
+-- `text::put_entries` meets its contract: after i turns the first i entries are stored, and the next place is behind them.
 -- Assumes nothing.
-use mathlib.Core.Path.{_≡_, refl, sym, ap, _∙_}
-use mathlib.Core.List.{_∷_}
-use Prim.Native.Nat.{ℕ, _-_, _^_, _≤_, _<_}
+use mathlib.Core.Path.{_≡_, refl, sym}
+use Prim.Native.Nat.{_-_, _^_, _≤_, _<_}
 use native.Mathlib.Omega.{arith}
 use borrow.Author.Needs.{needs}
 use denote.Ref.{now}
@@ -15,9 +14,6 @@ use Rattle.text.proofs.Places.{Put, put, then, said, both, none}
 use Rattle.text.proofs.Lists.{entries-more, entries-none}
 use Rattle.text.proofs.put_entries.Statement.{statement}
 use Rattle.text.proofs.put_entries.Tie as tie
-use Rattle.text.proofs.put_entries.Reads as reads
-use Rattle.text.proofs.put_entries.Lts as lts
-use Rattle.text.proofs.put_entry.Reads as put-entry-reads
 
 abbrev Inv-loop : tie.InvT-loop
 Inv-loop buf₀ at n numbers scores next₀ i₀ buf next i =

@@ -1,4 +1,4 @@
--- `text::put_word` meets its contract: .
+-- `text::put_word` meets its contract: a space and the digits stand in a row.
 -- Assumes nothing.
 use denote.Ref.{now}
 use Rattle.text.specs.Text.{word}
@@ -6,10 +6,6 @@ use Rattle.text.proofs.Places.{put, then, both}
 use borrow.Author.Needs.{needs}
 use Rattle.text.proofs.put_word.Statement.{statement}
 use Rattle.text.proofs.put_word.Tie as tie
-use Rattle.text.proofs.put_word.Reads as reads
-use Rattle.text.proofs.put_word.Lts as lts
-use Rattle.text.proofs.put_byte.Reads as put-byte-reads
-use Rattle.text.proofs.put_decimal.Reads as put-decimal-reads
 
 put-byte-requires : tie.Need-put-byte-requires
 put-byte-requires c κs = search needs

@@ -1,6 +1,6 @@
 -- `text::spell` meets its contract: the digits of what is left, before those that are stored, are always those of n.
 -- Assumes nothing.
-use mathlib.Core.Path.{_≡_, refl, sym, ap, _∙_}
+use mathlib.Core.Path.{_≡_, sym, _∙_}
 use mathlib.Core.List.{List, [], _∷_, _++_, append-assoc, append-nil}
 use Prim.Native.Nat.{ℕ, zero, suc, _+_, _-_, _/_, _%_, _≤_, _<_}
 use native.Mathlib.Omega.{arith}
@@ -13,8 +13,6 @@ use Rattle.text.proofs.Decimal.{decimal-one, decimal-more}
 use Rattle.text.proofs.Lengths.{length-one, length-more, length-some, decimal64-longest}
 use Rattle.text.proofs.spell.Statement.{statement}
 use Rattle.text.proofs.spell.Tie as tie
-use Rattle.text.proofs.spell.Reads as reads
-use Rattle.text.proofs.spell.Lts as lts
 
 -- A byte stored before a part joins it.
 store-before : (l : List ℕ) (i a : ℕ) → 0 < i → i ≤ length l → drop (i - 1) (set l (i - 1) a) ≡ a ∷ drop i l
