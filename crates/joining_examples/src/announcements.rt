@@ -32,17 +32,11 @@ fn third_example() {
 
 // The first byte of other kinds of announcement.
 fn kinds() {
-    kind(b"kind 0", 0);
-    kind(b"kind 16", 16);
-    kind(b"kind 31", 31);
-    kind(b"kind 33", 33);
-    kind(b"kind 255", 255);
-}
-
-fn kind(name: &[u8], first: u8) {
-    let mut data = announcement(17, 3);
-    data[0] = first;
-    each(name, ANNOUNCED, &data);
+    changed(b"kind 0", 0, 0);
+    changed(b"kind 16", 0, 16);
+    changed(b"kind 31", 0, 31);
+    changed(b"kind 33", 0, 33);
+    changed(b"kind 255", 0, 255);
 }
 
 // Each size with its right count, where a byte can hold it, and with the counts beside.
@@ -79,12 +73,13 @@ fn counted(n: u16, count: u8) {
 
 // Group numbers that differ from 65300 in one byte.
 fn groups() {
-    group(b"group 65301", 5, 21);
-    group(b"group 65044", 6, 254);
-    group(b"group 130836", 7, 1);
+    changed(b"group 65301", 5, 21);
+    changed(b"group 65044", 6, 254);
+    changed(b"group 130836", 7, 1);
 }
 
-fn group(name: &[u8], at: usize, b: u8) {
+// P1's announcement with another byte.
+fn changed(name: &[u8], at: usize, b: u8) {
     let mut data = announcement(17, 3);
     wire::put(&mut data, at, b);
     each(name, ANNOUNCED, &data);
@@ -92,8 +87,8 @@ fn group(name: &[u8], at: usize, b: u8) {
 
 // Byte 4 is not read.
 fn unread() {
-    group(b"byte 4 is 0", 4, 0);
-    group(b"byte 4 is 254", 4, 254);
+    changed(b"byte 4 is 0", 4, 0);
+    changed(b"byte 4 is 254", 4, 254);
 }
 
 // The first of 4, 5, 6 and 7.

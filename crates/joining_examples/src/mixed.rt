@@ -207,7 +207,7 @@ fn damaged() {
     changed(b"sender 200", 48, 200);
 }
 
-// One byte of the run put to b; the 48 is where sender 5's second packet begins.
+// One byte of the run put to b; sender 5's second packet begins at 48.
 fn changed(name: &[u8], at: usize, b: u8) {
     let mut space = [0u8; 96];
     let frames: &mut [u8] = &mut space;

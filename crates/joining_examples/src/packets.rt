@@ -22,8 +22,8 @@ pub fn all() {
     faults();
     notes();
     unread();
-    unfit_sessions();
-    unfit_last();
+    fitness();
+    several();
 }
 
 // P4: sequence 1 sent twice; the packet that was due then finds no open session.
@@ -35,7 +35,7 @@ fn fourth_example() {
     take(b"P4", closed, CARRIED, &two);
 }
 
-// Every kind of session has packets 0, 1, 2, 3, 4 and 255.
+// Packets 0 to 4 and 255, for each kind of session.
 fn sequences() {
     sequence(b"sequence 0", 0);
     sequence(b"sequence 1", 1);
@@ -147,29 +147,30 @@ fn unread() {
 }
 
 // Sessions that no frames lead to, and beside them some that are fit.
-fn unfit_sessions() {
-    unfit(0, 1, 0);
-    unfit(0, 0, 1);
-    unfit(0, 3, 1);
-    unfit(9, 2, 1);
-    unfit(16, 3, 1);
-    unfit(17, 0, 0);
-    unfit(17, 2, 1);
-    unfit(17, 4, 1);
-    unfit(17, 3, 0);
-    unfit(17, 3, 1);
-    unfit(17, 3, 3);
-    unfit(17, 3, 4);
-    unfit(18, 3, 1);
-    unfit(19, 3, 1);
-    unfit(20, 3, 1);
-    unfit(84, 11, 1);
-    unfit(84, 12, 12);
-    unfit(84, 12, 13);
-    unfit(85, 13, 1);
-    unfit(255, 255, 255);
+fn fitness() {
+    judge(0, 1, 0);
+    judge(0, 0, 1);
+    judge(0, 3, 1);
+    judge(9, 2, 1);
+    judge(16, 3, 1);
+    judge(17, 0, 0);
+    judge(17, 2, 1);
+    judge(17, 4, 1);
+    judge(17, 3, 0);
+    judge(17, 3, 1);
+    judge(17, 3, 3);
+    judge(17, 3, 4);
+    judge(18, 3, 1);
+    judge(19, 3, 1);
+    judge(20, 3, 1);
+    judge(84, 11, 1);
+    judge(84, 12, 12);
+    judge(84, 12, 13);
+    judge(85, 13, 1);
+    judge(255, 255, 255);
 }
 
+// P1's payload bytes with these three numbers.
 fn made(size: u8, count: u8, next: u8) -> Session {
     let s = ended();
     let bytes = s.bytes;
@@ -181,21 +182,25 @@ fn made(size: u8, count: u8, next: u8) -> Session {
     }
 }
 
-fn unfit(size: u8, count: u8, next: u8) {
+fn judge(size: u8, count: u8, next: u8) {
     let s = made(size, count, next);
-    let data = announcement(20, 3);
-    let packet = first();
     if s.fit() {
-        take(b"fit", s, ANNOUNCED, &data);
-        take(b"fit", s, CARRIED, &packet);
+        both(b"fit", s);
     } else {
-        take(b"unfit", s, ANNOUNCED, &data);
-        take(b"unfit", s, CARRIED, &packet);
+        both(b"unfit", s);
     }
 }
 
+// A good announcement, and packet 1.
+fn both(name: &[u8], s: Session) {
+    let data = announcement(20, 3);
+    let packet = first();
+    take(name, s, ANNOUNCED, &data);
+    take(name, s, CARRIED, &packet);
+}
+
 // 24 comes after 1, 2 and 3, and before 4 to 9.
-fn unfit_last() {
+fn several() {
     let s = made(17, 3, 4);
     let nothing = [0u8; 8];
     take(b"1 24", s, 0x3CECFF05, &nothing);
