@@ -168,9 +168,7 @@ fn measured(name: &[u8], loss: u16, shake: u16, number: u32) {
 
 // No note, an empty one, notes that end in the middle and at the end of a packet, the longest, and a longer one.
 fn notes() {
-    let mut space = [0u8; 65];
-    let all: &mut [u8] = &mut space;
-    count_up(all);
+    let all: &[u8] = b"The left sieve lets more grain by than before, since the belt was";
     noted(b"note 0", wire::front(all, 0));
     noted(b"note 1", wire::front(all, 1));
     noted(b"note 2", wire::front(all, 2));
@@ -182,17 +180,6 @@ fn notes() {
 
 fn noted(name: &[u8], note: &[u8]) {
     send(name, 5, example(), true, note);
-}
-
-// Fills the bytes with 1, 2, 3 and so on.
-fn count_up(s: &mut [u8]) {
-    let mut i = 0;
-    let mut b: u8 = 0;
-    while i < s.len() {
-        b = std::num::wrapping_add_u8(b, 1);
-        s[i] = b;
-        i += 1;
-    }
 }
 
 // The first of 3, 12, 19 and 20 where several apply, in a room of one byte.
