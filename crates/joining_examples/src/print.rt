@@ -1,42 +1,17 @@
 // Lines on standard output.
 use joining::Answer;
 use joining::Session;
-use libc::STDOUT_FILENO;
+pub use printing::bytes;
+pub use printing::end;
+pub use printing::number;
+pub use printing::refused;
+pub use printing::text;
 use report::Report;
 use report::Written;
 
-pub fn text(s: &[u8]) {
-    io::write_all(STDOUT_FILENO, s);
-}
-
-pub fn end() {
-    text(b"\n");
-}
-
-// A space and a number.
-pub fn number(n: u64) {
-    text(b" ");
-    io::print_decimal(STDOUT_FILENO, n);
-}
-
 // A space and an identifier, in eight hexadecimal digits.
 pub fn identifier(id: u32) {
-    text(b" ");
-    io::print_hex(STDOUT_FILENO, id as u64, 8);
-}
-
-// Each byte as a space and two hexadecimal digits.
-pub fn bytes(s: &[u8]) {
-    let mut i = 0;
-    while i < s.len() {
-        byte(s[i]);
-        i += 1;
-    }
-}
-
-fn byte(b: u8) {
-    text(b" ");
-    io::print_hex(STDOUT_FILENO, b as u64, 2);
+    printing::hex(id as u64, 8);
 }
 
 pub fn answer(a: Answer) {
@@ -45,11 +20,6 @@ pub fn answer(a: Answer) {
         Answer::Kept => text(b" kept"),
         Answer::Complete(r) => report(r.loss, r.shake, r.number),
     }
-}
-
-pub fn refused(n: u8) {
-    text(b" refused");
-    number(n as u64);
 }
 
 pub fn report(loss: u16, shake: u16, own: u32) {
