@@ -19,7 +19,7 @@ use Rattle.ranking.specs.Standing.{Held, Entry, above, entry, searchOf, Wanted}
 use Rattle.ranking.specs.declared.Weights.{Weights}
 use Rattle.ranking.proofs.Tests.{Tested, passed, failed, tested}
 use Rattle.ranking.proofs.Lists.{Same, _⊆_, lt-or-eq, getD-past, only-in, only-of, pairwise-only}
-use Rattle.ranking.proofs.Best.{best-of, best-falling, length-best-le}
+use Rattle.ranking.proofs.Best.{Falling, best-of, best-falling, length-best-le}
 use Rattle.ranking.proofs.Search.{has-in, in-has, held-part, ends, goes-on}
 use Rattle.ranking.proofs.Cells.{length-visiting}
 use Rattle.ranking.proofs.Scan.{place-at, at-place, cell-at, left-none}
@@ -70,12 +70,19 @@ steps-at q n h e = ⊎-elim some none (lt-or-eq h)
 -- Step, for every question with a cell left: "the next cell is marked, and the list becomes the best k of its old entries and that cell's held reports, each once".
 pub record Step (q : Question) (hs : List Held) : Type 0 where
   pub list : lines (stepped q hs) ≡ best above (q .k) (lines q ++ map (entry (q .weights)) (only (λ h. eqb (cell (h .loss) (h .shake)) (q .next)) hs))
+  pub each-once : Falling above (lines (stepped q hs))
   pub next-marked : marked (stepped q hs) ≡ marked q ++ (q .next ∷ [])
   pub counted : stepsTaken (stepped q hs) ≡ stepsTaken q + 1
 
 pub one-step : (q : Question) (hs : List Held) → q .k ≤ 16 → q .next < 256 → Step q hs
 unfolding stepped marked
-one-step q hs small left = record { list = listed; next-marked = then-marked; counted = then }
+one-step q hs small left =
+    record {
+      list = listed;
+      each-once = subst (Falling above) (sym listed) (best-falling above above-strict (q .k) l);
+      next-marked = then-marked;
+      counted = then;
+    }
   where
     w : Weights
     w = q .weights
