@@ -81,7 +81,7 @@ listed-in-range (suc n) (x ∷ ns) (s ∷ ss) h k = (h 0, k 0, listed-in-range n
 
 length-entry : (e : Entry) → length (entry e) ≡ length (decimal (e .number)) + 1 + 1 + length (signed (e .score))
 unfolding entry
-length-entry e = simp (length-append, length-word)
+length-entry e = simp (length-append, length-word) (omega arith)
 
 pub entries-longest : (es : List Entry) → InRange es → length (entries es) ≤ 23 * length es
 unfolding entries

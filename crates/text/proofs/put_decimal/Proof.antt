@@ -1,4 +1,4 @@
--- `text::put_decimal` meets its contract: the digits that `spell` put at the end of a local array are stored, and they are 20 less where they start.
+-- `text::put_decimal` meets its contract: `spell` puts the digits at the end of 20 bytes, from where they are stored.
 -- Assumes nothing.
 use Prim.Native.Nat.{_-_}
 use native.Mathlib.Omega.{arith}
@@ -41,12 +41,12 @@ same-length c = search needs
 returns : tie.Need-returns
 unfolding behind
 returns c =
-    let a = c .before .before .before .before .before .before .before .before .before .before .before .args in
-    let s = c .before .before .before .before .before .before .before .before .spell .ensures in
-    let p = c .before .before .before .put-all .ensures in
-    let fits = decimal64-longest (a .n) (search needs) in
-    let size : 20 - c .before .before .before .before .before .before .before .before .spell .result ≡ length (decimal (a .n)) = omega arith in
-    (rw (sym size) (c .moved .ensures), rw (s .1, size, take-length (decimal (a .n))) at p)
+    let stored = c .before .before .before in
+    let spelled = stored .before .before .before .before .before in
+    let n = spelled .before .before .before .args .n in
+    let fits = decimal64-longest n (search needs) in
+    let size : 20 - spelled .spell .result ≡ length (decimal n) = omega (arith, spelled .spell .ensures .0) in
+    (rw (sym size) (c .moved .ensures), rw (spelled .spell .ensures .1, size, take-length (decimal n)) at (stored .put-all .ensures))
 
 pub put-decimal-spec : {M : Type 1} → statement M
 put-decimal-spec =

@@ -25,9 +25,15 @@ same-length c = search needs
 returns : tie.Need-returns
 unfolding entry
 returns c =
-    let a = c .before .before .before .before .before .before .before .before .before .before .before .before .before .args in
+    let second = c .before .before in
+    let colon = second .before .before .before .before in
+    let first = colon .before .before .before .before in
+    let start = first .before .before .before in
+    let a = start .args in
     let h : length (now (a .buf)) < 2 ^ 64 = search needs in
-    both {l = now (a .buf)} (then h (then h (put (c .before .before .before .before .before .before .before .before .before .before .put-word .ensures)) (put (c .before .before .before .before .before .before .put-byte .ensures))) (put (rw (toZ-ofZ (c .before .before .before .before .before .before .before .before .before .before .before .before .before .fits .score)) at (c .before .before .put-signed .ensures))))
+    both {l = now (a .buf)}
+    (then h (then h (put (first .put-word .ensures)) (put (colon .put-byte .ensures)))
+    (put (rw (toZ-ofZ (start .fits .score)) at (second .put-signed .ensures))))
 
 pub put-entry-spec : {M : Type 1} → statement M
 put-entry-spec =

@@ -39,14 +39,19 @@ returns c =
     let ns : length (a .numbers) ≡ 16 = search needs in
     let ss : length (a .scores) ≡ 16 = search needs in
     let all = length-listed (a .numbers) (a .scores) 16 ns ss in
-    let shown = c .before .before .before .before .before .before .before .before .before .before .before .before .before .before .before .before .before .before .before .before .fewer in
+    let line-end = c .before .before in
+    let third = line-end .before .before .before .before in
+    let second = third .before .before .before .before in
+    let first = second .before .before .before .before in
+    let head = first .before .before .before .before in
+    let shown = head .before .before .fewer in
     both {l = now (a .buf)}
     (said (qLine-shown (a .slot) (a .n) (shown .result) (listed (a .numbers) (a .scores)) (rw all (shown .ensures)))
     (then h
     (then h
-    (then h (then h (put (c .before .before .before .before .before .before .before .before .before .before .before .before .before .before .before .before .before .before .put-byte .ensures)) (put (c .before .before .before .before .before .before .before .before .before .before .before .before .before .before .put-word .ensures))) (put (c .before .before .before .before .before .before .before .before .before .before .put-word2 .ensures)))
-    (put (c .before .before .before .before .before .before .put-entries .ensures)))
-    (put (c .before .before .put-byte2 .ensures))))
+    (then h (then h (put (head .put-byte .ensures)) (put (first .put-word .ensures))) (put (second .put-word2 .ensures)))
+    (put (third .put-entries .ensures)))
+    (put (line-end .put-byte2 .ensures))))
 
 pub put-q-spec : {M : Type 1} → statement M
 put-q-spec =

@@ -30,14 +30,19 @@ same-length c = search needs
 returns : tie.Need-returns
 unfolding sLine
 returns c =
-    let a = c .before .before .before .before .before .before .before .before .before .before .before .before .before .before .before .before .before .before .before .before .before .args in
+    let line-end = c .before .before in
+    let third = line-end .before .before .before .before in
+    let second = third .before .before .before .before in
+    let first = second .before .before .before .before in
+    let head = first .before .before .before .before in
+    let a = head .before .before .before .args in
     let h : length (now (a .buf)) < 2 ^ 64 = search needs in
     both {l = now (a .buf)}
     (then h
     (then h
-    (then h (then h (put (c .before .before .before .before .before .before .before .before .before .before .before .before .before .before .before .before .before .before .put-byte .ensures)) (put (c .before .before .before .before .before .before .before .before .before .before .before .before .before .before .put-word .ensures))) (put (c .before .before .before .before .before .before .before .before .before .before .put-word2 .ensures)))
-    (put (c .before .before .before .before .before .before .put-word3 .ensures)))
-    (put (c .before .before .put-byte2 .ensures)))
+    (then h (then h (put (head .put-byte .ensures)) (put (first .put-word .ensures))) (put (second .put-word2 .ensures)))
+    (put (third .put-word3 .ensures)))
+    (put (line-end .put-byte2 .ensures)))
 
 pub put-s-spec : {M : Type 1} → statement M
 put-s-spec =

@@ -47,23 +47,31 @@ same-length c = search needs
 
 returns : tie.Need-returns
 returns c =
-    let a = c .before .before .before .before .before .before .before .before .before .before .before .args in
-    let k = toZ-ofZ (c .before .before .before .before .before .before .before .before .before .before .before .fits .z) in
+    let digits = c .before .before in
+    let sign = digits .before .before .before .before .before in
+    let start = sign .before .before .before .before in
+    let a = start .args in
+    let k = toZ-ofZ (start .fits .z) in
     let h : length (now (a .buf)) < 2 ^ 64 = search needs in
     both {l = now (a .buf)}
-    (said (ap (λ (n : ℕ). 45 ∷ decimal n) (c .before .before .before .magnitude .ensures ∙ ap natAbs k) ∙ minus (a .z) (rw k at (c .before .before .before .before .before .before .before .before .before .if1 .taken)))
-    (then h (put (c .before .before .before .before .before .before .before .put-byte .ensures)) (put (c .before .before .put-decimal .ensures))))
+    (said
+    (ap (λ (n : ℕ). 45 ∷ decimal n) (digits .before .magnitude .ensures ∙ ap natAbs k)
+    ∙ minus (a .z) (rw k at (sign .before .before .if1 .taken)))
+    (then h (put (sign .put-byte .ensures)) (put (digits .put-decimal .ensures))))
 
 same-length-2 : tie.Need-same-length-2
 same-length-2 c = search needs
 
 returns-2 : tie.Need-returns-2
 returns-2 c =
-    let a = c .before .before .before .before .before .before .before .args in
-    let k = toZ-ofZ (c .before .before .before .before .before .before .before .fits .z) in
+    let digits = c .before .before in
+    let test = digits .before .before .before in
+    let start = test .before .before in
+    let a = start .args in
+    let k = toZ-ofZ (start .fits .z) in
     both {l = now (a .buf)}
-    (said (ap decimal (c .before .before .before .magnitude2 .ensures ∙ ap natAbs k) ∙ plain (a .z) (rw k at (c .before .before .before .before .before .if1 .left)))
-    (put (c .before .before .put-decimal2 .ensures)))
+    (said (ap decimal (digits .before .magnitude2 .ensures ∙ ap natAbs k) ∙ plain (a .z) (rw k at (test .if1 .left)))
+    (put (digits .put-decimal2 .ensures)))
 
 pub put-signed-spec : {M : Type 1} → statement M
 put-signed-spec =

@@ -19,9 +19,10 @@ same-length c = search needs
 returns : tie.Need-returns
 unfolding word
 returns c =
-    let a = c .before .before .before .before .before .before .before .before .before .args in
-    both
-    (then {l = now (a .buf)} (search needs) (put (c .before .before .before .before .before .before .put-byte .ensures)) (put (c .before .before .put-decimal .ensures)))
+    let digits = c .before .before in
+    let space = digits .before .before .before .before in
+    let a = space .before .before .before .args in
+    both {l = now (a .buf)} (then (search needs) (put (space .put-byte .ensures)) (put (digits .put-decimal .ensures)))
 
 pub put-word-spec : {M : Type 1} → statement M
 put-word-spec = tie.close (tie.spec put-byte-requires put-decimal-requires same-length returns)
