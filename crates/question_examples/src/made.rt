@@ -2,8 +2,9 @@
 use crate::print::end;
 use crate::print::text;
 use crate::search::asked;
-use crate::search::call;
+use crate::search::begin_line;
 use crate::search::carried_on;
+use crate::search::step_line;
 use crate::unfit::calls;
 use question::Question;
 use window::Window;
@@ -18,9 +19,9 @@ pub fn all() {
 
 fn one(name: &[u8], window: Window, question: Question) {
     text(name);
-    call(b" step", question, question.step(window));
+    step_line(b" step", question, question.step(window));
     text(name);
-    call(b" begin", question, question.begin(window));
+    begin_line(b" begin", question.begin(window));
 }
 
 fn standing(question: Question, next: u16) -> Question {
@@ -74,7 +75,7 @@ fn left() {
     let window = Window::fresh(2).window.with(4000, 4000).with(5, 5);
     let begun = asked(2, 1, 1).begin(window).question;
     let stepped = begun.step(window).question;
-    call(b"listed", begun, begun.step(window));
+    step_line(b"listed", begun, begun.step(window));
     text(b"left");
     calls(window.with(1, 1), stepped);
     end();
@@ -84,8 +85,14 @@ fn left() {
 fn joined() {
     let window = Window::fresh(3).window.with(4000, 4000).with(5, 5);
     let begun = asked(2, 1, 1).begin(window).question;
-    text(b"entered behind the search");
-    carried_on(window.with(4090, 4090), begun.step(window).question);
-    text(b"entered before the search");
-    carried_on(window.with(3000, 3000), begun.step(window).question);
+    carried_on(
+        b"entered behind the search",
+        window.with(4090, 4090),
+        begun.step(window).question,
+    );
+    carried_on(
+        b"entered before the search",
+        window.with(3000, 3000),
+        begun.step(window).question,
+    );
 }

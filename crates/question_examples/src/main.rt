@@ -97,7 +97,7 @@ fn zero(window: Window) {
 
 // Other searches with a line for each step.
 fn others() {
-    shown(filled(5, 12, 201, 0), asked(2, 3, -2));
+    shown(filled(5, 12, 216, 0), asked(2, 3, -2));
     shown(filled(30, 47, 202, 3), asked(3, -3, 7));
     shown(filled(1024, 1500, 203, 0), asked(16, 1000, 1000));
     shown(filled(1024, 900, 204, 2), asked(16, -1000, 0));

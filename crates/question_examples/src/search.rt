@@ -29,7 +29,7 @@ impl Run {
         let before = self.question;
         let answer = before.step(window);
         if shown {
-            call(b"step", before, answer);
+            step_line(b"step", before, answer);
         }
         let mut next = self;
         next.refusal = answer.refusal;
@@ -63,16 +63,31 @@ pub fn asked(k: u8, loss: i16, shake: i16) -> Question {
     question
 }
 
-// The line of a call: its refusal, the marks that it changed, the steps taken and the list.
-pub fn call(name: &[u8], before: Question, answer: Stepped) {
+// The line of a step: its refusal, the marks that it changed, the steps taken and the list.
+pub fn step_line(name: &[u8], before: Question, answer: Stepped) {
     let after = answer.question;
     text(name);
     number(answer.refusal as u64);
     marked_since(before.marks(), after.marks());
-    text(b" steps");
-    number(after.steps() as u64);
-    list(after);
+    standing(after);
     end();
+}
+
+// The line of a beginning: its refusal, the marks, the steps taken and the list.
+pub fn begin_line(name: &[u8], answer: Stepped) {
+    let after = answer.question;
+    text(name);
+    number(answer.refusal as u64);
+    tally(after.marks());
+    standing(after);
+    end();
+}
+
+// The steps that a question tells, and its list.
+fn standing(question: Question) {
+    text(b" steps");
+    number(question.steps() as u64);
+    list(question);
 }
 
 // A search with a line for each call, and its marked cells.
@@ -80,29 +95,34 @@ pub fn shown(window: Window, question: Question) {
     asking(question);
     end();
     let begun = question.begin(window);
-    call(b"begin", question, begun);
-    let after = stepped(window, begun, true);
+    begin_line(b"begin", begun);
+    let run = begun_run(begun).ended(window, true);
+    text(b"end");
+    told_end(window, run);
+    let last = run.question;
     text(b"cells");
-    marked_since([false; 256], after.marks());
+    marked_since([false; 256], last.marks());
     end();
 }
 
 // A search on one line.
 pub fn told(window: Window, question: Question) {
+    let begun = question.begin(window);
     asking(question);
-    stepped(window, question.begin(window), false);
+    text(b" begin");
+    number(begun.refusal as u64);
+    told_end(window, begun_run(begun).ended(window, false));
 }
 
-// A search that is under way, on one line.
-pub fn carried_on(window: Window, question: Question) {
-    stepped(
-        window,
-        Stepped {
-            refusal: 0,
-            question,
-        },
-        false,
-    );
+// The rest of a search that is under way, on one line.
+pub fn carried_on(name: &[u8], window: Window, question: Question) {
+    let run = Run {
+        refusal: 0,
+        taken: 0,
+        question,
+    };
+    text(name);
+    told_end(window, run.ended(window, false));
 }
 
 fn asking(question: Question) {
@@ -119,36 +139,28 @@ fn wide(weight: i16) -> i32 {
     weight as i32
 }
 
-// The steps after a beginning, and the line of the search's end: the beginning's refusal, the steps answered 0, the last
-// refusal, the steps that the question tells, its marks and list; and whether the run to the end answers the same.
-fn stepped(window: Window, begun: Stepped, shown: bool) -> Question {
-    let first = begun.question;
-    let run = Run {
+fn begun_run(begun: Stepped) -> Run {
+    let question = begun.question;
+    Run {
         refusal: begun.refusal,
         taken: 0,
-        question: first,
-    };
-    let last = run.ended(window, shown);
-    let question = last.question;
-    text(b" begin");
-    number(begun.refusal as u64);
-    text(b" taken");
-    number(last.taken as u64);
-    text(b" last");
-    number(last.refusal as u64);
-    text(b" steps");
-    number(question.steps() as u64);
-    tally(question.marks());
-    list(question);
-    whole(window, question);
-    end();
-    question
+        question,
+    }
 }
 
-// The run to the end of the same question.
-fn whole(window: Window, question: Question) {
+// The end of a search: the steps answered 0, the last refusal, the marks, the steps that the question tells and its list;
+// and the steps of the run to the end, with whether that leaves the same question.
+fn told_end(window: Window, run: Run) {
+    let question = run.question;
     let searched = question.searched(window);
+    text(b" taken");
+    number(run.taken as u64);
+    text(b" last");
+    number(run.refusal as u64);
+    tally(question.marks());
+    standing(question);
     text(b" searched");
     number(searched.steps as u64);
     same(question, searched.question);
+    end();
 }
