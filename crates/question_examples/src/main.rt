@@ -88,8 +88,6 @@ fn zero(window: Window) {
     text(b"P8 ");
     told(window, asked(1, 0, 0));
     text(b"P8 ");
-    told(window, asked(2, 0, 0));
-    text(b"P8 ");
     told(window, asked(3, 0, 0));
     text(b"P8 ");
     told(window, asked(16, 0, 0));
@@ -143,7 +141,7 @@ fn large_windows() {
     window(1024, 1100, 31, 4);
 }
 
-// Eight searches of one window.
+// Seven searches of one window.
 fn window(size: u16, reports: u16, seed: u32, kind: u8) {
     let window = filled(size, reports, seed, kind);
     text(b"window");
@@ -158,6 +156,5 @@ fn window(size: u16, reports: u16, seed: u32, kind: u8) {
     told(window, asked(16, -1000, -1000));
     told(window, asked(1, 0, 5));
     told(window, asked(2, -1, 0));
-    told(window, asked(3, 0, 0));
     told(window, asked(16, 17, 300));
 }
