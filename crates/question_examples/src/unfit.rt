@@ -30,9 +30,13 @@ fn window() -> Window {
     more.with(500, 3500).with(2000, 2500)
 }
 
-// The list 6:7500 7:7000 3:7000 5:3000 of a search that has ended.
+// The list 6:7500 7:7000 3:7000 5:3000 of a search that has ended: the cell 0 alone is left, and its best possible score is
+// 765.
 fn ended() -> Question {
-    asked(4, 1, 2).searched(window()).question
+    let two = asked(4, 1, 2).added(6, 7500).added(7, 7000);
+    let mut four = two.added(3, 7000).added(5, 3000);
+    four.next = 0;
+    four
 }
 
 // A step and a beginning of a question, and of the same while its search is under way: at the cell 255, the first by its
