@@ -1,20 +1,9 @@
 // Lines on standard output.
 use libc::STDOUT_FILENO;
+pub use printing::end;
+pub use printing::number;
+pub use printing::text;
 use question::Question;
-
-pub fn text(s: &[u8]) {
-    io::write_all(STDOUT_FILENO, s);
-}
-
-pub fn end() {
-    text(b"\n");
-}
-
-// A space and a number.
-pub fn number(n: u64) {
-    text(b" ");
-    io::print_decimal(STDOUT_FILENO, n);
-}
 
 // A number that may be negative.
 pub fn signed(z: i32) {
