@@ -1,9 +1,9 @@
 -- What a fit window is known to have, row by row, and that a report more keeps it: only the new report's row changes, and only that row had to.
 -- Assumes nothing.
-use mathlib.Core.Path.{_≡_, refl, sym, ap, _∙_, subst}
+use mathlib.Core.Path.{_≡_, refl, sym, _∙_, subst}
 use mathlib.Core.Logic.{⊎-elim}
 use mathlib.Core.Bool.{Bool, true, false, cond, _&&_}
-use Prim.Native.Nat.{ℕ, zero, suc, min, _+_, _-_, _≤_, _<_, zero-le}
+use Prim.Native.Nat.{ℕ, zero, suc, _+_, _-_, _≤_, _<_, zero-le}
 use native.Mathlib.Nat.{not-suc-le-zero, le-of-suc-le-suc, mod-lt}
 use native.Mathlib.Omega.{arith}
 use borrow.Author.Tests.{leb-true, eqb-true, le-leb, lt-ltb, le-ltb, eq-eqb, ne-eqb, eqb-false}
@@ -14,42 +14,42 @@ use Rattle.ranking.proofs.Tests.{Tested, passed, failed, tested, clash, and-bot
 use Rattle.ranking.proofs.Lists.{lt-or-eq}
 use Rattle.window.specs.Rows.{sized, empty, freshWindow, rowOf, age, due, holds, rowFit, rowsFit, countsFit, fitWindow, grown, added}
 use Rattle.window.specs.declared.Window.{Window}
-use Rattle.window.proofs.Ring.{still-rows, still-were, due-new, due-later}
+use Rattle.window.proofs.Ring.{Ring, next-ring, due-new, due-later}
 
 -- ---- each test as a fact
 
 pub size-range : (n : ℕ) → sized n ≡ true → (1 ≤ n) × (n ≤ 1024)
 size-range n h = let both = and-both (leb 1 n) (leb n 1024) h in (leb-true 1 n (both .0), leb-true n 1024 (both .1))
 
--- The three counts are in their ranges.
-pub record Counts (size entered held : ℕ) : Type 0 where
-  pub some : 1 ≤ size
-  pub within : size ≤ 1024
-  pub at-most : entered ≤ 1000000
-  pub has-rows : held ≤ size
-  pub were-entered : held ≤ entered
-
-pub counts : (size entered held : ℕ) → countsFit size entered held ≡ true → Counts size entered held
-counts size entered held h =
-    let a = and-both (sized size && leb entered 1000000 && leb held size) (leb held entered) h in
-    let b = and-both (sized size && leb entered 1000000) (leb held size) (a .0) in
-    let c = and-both (sized size) (leb entered 1000000) (b .0) in
-    record {
-      some = size-range size (c .0) .0;
-      within = size-range size (c .0) .1;
-      at-most = leb-true entered 1000000 (c .1);
-      has-rows = leb-true held size (b .1);
-      were-entered = leb-true held entered (a .1);
-    }
-
 pub is-sized : (n : ℕ) → 1 ≤ n → n ≤ 1024 → sized n ≡ true
 is-sized n some within = and-true (le-leb 1 n some) (le-leb n 1024 within)
 
-counted : (size entered held : ℕ) → Counts size entered held → countsFit size entered held ≡ true
-counted size entered held k =
+-- The three counts are in their ranges.
+pub record Counts (w : Window) : Type 0 where
+  pub ring : Ring (w .size) (w .entered) (w .held)
+  pub within : w .size ≤ 1024
+  pub at-most : w .entered ≤ 1000000
+
+pub counts : (w : Window) → countsFit (w .size) (w .entered) (w .held) ≡ true → Counts w
+counts w h =
+    let a = and-both (sized (w .size) && leb (w .entered) 1000000 && leb (w .held) (w .size)) (leb (w .held) (w .entered)) h in
+    let b = and-both (sized (w .size) && leb (w .entered) 1000000) (leb (w .held) (w .size)) (a .0) in
+    let c = and-both (sized (w .size)) (leb (w .entered) 1000000) (b .0) in
+    record {
+      ring = record {
+        some = size-range (w .size) (c .0) .0;
+        has-rows = leb-true (w .held) (w .size) (b .1);
+        were-entered = leb-true (w .held) (w .entered) (a .1);
+      };
+      within = size-range (w .size) (c .0) .1;
+      at-most = leb-true (w .entered) 1000000 (c .1);
+    }
+
+counted : (w : Window) → Counts w → countsFit (w .size) (w .entered) (w .held) ≡ true
+counted w k =
     and-true
-    (and-true (and-true (is-sized size (k .some) (k .within)) (le-leb entered 1000000 (k .at-most))) (le-leb held size (k .has-rows)))
-    (le-leb held entered (k .were-entered))
+    (and-true (and-true (is-sized (w .size) (k .ring .some) (k .within)) (le-leb (w .entered) 1000000 (k .at-most))) (le-leb (w .held) (w .size) (k .ring .has-rows)))
+    (le-leb (w .held) (w .entered) (k .ring .were-entered))
 
 -- What a row holds that passes its test.
 pub record Held-in (due number loss shake : ℕ) : Type 0 where
@@ -94,18 +94,18 @@ module _ (w : Window) where
 
   -- A fit window, by its facts.
   pub record Fit : Type 0 where
-    pub ranges : Counts (w .size) (w .entered) (w .held)
+    pub ranges : Counts w
     pub rows : (r : ℕ) → r < 1024 → rowFit w r ≡ true
 
   pub fit-facts : fitWindow w ≡ true → Fit
   unfolding fitWindow
   fit-facts h =
       let both = and-both (countsFit (w .size) (w .entered) (w .held)) (rowsFit w 1024) h in
-      record { ranges = counts (w .size) (w .entered) (w .held) (both .0); rows = every-row 1024 (both .1) }
+      record { ranges = counts w (both .0); rows = every-row 1024 (both .1) }
 
   pub fit-is : Fit → fitWindow w ≡ true
   unfolding fitWindow
-  fit-is f = and-true (counted (w .size) (w .entered) (w .held) (f .ranges)) (rows-fit 1024 (f .rows))
+  fit-is f = and-true (counted w (f .ranges)) (rows-fit 1024 (f .rows))
 
   -- The arrays have their 1,024 places, as those of every stored window do.
   pub record Whole : Type 0 where
@@ -129,11 +129,9 @@ empty-fit n h =
     let range = size-range n h in
     fit-is (empty n) (record {
       ranges = record {
-        some = range .0;
+        ring = record { some = range .0; has-rows = omega arith; were-entered = omega arith };
         within = range .1;
         at-most = omega arith;
-        has-rows = omega arith;
-        were-entered = omega arith;
       };
       rows = λ r l. unused r (getD-replicate 1024 r 0 0 l);
     })
@@ -171,13 +169,13 @@ module _ (w : Window) (loss shake : ℕ) where
       go (passed t) = rw t (grown-whole k)
       go (failed f) = rw f k
 
-  module _ (ranges : Counts (w .size) (w .entered) (w .held)) (whole : Whole w) where
+  module _ (ranges : Counts w) (whole : Whole w) where
     -- the row that the report takes
     abbrev pub place : ℕ
     place = rowOf (w .size) (w .entered + 1)
 
     pub placed : place < 1024
-    placed = omega (arith, mod-lt (w .entered + 1 - 1) (ranges .some))
+    placed = omega (arith, mod-lt (w .entered + 1 - 1) (ranges .ring .some))
 
     pub loss-there : getD (set (w .losses) place loss) place 0 ≡ loss
     loss-there = getD-set-same (w .losses) place loss 0 (rw (whole .losses-whole) placed)
@@ -190,13 +188,13 @@ module _ (w : Window) (loss shake : ℕ) where
 
     new-row : loss ≤ 4095 → shake ≤ 4095 → rowFit (grown w loss shake) place ≡ true
     new-row l s =
-        let now-due = due-new (w .size) (ranges .some) (w .entered) (w .held) (ranges .has-rows) (ranges .were-entered) in
+        let now-due = due-new (ranges .ring) in
         let some : w .entered + 1 ≡ 0 → ⊥ = λ e. omega arith in
         rw (now-due, number-there, loss-there, shake-there, eq-eqb (w .entered + 1) (w .entered + 1) refl, ne-eqb (w .entered + 1) 0 some, le-leb loss 4095 l, le-leb shake 4095 s)
 
     old-row : (r : ℕ) → (r ≡ place → ⊥) → rowFit (grown w loss shake) r ≡ rowFit w r
     old-row r other =
-        let still = due-later (w .size) (ranges .some) (w .entered) (w .held) (ranges .has-rows) (ranges .were-entered) r other in
+        let still = due-later (ranges .ring) r other in
         rw (
           still,
           getD-set-other (w .numbers) place r (w .entered + 1) 0 other,
@@ -207,22 +205,16 @@ module _ (w : Window) (loss shake : ℕ) where
   -- A fit window stays fit with a report of permitted values more.
   pub added-fit : fitWindow w ≡ true → Whole w → w .entered < 1000000 → loss ≤ 4095 → shake ≤ 4095 → fitWindow (added w loss shake) ≡ true
   added-fit fit whole room l s =
-      subst (λ v. fitWindow v ≡ true) (sym (added-taken (is-sized (w .size) (k .some) (k .within)) room))
+      subst (λ v. fitWindow v ≡ true) (sym (added-taken (is-sized (w .size) (k .ring .some) (k .within)) room))
       (fit-is (grown w loss shake) (record {
-        ranges = record {
-          some = k .some;
-          within = k .within;
-          at-most = omega arith;
-          has-rows = still-rows (w .size) (k .some) (w .entered) (w .held) (k .has-rows) (k .were-entered);
-          were-entered = still-were (w .size) (k .some) (w .entered) (w .held) (k .has-rows) (k .were-entered);
-        };
+        ranges = record { ring = next-ring (k .ring); within = k .within; at-most = omega arith };
         rows = λ r below. go r below (tested (eqb r (place k whole)));
       }))
     where
       f : Fit w
       f = fit-facts w fit
 
-      k : Counts (w .size) (w .entered) (w .held)
+      k : Counts w
       k = f .ranges
 
       go : (r : ℕ) → r < 1024 → Tested (eqb r (place k whole)) → rowFit (grown w loss shake) r ≡ true

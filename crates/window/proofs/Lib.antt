@@ -3,3 +3,5 @@ pub mod Ring
 pub mod Fitness
 pub mod Reports
 pub mod Standing
+pub mod History
+pub mod Outcomes

@@ -1,19 +1,17 @@
 -- The held reports are those of a run of numbers, so a report more drops the first of the run where the window is full, and ends it with the new one.
 -- Assumes nothing.
-use mathlib.Core.Path.{_≡_, refl, sym, ap, _∙_, subst}
+use mathlib.Core.Path.{_≡_, refl, sym, ap, _∙_}
 use mathlib.Core.Logic.{_⊎_, inl, inr, ⊎-elim}
-use mathlib.Core.Bool.{true}
-use mathlib.Core.List.{List, [], _∷_, _++_, List·Memᴰ·head, List·Memᴰ·not-nil, List·Memᴰ·cases-cons}
+use mathlib.Core.List.{[], _∷_, _++_, List·Memᴰ·head, List·Memᴰ·not-nil, List·Memᴰ·cases-cons}
 use Prim.Native.Nat.{ℕ, zero, suc, min, _+_, _-_, _≤_, _<_}
-use native.Mathlib.Nat.{add-zero, eq-or-lt-of-le}
+use native.Mathlib.Nat.{add-zero, eq-or-lt-of-le, not-suc-le-zero}
 use native.Mathlib.Omega.{arith}
-use native.Mathlib.Numerals.{add-one}
 use lib.ListN.{length, drop}
 use lib.Seq.{getD-set-other}
 use Rattle.ranking.specs.Best.{_∈_}
 use Rattle.ranking.specs.Standing.{Held}
-use Rattle.ranking.proofs.Lists.{Pairwise, pairwise-map, here, there}
-use Rattle.window.specs.Rows.{sized, empty, rowOf, reportOf, reportsFrom, heldReports, grown, added}
+use Rattle.ranking.proofs.Lists.{Pairwise, pairwise-map, there}
+use Rattle.window.specs.Rows.{empty, rowOf, reportOf, reportsFrom, oldest, heldReports, grown, added}
 use Rattle.window.specs.declared.Window.{Window}
 use Rattle.window.proofs.Ring.{rows-differ}
 use Rattle.window.proofs.Fitness.{Counts, Whole, added-taken, is-sized, place, loss-there, shake-there}
@@ -30,7 +28,7 @@ module _ (w : Window) where
   -- as many as are held
   pub length-held : length (heldReports w) ≡ w .held
   unfolding heldReports
-  length-held = length-reports (w .entered - w .held + 1) (w .held)
+  length-held = length-reports (oldest w) (w .held)
 
   reports-snoc : (m n : ℕ) → reportsFrom w m (suc n) ≡ reportsFrom w m n ++ (reportOf w (m + n) ∷ [])
   reports-snoc m zero = ap (λ j. reportOf w j ∷ []) (sym (add-zero m))
@@ -86,19 +84,19 @@ module _ (w : Window) where
           omega arith
 
 -- numbers between the first and the last held
-module _ (w : Window) (ranges : Counts (w .size) (w .entered) (w .held)) where
+module _ (w : Window) (ranges : Counts w) where
   pub held-in : (m : ℕ) → w .entered < m + w .held → m ≤ w .entered → reportOf w m ∈ heldReports w
   unfolding heldReports
   held-in m late entered =
-      reports-in w (w .entered - w .held + 1) (w .held) m (omega (arith, ranges .were-entered)) (omega (arith, ranges .were-entered))
+      reports-in w (oldest w) (w .held) m (omega (arith, ranges .ring .were-entered)) (omega (arith, ranges .ring .were-entered))
 
   pub held-of : {x : Held} → x ∈ heldReports w → (m : ℕ) × (w .entered < m + w .held) × (m ≤ w .entered) × (x ≡ reportOf w m)
   unfolding heldReports
   held-of {x} k =
-      let r = reports-of w (w .entered - w .held + 1) (w .held) k in
-      let from : w .entered - w .held + 1 ≤ r .0 = r .1 in
-      let below : r .0 < w .entered - w .held + 1 + w .held = r .2 in
-      (r .0, omega (arith, ranges .were-entered), omega (arith, ranges .were-entered), r .3)
+      let r = reports-of w (oldest w) (w .held) k in
+      let from : oldest w ≤ r .0 = r .1 in
+      let below : r .0 < oldest w + w .held = r .2 in
+      (r .0, omega (arith, ranges .ring .were-entered), omega (arith, ranges .ring .were-entered), r .3)
 
   -- The held numbers are the latest ones: above `entered` less `held`, and up to `entered`.
   pub held-latest : (x : Held) → x ∈ heldReports w → (w .entered < x .number + w .held) × (x .number ≤ w .entered)
@@ -109,10 +107,25 @@ module _ (w : Window) (ranges : Counts (w .size) (w .entered) (w .held)) where
       let numbered : x .number ≡ r .0 = ap (λ (z : Held). z .number) (r .3) in
       (omega arith, omega arith)
 
+  -- A held report is the one that lies in its number's row.
+  pub held-report : (x : Held) → x ∈ heldReports w → x ≡ reportOf w (x .number)
+  held-report x k =
+      let r = held-of k in
+      r .3 ∙ ap (reportOf w) (sym (ap (λ (z : Held). z .number) (r .3)))
+
+-- The oldest stands first: the one that leaves a full window.
+pub oldest-first : (w : Window) → 1 ≤ w .held → heldReports w ≡ reportOf w (oldest w) ∷ drop 1 (heldReports w)
+unfolding heldReports
+oldest-first w some = first (oldest w) (w .held) some
+  where
+    first : (m n : ℕ) → 1 ≤ n → reportsFrom w m n ≡ reportOf w m ∷ drop 1 (reportsFrom w m n)
+    first m zero h = absurd (not-suc-le-zero h)
+    first m (suc n) h = refl
+
 -- The held reports are strictly rising in number, oldest first.
 pub held-rising : (w : Window) → Pairwise Older (heldReports w)
 unfolding heldReports
-held-rising w = reports-rising w (w .entered - w .held + 1) (w .held)
+held-rising w = reports-rising w (oldest w) (w .held)
 
 -- No two have one number.
 pub held-distinct : (w : Window) → Pairwise (λ (q r : Held). q .number ≡ r .number → ⊥) (heldReports w)
@@ -139,13 +152,13 @@ reports-same v w m (suc n) h =
 abbrev pub entering : Window → ℕ → ℕ → Held
 entering w loss shake = record { number = w .entered + 1; loss = loss; shake = shake }
 
-module _ (w : Window) (loss shake : ℕ) (ranges : Counts (w .size) (w .entered) (w .held)) (whole : Whole w) where
+module _ (w : Window) (loss shake : ℕ) (ranges : Counts w) (whole : Whole w) where
   new-report : reportOf (grown w loss shake) (w .entered + 1) ≡ entering w loss shake
   new-report = rw (loss-there w loss shake ranges whole, shake-there w loss shake ranges whole)
 
   old-report : (m : ℕ) → 1 ≤ m → m ≤ w .entered → w .entered + 1 < m + w .size → reportOf (grown w loss shake) m ≡ reportOf w m
   old-report m first entered near =
-      let other = rows-differ (w .size) (ranges .some) m (w .entered + 1) first (omega arith) near in
+      let other = rows-differ (w .size) (ranges .ring .some) m (w .entered + 1) first (omega arith) near in
       rw (
         getD-set-other (w .losses) (place w loss shake ranges whole) (rowOf (w .size) m) loss 0 other,
         getD-set-other (w .shakes) (place w loss shake ranges whole) (rowOf (w .size) m) shake 0 other,
@@ -155,7 +168,7 @@ module _ (w : Window) (loss shake : ℕ) (ranges : Counts (w .size) (w .entered)
   pub held-added : w .entered < 1000000 → heldReports (added w loss shake) ≡ drop (w .held + 1 - w .size) (heldReports w) ++ (entering w loss shake ∷ [])
   unfolding heldReports
   held-added room =
-      ap heldReports (added-taken w loss shake (is-sized (w .size) (ranges .some) (ranges .within)) room)
+      ap heldReports (added-taken w loss shake (is-sized (w .size) (ranges .ring .some) (ranges .within)) room)
       ∙ ap (λ n. reportsFrom g (e + 1 - n + 1) n) next
       ∙ ap (λ m. reportsFrom g m (suc n)) from
       ∙ reports-snoc g (e - n + 1) n
@@ -173,10 +186,10 @@ module _ (w : Window) (loss shake : ℕ) (ranges : Counts (w .size) (w .entered)
       n = min (w .size) (w .held + 1) - 1
 
       next : min (w .size) (w .held + 1) ≡ suc n
-      next = omega (arith, ranges .some)
+      next = omega (arith, ranges .ring .some)
 
       bound : (n ≤ e) × (n < w .size)
-      bound = (omega (arith, ranges .some, ranges .were-entered), omega (arith, ranges .some))
+      bound = (omega (arith, ranges .ring .some, ranges .ring .were-entered), omega (arith, ranges .ring .some))
 
       from : e + 1 - suc n + 1 ≡ e - n + 1
       from = omega (arith, bound)
@@ -187,14 +200,14 @@ module _ (w : Window) (loss shake : ℕ) (ranges : Counts (w .size) (w .entered)
       kept : reportsFrom g (e - n + 1) n ≡ reportsFrom w (e - n + 1) n
       kept = reports-same g w (e - n + 1) n (λ j a b. old-report j (omega arith) (omega (arith, bound)) (omega (arith, bound)))
 
-      gone : e - w .held + 1 + (w .held + 1 - w .size) ≡ e - n + 1
-      gone = omega (arith, ranges .some, ranges .has-rows, ranges .were-entered)
+      gone : oldest w + (w .held + 1 - w .size) ≡ e - n + 1
+      gone = omega (arith, ranges .ring .some, ranges .ring .has-rows, ranges .ring .were-entered)
 
       left : w .held - (w .held + 1 - w .size) ≡ n
-      left = omega (arith, ranges .some, ranges .has-rows)
+      left = omega (arith, ranges .ring .some, ranges .ring .has-rows)
 
-      dropped : drop (w .held + 1 - w .size) (reportsFrom w (e - w .held + 1) (w .held)) ≡ reportsFrom w (e - n + 1) n
+      dropped : drop (w .held + 1 - w .size) (reportsFrom w (oldest w) (w .held)) ≡ reportsFrom w (e - n + 1) n
       dropped =
-          reports-drop w (w .held + 1 - w .size) (e - w .held + 1) (w .held)
+          reports-drop w (w .held + 1 - w .size) (oldest w) (w .held)
           ∙ ap (λ m. reportsFrom w m (w .held - (w .held + 1 - w .size))) gone
           ∙ ap (reportsFrom w (e - n + 1)) left

@@ -1,7 +1,7 @@
 -- Rows of a ring and the numbers that lie in them: a row and the age of its report determine each other, since a ring of N rows tells apart any N numbers in a row.
 -- Assumes nothing.
 use mathlib.Core.Path.{_≡_, sym, ap, _∙_}
-use mathlib.Core.Bool.{_&&_}
+use mathlib.Core.Bool.{cond, _&&_}
 use Prim.Native.Nat.{ℕ, suc, min, _+_, _-_, _*_, _/_, _%_, _≤_, _<_}
 use native.Mathlib.Nat.{mod-lt, mod-eq-of-lt, div-add-mod, add-mod-right, add-mul-mod-self-left, mul-suc}
 use native.Mathlib.Omega.{arith}
@@ -53,35 +53,43 @@ module _ (N : ℕ) (some : 1 ≤ N) where
       omega (arith, ap (age N m) same)
 
   -- the rows may be counted back from that of the latest report
-  pub age-from : (e r last steps : ℕ) → r < N → last ≡ rowOf N (e + N) → steps ≡ (last + N - r) % N → steps ≡ age N e r
-  age-from e r last steps h at counted =
+  pub due-from : (e h r last steps : ℕ) → r < N → last ≡ rowOf N (e + N) → steps ≡ (last + N - r) % N → due N e h r ≡ cond (ltb steps h) (e - steps) 0
+  due-from e h r last steps in-ring at counted =
       let x = e + N - 1 in
       let whole = div-add-mod x N in
+      let same : steps ≡ age N e r =
       counted
       ∙ ap (λ n. (n + N - r) % N) at
       ∙ sym (turns N (x - r + N) (x % N + N - r) (x / N) (omega arith))
-      ∙ add-mod-right (x - r) N
+      ∙ add-mod-right (x - r) N in
+      rw (lt-ltb _ _ in-ring, ← same)
 
--- What the rows of a ring must hold, where the latest h of e numbers are held.
-module _ (N : ℕ) (some : 1 ≤ N) (e h : ℕ) (rows : h ≤ N) (were : h ≤ e) where
+-- A ring of N rows, where the latest h of e numbers are held.
+pub record Ring (N e h : ℕ) : Type 0 where
+  pub some : 1 ≤ N
+  pub has-rows : h ≤ N
+  pub were-entered : h ≤ e
+
+-- The number m is held, and the row is its own.
+pub record Kept (N e h r m : ℕ) : Type 0 where
+  pub in-ring : r < N
+  pub late : e < m + h
+  pub entered : m ≤ e
+  pub its-row : rowOf N m ≡ r
+
+module _ {N e h : ℕ} (ring : Ring N e h) where
   -- the row of a held number must hold it
   pub due-held : (m : ℕ) → e < m + h → m ≤ e → due N e h (rowOf N m) ≡ m
   due-held m late entered =
-      let old : age N e (rowOf N m) ≡ e - m = age-of-row N some e m (omega arith) entered (omega arith) in
+      let old : age N e (rowOf N m) ≡ e - m = age-of-row N (ring .some) e m (omega arith) entered (omega arith) in
       let young : age N e (rowOf N m) < h = omega arith in
-      rw (lt-ltb _ _ (mod-lt (m - 1) some), lt-ltb _ _ young) (omega arith)
+      rw (lt-ltb _ _ (mod-lt (m - 1) (ring .some)), lt-ltb _ _ young) (omega arith)
 
-  -- and where a row must hold a number, it is a held one and the row its own
-  pub record Kept (r m : ℕ) : Type 0 where
-    pub in-ring : r < N
-    pub late : e < m + h
-    pub entered : m ≤ e
-    pub its-row : rowOf N m ≡ r
-
-  pub due-kept : (r : ℕ) → (due N e h r ≡ 0 → ⊥) → Kept r (due N e h r)
+  -- and where a row must hold a number, it is a held one whose row it is
+  pub due-kept : (r : ℕ) → (due N e h r ≡ 0 → ⊥) → Kept N e h r (due N e h r)
   due-kept r given = go (tested (ltb r N && ltb (age N e r) h))
     where
-      go : Tested (ltb r N && ltb (age N e r) h) → Kept r (due N e h r)
+      go : Tested (ltb r N && ltb (age N e r) h) → Kept N e h r (due N e h r)
       go (failed f) = absurd (given (rw f))
       go (passed t) =
           let both = and-both (ltb r N) (ltb (age N e r) h) t in
@@ -92,20 +100,17 @@ module _ (N : ℕ) (some : 1 ≤ N) (e h : ℕ) (rows : h ≤ N) (were : h ≤ e
             in-ring = in-ring;
             late = omega arith;
             entered = omega arith;
-            its-row = ap (rowOf N) is ∙ row-of-age N some e r in-ring (omega arith);
+            its-row = ap (rowOf N) is ∙ row-of-age N (ring .some) e r in-ring (omega arith);
           }
 
 -- With one number more, every row but its own must hold what it had to hold before.
-module _ (N : ℕ) (some : 1 ≤ N) (e h : ℕ) (rows : h ≤ N) (were : h ≤ e) where
-  pub still-rows : min N (h + 1) ≤ N
-  still-rows = omega arith
-
-  pub still-were : min N (h + 1) ≤ e + 1
-  still-were = omega arith
+module _ {N e h : ℕ} (ring : Ring N e h) where
+  pub next-ring : Ring N (e + 1) (min N (h + 1))
+  next-ring = record { some = ring .some; has-rows = omega arith; were-entered = omega arith }
 
   -- the new number's row
   pub due-new : due N (e + 1) (min N (h + 1)) (rowOf N (e + 1)) ≡ e + 1
-  due-new = due-held N some (e + 1) (min N (h + 1)) still-rows still-were (e + 1) (omega arith) (omega arith)
+  due-new = due-held next-ring (e + 1) (omega arith) (omega arith)
 
   module _ (r : ℕ) (other : r ≡ rowOf N (e + 1) → ⊥) where
     -- the only number that is held no more had the new number's row
@@ -120,18 +125,14 @@ module _ (N : ℕ) (some : 1 ≤ N) (e h : ℕ) (rows : h ≤ N) (were : h ≤ e
         go (failed f) =
             absurd (other (sym own ∙ sym (add-mod-right (m - 1) N) ∙ ap (λ n. n % N) (sym (oldest (ltb-false _ _ f)))))
 
-    stays : Kept N some e h rows were r (due N e h r) → due N (e + 1) (min N (h + 1)) r ≡ due N e h r
+    stays : Kept N e h r (due N e h r) → due N (e + 1) (min N (h + 1)) r ≡ due N e h r
     stays k =
         ap (due N (e + 1) (min N (h + 1))) (sym (k .its-row))
-        ∙ due-held N some (e + 1) (min N (h + 1)) still-rows still-were (due N e h r)
-        (still (due N e h r) (k .late) (k .entered) (k .its-row)) (omega arith)
+        ∙ due-held next-ring (due N e h r) (still (due N e h r) (k .late) (k .entered) (k .its-row)) (omega arith)
 
-    was : Kept N some (e + 1) (min N (h + 1)) still-rows still-were r (due N (e + 1) (min N (h + 1)) r) → due N (e + 1) (min N (h + 1)) r ≡ due N e h r
-    was k = sym (ap (due N e h) (sym (k .its-row)) ∙ due-held N some e h rows were m (omega arith) (before (tested (eqb m (e + 1)))))
+    was : (m : ℕ) → Kept N (e + 1) (min N (h + 1)) r m → m ≡ due N e h r
+    was m k = sym (ap (due N e h) (sym (k .its-row)) ∙ due-held ring m (omega arith) (before (tested (eqb m (e + 1)))))
       where
-        m : ℕ
-        m = due N (e + 1) (min N (h + 1)) r
-
         before : Tested (eqb m (e + 1)) → m ≤ e
         before (passed t) = absurd (other (sym (k .its-row) ∙ ap (rowOf N) (eqb-true m (e + 1) t)))
         before (failed f) = let new = eqb-false m (e + 1) f in omega (arith, k .entered)
@@ -140,6 +141,6 @@ module _ (N : ℕ) (some : 1 ≤ N) (e h : ℕ) (rows : h ≤ N) (were : h ≤ e
     due-later = go (tested (eqb (due N e h r) 0)) (tested (eqb (due N (e + 1) (min N (h + 1)) r) 0))
       where
         go : Tested (eqb (due N e h r) 0) → Tested (eqb (due N (e + 1) (min N (h + 1)) r) 0) → due N (e + 1) (min N (h + 1)) r ≡ due N e h r
-        go (failed f) t = stays (due-kept N some e h rows were r (eqb-false _ _ f))
-        go (passed t) (failed f) = was (due-kept N some (e + 1) (min N (h + 1)) still-rows still-were r (eqb-false _ _ f))
+        go (failed f) t = stays (due-kept ring r (eqb-false _ _ f))
+        go (passed t) (failed f) = was (due N (e + 1) (min N (h + 1)) r) (due-kept next-ring r (eqb-false _ _ f))
         go (passed t) (passed u) = eqb-true _ _ u ∙ sym (eqb-true _ _ t)

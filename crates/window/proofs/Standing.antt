@@ -1,13 +1,13 @@
 -- The rows of a fit window hold exactly its held reports: a row's number says which report lies there, and each held report has a row.
 -- Assumes nothing.
-use mathlib.Core.Path.{_≡_, refl, sym, ap, _∙_, subst}
+use mathlib.Core.Path.{_≡_, sym, ap, _∙_, subst}
 use mathlib.Core.Logic.{_⊎_, inl, inr, ⊎-elim}
 use mathlib.Core.Bool.{true}
 use mathlib.Core.List.{List, map, List·Memᴰ·head, List·Memᴰ·not-nil, List·Memᴰ·cases-cons, Memᴰ·map, Memᴰ·of-map}
 use Prim.Native.Nat.{ℕ, zero, suc, _+_, _-_, _%_, _≤_, _<_}
 use native.Mathlib.Nat.{mod-lt, not-suc-le-zero, le-of-suc-le-suc}
 use native.Mathlib.Omega.{arith}
-use borrow.Author.Tests.{eqb-true, eqb-false, ne-eqb}
+use borrow.Author.Tests.{eqb-true, eqb-false}
 use lib.Dec.{eqb}
 use lib.ListN.{getD}
 use Rattle.ranking.specs.Best.{_∈_, best}
@@ -55,14 +55,14 @@ module _ (w : Window) (fit : fitWindow w ≡ true) where
   facts : Fit w
   facts = fit-facts w fit
 
-  ranges : Counts (w .size) (w .entered) (w .held)
+  ranges : Counts w
   ranges = facts .ranges
 
   row : (r : ℕ) → r < 1024 → Held-in (due (w .size) (w .entered) (w .held) r) (getD (w .numbers) r 0) (getD (w .losses) r 0) (getD (w .shakes) r 0)
   row r below = row-holds _ _ _ _ (facts .rows r below)
 
   in-ring : (m : ℕ) → rowOf (w .size) m < 1024
-  in-ring m = omega (arith, mod-lt (m - 1) (ranges .some), ranges .within)
+  in-ring m = omega (arith, mod-lt (m - 1) (ranges .ring .some), ranges .within)
 
   -- the values that stand in a row are whole
   whole : (r : ℕ) → r < 1024 → reportIn w r ≡ record { number = getD (w .numbers) r 0; loss = getD (w .losses) r 0; shake = getD (w .shakes) r 0 }
@@ -80,22 +80,29 @@ module _ (w : Window) (fit : fitWindow w ≡ true) where
       let h = row (rowOf (w .size) (r .0)) (in-ring (r .0)) in
       subst Permitted (sym (r .3)) (record { loss-fits = h .loss-fits; shake-fits = h .shake-fits })
 
+  -- A number is held exactly where its row has it.
+  pub number-there : (m : ℕ) → w .entered < m + w .held → m ≤ w .entered → getD (w .numbers) (rowOf (w .size) m) 0 ≡ m
+  number-there m late entered =
+      row (rowOf (w .size) m) (in-ring m) .as-due
+      ∙ due-held (ranges .ring) m late entered
+
+  pub there-held : (m : ℕ) → 1 ≤ m → getD (w .numbers) (rowOf (w .size) m) 0 ≡ m → (w .entered < m + w .held) × (m ≤ w .entered)
+  there-held m first there =
+      let is : due (w .size) (w .entered) (w .held) (rowOf (w .size) m) ≡ m = sym (row (rowOf (w .size) m) (in-ring m) .as-due) ∙ there in
+      let k = due-kept (ranges .ring) (rowOf (w .size) m) (λ e. omega (arith, is)) in
+      subst (λ n. (w .entered < n + w .held) × (n ≤ w .entered)) is (k .late, k .entered)
+
   stands : (m : ℕ) → w .entered < m + w .held → m ≤ w .entered → reportOf w m ∈ standing w 1024
-  stands m late entered = moved same (standing-in w 1024 r (in-ring m) used)
+  stands m late entered = moved (whole r (in-ring m) ∙ rw number) (standing-in w 1024 r (in-ring m) used)
     where
       r : ℕ
       r = rowOf (w .size) m
 
       number : getD (w .numbers) r 0 ≡ m
-      number =
-          row r (in-ring m) .as-due
-          ∙ due-held (w .size) (ranges .some) (w .entered) (w .held) (ranges .has-rows) (ranges .were-entered) m late entered
+      number = number-there m late entered
 
       used : Used w r
-      used e = omega (arith, number, ranges .were-entered)
-
-      same : reportIn w r ≡ reportOf w m
-      same = whole r (in-ring m) ∙ rw number
+      used e = omega (arith, number, ranges .ring .were-entered)
 
   held-there : (r : ℕ) → r < 1024 → Used w r → reportIn w r ∈ heldReports w
   held-there r below used = moved (sym same) (held-in w ranges m (k .late) (k .entered))
@@ -106,8 +113,8 @@ module _ (w : Window) (fit : fitWindow w ≡ true) where
       number : getD (w .numbers) r 0 ≡ m
       number = row r below .as-due
 
-      k : Kept (w .size) (ranges .some) (w .entered) (w .held) (ranges .has-rows) (ranges .were-entered) r m
-      k = due-kept (w .size) (ranges .some) (w .entered) (w .held) (ranges .has-rows) (ranges .were-entered) r (λ e. used (number ∙ e))
+      k : Kept (w .size) (w .entered) (w .held) r m
+      k = due-kept (ranges .ring) r (λ e. used (number ∙ e))
 
       same : reportIn w r ≡ reportOf w m
       same = whole r below ∙ rw (k .its-row, number)

@@ -34,9 +34,13 @@ abbrev pub reportsFrom : Window → ℕ → ℕ → List Held
 reportsFrom w m zero = []
 reportsFrom w m (suc n) = reportOf w m ∷ reportsFrom w (m + 1) n
 
--- The held reports, oldest first: the latest ones, without a gap.
+-- The oldest number that is held: "the held numbers are the latest ones without a gap".
+abbrev pub oldest : Window → ℕ
+oldest w = w .entered - w .held + 1
+
+-- The held reports, oldest first.
 unfoldable pub heldReports : Window → List Held
-heldReports w = reportsFrom w (w .entered - w .held + 1) (w .held)
+heldReports w = reportsFrom w (oldest w) (w .held)
 
 -- How many reports came after the latest one that lies in a row of the ring.
 abbrev pub age : (size entered row : ℕ) → ℕ
@@ -51,6 +55,7 @@ abbrev pub holds : (due number loss shake : ℕ) → Bool
 holds due number loss shake =
     eqb number due && cond (eqb due 0) (eqb loss 0 && eqb shake 0) (leb loss 4095 && leb shake 4095)
 
+-- A row of the window holds what is due there.
 abbrev pub rowFit : Window → ℕ → Bool
 rowFit w row =
     holds (due (w .size) (w .entered) (w .held) row) (getD (w .numbers) row 0) (getD (w .losses) row 0) (getD (w .shakes) row 0)

@@ -27,6 +27,9 @@ impl Window {
 
     pub const LARGEST: u16 = 1024;
 
+    // The rows of each array, used or not.
+    pub const ROWS: usize = 1024;
+
     // No more reports are entered than this.
     pub const REPORTS: u32 = 1000000;
 
@@ -156,7 +159,7 @@ fn rows_fit(w: Window) -> bool
     let held = w.held;
     let last = row_of(size, entered + (size as u32));
     let mut row: usize = 0;
-    while row < 1024 {
+    while row < Window::ROWS {
         let n = due(size, entered, held, last, row as u16);
         if !holds(n, numbers[row], losses[row], shakes[row]) {
             return false;

@@ -6,23 +6,18 @@ use borrow.Author.Tests.{le-leb, lt-leb}
 use Rattle.window.proofs.counts_fit.Statement.{statement}
 use Rattle.window.proofs.counts_fit.Tie as tie
 
--- src/lib.rt:136:8
 sized-requires : tie.Need-sized-requires
 sized-requires c κs = search needs
 
--- src/lib.rt:139:17
 returns : tie.Need-returns
 returns c = rw (sym (c .before .before .before .sized .ensures) ∙ c .before .before .if1 .taken, le-leb _ _ (c .before .if2 .taken), le-leb _ _ (c .if3 .taken))
 
--- src/lib.rt:133:1
 returns-2 : tie.Need-returns-2
 returns-2 c = rw (sym (c .before .before .before .sized .ensures) ∙ c .before .before .if1 .taken, le-leb _ _ (c .before .if2 .taken), lt-leb _ _ (c .if3 .left))
 
--- src/lib.rt:133:1
 returns-3 : tie.Need-returns-3
 returns-3 c = rw (sym (c .before .before .sized .ensures) ∙ c .before .if1 .taken, lt-leb _ _ (c .if2 .left))
 
--- src/lib.rt:133:1
 returns-4 : tie.Need-returns-4
 returns-4 c = rw (sym (c .before .sized .ensures) ∙ c .if1 .left)
 

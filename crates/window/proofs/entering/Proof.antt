@@ -1,7 +1,6 @@
 -- The row of the next number takes the report, and every other stays.
 -- Assumes nothing.
-use mathlib.Core.Path.{_≡_, refl, sym, ap, _∙_}
-use Prim.Native.Nat.{_+_, _-_, _%_, _<_}
+use Prim.Native.Nat.{_+_, _-_}
 use native.Mathlib.Nat.{mod-lt}
 use native.Mathlib.Omega.{arith}
 use borrow.Author.Needs.{needs}
@@ -12,50 +11,39 @@ use Rattle.window.proofs.Fitness.{size-range}
 use Rattle.window.proofs.entering.Statement.{statement}
 use Rattle.window.proofs.entering.Tie as tie
 
--- src/lib.rt:106:18
 add-number : tie.Need-add-number
 add-number c = search needs
 
--- src/lib.rt:107:15
 row-of-requires : tie.Need-row-of-requires
 row-of-requires c κs = let size = size-range (c .before .args .w .size) (c .before .pre .0) in omega arith
 
--- src/lib.rt:107:15
 cast-row : tie.Need-cast-row
 cast-row c = search needs
 
--- src/lib.rt:109:5
 mul-next : tie.Need-mul-next
 mul-next c = search needs
 
--- src/lib.rt:109:5
 element-write-next : tie.Need-element-write-next
 element-write-next c =
     let start = c .before .before in
     let size = size-range (start .args .w .size) (start .pre .0) in
     omega (arith, mod-lt (start .args .w .entered + 1 - 1) (size .0))
 
--- src/lib.rt:110:5
 mul-next-2 : tie.Need-mul-next-2
 mul-next-2 c = search needs
 
--- src/lib.rt:110:5
 element-write-next-2 : tie.Need-element-write-next-2
 element-write-next-2 c = element-write-next c
 
--- src/lib.rt:111:5
 mul-next-3 : tie.Need-mul-next-3
 mul-next-3 c = search needs
 
--- src/lib.rt:111:5
 element-write-next-3 : tie.Need-element-write-next-3
 element-write-next-3 c = element-write-next c
 
--- src/lib.rt:113:17
 capped-requires : tie.Need-capped-requires
 capped-requires c κs = search needs
 
--- src/lib.rt:100:1
 returns : tie.Need-returns
 unfolding added
 returns c =

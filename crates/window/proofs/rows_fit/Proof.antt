@@ -7,20 +7,12 @@ use native.Mathlib.Omega.{arith}
 use native.Mathlib.Numerals.{add-one}
 use borrow.Author.Tests.{not-true, not-false}
 use lib.ListN.{getD}
-use Rattle.window.specs.Rows.{countsFit, due, holds, rowFit, rowsFit}
+use Rattle.window.specs.Rows.{due, holds, rowFit, rowsFit}
 use Rattle.window.specs.declared.Window.{Window}
 use Rattle.ranking.proofs.Tests.{and-true}
-use Rattle.window.proofs.Fitness.{Counts, counts, unfit-row}
+use Rattle.window.proofs.Fitness.{counts, unfit-row}
 use Rattle.window.proofs.rows_fit.Statement.{statement}
 use Rattle.window.proofs.rows_fit.Tie as tie
-use Rattle.window.proofs.rows_fit.Reads as reads
-use Rattle.window.proofs.rows_fit.Lts as lts
-use Rattle.window.proofs.due.Reads as due-reads
-use Rattle.window.proofs.holds.Reads as holds-reads
-use Rattle.window.proofs.row_of.Reads as row-of-reads
-
-known : (w : Window) → countsFit (w .size) (w .entered) (w .held) ≡ true → Counts (w .size) (w .entered) (w .held)
-known w h = counts (w .size) (w .entered) (w .held) h
 
 -- what the two calls of a turn say of the row
 judged : (w : Window) (row n : ℕ) {b : Bool} → b ≡ holds n (getD (w .numbers) row 0) (getD (w .losses) row 0) (getD (w .shakes) row 0) → n ≡ due (w .size) (w .entered) (w .held) row → rowFit w row ≡ b
@@ -34,63 +26,49 @@ Inv-loop losses shakes numbers size entered held last row₀ row =
 abbrev μ-loop : tie.MeasureT-loop
 μ-loop losses shakes numbers size entered held last row₀ row = 1024 - row
 
--- src/lib.rt:157:40
 cast-row-of : tie.Need-cast-row-of Inv-loop μ-loop
-cast-row-of c = let k = known (c .before .before .before .args .w) (c .before .before .before .pre) in omega arith
+cast-row-of c = let k = counts (c .before .before .before .args .w) (c .before .before .before .pre) in omega arith
 
--- src/lib.rt:157:29
 add-row-of : tie.Need-add-row-of Inv-loop μ-loop
-add-row-of c = let k = known (c .before .before .before .args .w) (c .before .before .before .pre) in omega arith
+add-row-of c = let k = counts (c .before .before .before .args .w) (c .before .before .before .pre) in omega arith
 
--- src/lib.rt:157:9
 row-of-requires : tie.Need-row-of-requires Inv-loop μ-loop
-row-of-requires c κs = let k = known (c .before .before .before .args .w) (c .before .before .before .pre) in omega arith
+row-of-requires c κs = let k = counts (c .before .before .before .args .w) (c .before .before .before .pre) in omega arith
 
--- src/lib.rt:159:5
 loop-holds : tie.Need-loop-holds Inv-loop μ-loop
 unfolding rowsFit
 loop-holds c = (omega arith, refl)
 
--- src/lib.rt:160:48
 cast-due : tie.Need-cast-due Inv-loop μ-loop
 cast-due c = omega arith
 
--- src/lib.rt:160:13
 due-requires : tie.Need-due-requires Inv-loop μ-loop
 due-requires c κs =
     let start = c .before .before .before .before .before .before in
-    let k = known (start .args .w) (start .pre) in
-    (k .some, k .within, k .were-entered, c .before .before .row-of .ensures)
+    let k = counts (start .args .w) (start .pre) in
+    (k .ring .some, k .within, k .ring .were-entered, c .before .before .row-of .ensures)
 
--- src/lib.rt:161:22
 mul-holds : tie.Need-mul-holds Inv-loop μ-loop
 mul-holds c = omega arith
 
--- src/lib.rt:161:22
 array-read-holds : tie.Need-array-read-holds Inv-loop μ-loop
 array-read-holds c = omega arith
 
--- src/lib.rt:161:36
 mul-holds-2 : tie.Need-mul-holds-2 Inv-loop μ-loop
 mul-holds-2 c = omega arith
 
--- src/lib.rt:161:36
 array-read-holds-2 : tie.Need-array-read-holds-2 Inv-loop μ-loop
 array-read-holds-2 c = omega arith
 
--- src/lib.rt:161:49
 mul-holds-3 : tie.Need-mul-holds-3 Inv-loop μ-loop
 mul-holds-3 c = omega arith
 
--- src/lib.rt:161:49
 array-read-holds-3 : tie.Need-array-read-holds-3 Inv-loop μ-loop
 array-read-holds-3 c = omega arith
 
--- src/lib.rt:161:13
 holds-requires : tie.Need-holds-requires Inv-loop μ-loop
 holds-requires c κs = tt
 
--- src/lib.rt:162:13
 returns : tie.Need-returns Inv-loop μ-loop
 returns c =
     let at = c .before .before .before .before in
@@ -98,15 +76,12 @@ returns c =
     let row : at .loop .row < 1024 = omega arith in
     sym (unfit-row w 1024 (at .loop .row) row (judged w (at .loop .row) (c .before .before .due .result) (c .before .holds .ensures) (c .before .before .due .ensures) ∙ not-true _ (c .if1 .taken)))
 
--- src/lib.rt:164:9
 add-row : tie.Need-add-row Inv-loop μ-loop
 add-row c = omega arith
 
--- src/lib.rt:159:5
 loop-less : tie.Need-loop-less Inv-loop μ-loop
 loop-less c = omega arith
 
--- src/lib.rt:159:5
 loop-again : tie.Need-loop-again Inv-loop μ-loop
 unfolding rowsFit
 loop-again c =
@@ -117,7 +92,6 @@ loop-again c =
           (and-true (at .loop .inv .1) (judged w (at .loop .row) (c .before .before .due .result) (c .before .holds .ensures) (c .before .before .due .ensures) ∙ not-false _ (c .if1 .left))),
     )
 
--- src/lib.rt:147:1
 returns-2 : tie.Need-returns-2 Inv-loop μ-loop
 returns-2 c =
     let at = c .before in

@@ -1,7 +1,7 @@
 -- A row that isn't past the last lies within this turn of the ring, and any other in the turn before.
 -- Assumes nothing.
 use mathlib.Core.Path.{_≡_, sym, ap, _∙_}
-use Prim.Native.Nat.{_+_, _-_, _%_, _<_}
+use Prim.Native.Nat.{_+_, _-_, _%_}
 use native.Mathlib.Nat.{add-mod-right, mod-eq-of-lt}
 use native.Mathlib.Omega.{arith}
 use borrow.Author.Needs.{needs}

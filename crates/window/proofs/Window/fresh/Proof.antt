@@ -12,24 +12,19 @@ use Rattle.window.proofs.Window.fresh.Tie as tie
 made : ℕ → Window → Fresh
 made n w = record { refusal = n; window = w }
 
--- src/lib.rt:39:12
 sized-requires : tie.Need-sized-requires
 sized-requires c κs = search needs
 
--- src/lib.rt:42:25
 empty-requires : tie.Need-empty-requires
 empty-requires c κs = search needs
 
--- src/lib.rt:40:13
 returns : tie.Need-returns
 unfolding freshWindow made
 returns c = rw (sym (c .before .before .sized .ensures) ∙ c .before .if1 .taken) (ap (made 0) (c .empty .ensures))
 
--- src/lib.rt:47:21
 empty-requires-2 : tie.Need-empty-requires-2
 empty-requires-2 c κs = search needs
 
--- src/lib.rt:36:5
 returns-2 : tie.Need-returns-2
 unfolding freshWindow made
 returns-2 c = rw (sym (c .before .before .sized .ensures) ∙ c .before .if1 .left) (ap (made 18) (c .empty2 .ensures))

@@ -7,24 +7,19 @@ use Rattle.window.specs.Rows.{added}
 use Rattle.window.proofs.Window.with.Statement.{statement}
 use Rattle.window.proofs.Window.with.Tie as tie
 
--- src/lib.rt:66:12
 sized-requires : tie.Need-sized-requires
 sized-requires c κs = search needs
 
--- src/lib.rt:68:17
 entering-requires : tie.Need-entering-requires
 entering-requires c κs = (sym (c .before .before .before .sized .ensures) ∙ c .before .before .if1 .taken, c .if2 .taken)
 
--- src/lib.rt:68:17
 returns : tie.Need-returns
 returns c = search needs
 
--- src/lib.rt:63:5
 returns-2 : tie.Need-returns-2
 unfolding added
 returns-2 c = rw (sym (c .before .before .before .sized .ensures) ∙ c .before .before .if1 .taken, le-ltb _ _ (c .if2 .left))
 
--- src/lib.rt:63:5
 returns-3 : tie.Need-returns-3
 unfolding added
 returns-3 c = rw (sym (c .before .sized .ensures) ∙ c .if1 .left)

@@ -1,0 +1,19 @@
+-- Any two outcomes that a contract allows are equal, since each contract is an equation.
+-- Assumes nothing.
+use mathlib.Core.Path.{sym, _∙_}
+use Rattle.wire.proofs.Outcomes.{OneAnswer}
+use Rattle.window.proofs.Window.fresh.Kinds as fresh-kinds
+use Rattle.window.proofs.Window.fresh.Reads as fresh-reads
+use Rattle.window.proofs.Window.fit.Kinds as fit-kinds
+use Rattle.window.proofs.Window.fit.Reads as fit-reads
+use Rattle.window.proofs.Window.with.Kinds as with-kinds
+use Rattle.window.proofs.Window.with.Reads as with-reads
+
+fresh-once : OneAnswer 0 fresh-kinds.ps fresh-kinds.r fresh-reads.Post
+fresh-once κs a x y s t p q = p ∙ sym q
+
+fit-once : OneAnswer 0 fit-kinds.ps fit-kinds.r fit-reads.Post
+fit-once κs a x y s t p q = p ∙ sym q
+
+with-once : OneAnswer 0 with-kinds.ps with-kinds.r with-reads.Post
+with-once κs a x y s t p q = p ∙ sym q
