@@ -148,7 +148,7 @@ module _ (w : Window) (first : Question) (n : ℕ) (q : Question) (s : Searching
   ended-at b =
       record {
         steps = steps (searchOf (b .weights)) (b .k) (inRows w);
-        question = reached (b .k) (b .weights) (inRows w) (steps (searchOf (b .weights)) (b .k) (inRows w))
+        question = reached (b .k) (b .weights) (inRows w) (steps (searchOf (b .weights)) (b .k) (inRows w));
       }
 
   pub searching-end : (p : Question) → p .k ≤ 16 → first ≡ begun p → finished q ≡ true → record { steps = n; question = q } ≡ searchedOn p w

@@ -75,7 +75,7 @@ pushed-asked k w l next x h = ⊎-elim room full (lt-or-eq h)
           numbers = column-push 0 (λ (e : Entry). e .number) 16 16 (omega arith) l x r i;
           scores = column-push (pos 0) (λ (e : Entry). e .score) 16 16 (omega arith) l x r i;
           len = sym (length-append l (x ∷ [])) i;
-          next = next
+          next = next;
         })
 
     full : length l ≡ 16 → pushed (asked k w l next) x ≡ asked k w (take 16 (l ++ (x ∷ []))) next

@@ -27,7 +27,7 @@ pushed q e =
       numbers = set (q .numbers) (q .len) (e .number);
       scores = set (q .scores) (q .len) (e .score);
       len = q .len + 1;
-      next = q .next
+      next = q .next;
     })
     q
 

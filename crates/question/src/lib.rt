@@ -6,7 +6,6 @@ ghost use Rattle.ranking.specs.Best.{best};
 ghost use Rattle.ranking.specs.Standing.{above};
 ghost use Rattle.question.specs.Lines.{asked, lines, emptySlot, withEntry, cutToK, finished, begun, stepOn, searchedOn, stepsTaken, isMarked, marksOf};
 ghost use Rattle.question.specs.Inner.{pushed, shown, passed, closed, joined, taking, listTaken, at};
-
 use ranking::Grid;
 use ranking::Weights;
 use ranking::ranks_above;
@@ -43,14 +42,7 @@ impl Question {
     pub fn fresh() -> Question
         ensures { λ r. ⌜ r ≡ emptySlot ⌝ }
     {
-        Question::blank(
-            0,
-            Weights {
-                loss: 0,
-                shake: 0,
-            },
-            0,
-        )
+        Question::blank(0, Weights { loss: 0, shake: 0 }, 0)
     }
 
     // A question with no lines.

@@ -1,0 +1,4 @@
+-- Laws of the board, and what is proved of every reached one.
+pub mod Refusals
+pub mod Listing
+pub mod Filling
