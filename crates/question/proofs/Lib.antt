@@ -4,3 +4,8 @@ pub mod Ending
 pub mod Taking
 pub mod Marking
 pub mod Steps
+pub mod Fitness
+pub mod Doors
+pub mod Listed
+pub mod Searches
+pub mod Outcomes

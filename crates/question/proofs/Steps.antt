@@ -25,7 +25,7 @@ use mathlib.Core.Logic.{_⊎_, ⊎-elim}
 use Rattle.question.specs.declared.Question.{Question}
 use Rattle.question.specs.declared.Searched.{Searched}
 use Rattle.window.specs.declared.Window.{Window}
-use Rattle.question.specs.Lines.{lines, asked, finished, begun, stepped, searched, inRows, stepOn, searchedOn}
+use Rattle.question.specs.Lines.{lines, asked, finished, begun, stepped, searched, searchedIn, inRows, stepOn, searchedOn}
 use Rattle.question.proofs.Stored.{lines-asked}
 use Rattle.question.proofs.Taking.{step-is, if-so, if-not}
 
@@ -164,4 +164,4 @@ module _ (w : Window) (first : Question) (n : ℕ) (q : Question) (s : Searching
 pub searching-wide : (p : Question) (w : Window) → 16 < p .k → searchedOn p w ≡ record { steps = 0; question = p }
 unfolding searchedOn
 searching-wide p w h =
-    if-not (record { steps = steps (searchOf (p .weights)) (p .k) (inRows w); question = searched p (inRows w) }) (record { steps = 0; question = p }) (lt-leb (p .k) 16 h)
+    if-not (searchedIn p (inRows w)) (record { steps = 0; question = p }) (lt-leb (p .k) 16 h)

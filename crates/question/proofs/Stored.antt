@@ -23,7 +23,7 @@ use Rattle.question.specs.Lines.{linesOf, lines, asked}
 use Rattle.question.specs.Inner.{pushed, shown}
 
 module _ {A : Type 0} (d : A) where
-  take-replicate : (n p : ℕ) → n ≤ p → take n (replicate p d) ≡ replicate n d
+  pub take-replicate : (n p : ℕ) → n ≤ p → take n (replicate p d) ≡ replicate n d
   take-replicate zero p h = refl
   take-replicate (suc n) zero h = absurd (not-suc-le-zero h)
   take-replicate (suc n) (suc p) h = ap (λ l. d ∷ l) (take-replicate n p (le-of-suc-le-suc h))
@@ -111,7 +111,7 @@ abbrev pub lineAt : List ℕ → List ℤ → ℕ → Entry
 lineAt ns ss i = record { number = getD ns i 0; score = getD ss i (pos 0) }
 
 module _ (ns : List ℕ) (ss : List ℤ) (r : Roomy ns ss) where
-  length-all : length (linesOf ns ss) ≡ 16
+  pub length-all : length (linesOf ns ss) ≡ 16
   length-all = length-of ns ss (r .numbers ∙ sym (r .scores)) ∙ r .numbers
 
   module _ (n : ℕ) (h : n ≤ 16) where

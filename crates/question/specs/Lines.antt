@@ -82,11 +82,20 @@ stepped q hs =
     (best above (q .k) (lines q ++ map (entry (q .weights)) (only (λ h. eqb (cell (h .loss) (h .shake)) (q .next)) hs)))
     (cellAt (q .weights) (placeOf (q .weights) (q .next) + 1))
 
+-- n steps, one after the other.
+unfoldable pub takes : ℕ → Question → List Held → Question
+takes zero q hs = q
+takes (suc n) q hs = stepped (takes n q hs) hs
+
 -- A search from its beginning to its end.
 unfoldable pub searched : Question → List Held → Question
 searched q hs =
     asked (q .k) (q .weights) (found (searchOf (q .weights)) (q .k) hs)
     (cellAt (q .weights) (steps (searchOf (q .weights)) (q .k) hs))
+
+-- What it leaves, and the steps that it took.
+abbrev pub searchedIn : Question → List Held → Searched
+searchedIn q hs = record { steps = steps (searchOf (q .weights)) (q .k) hs; question = searched q hs }
 
 -- The reports that stand in a window's rows, whatever they hold; of a fit window they are the held ones.
 unfoldable pub inRows : Window → List Held
@@ -100,5 +109,5 @@ stepOn q w = cond (leb (q .k) 16 && ltb (q .next) 256) (stepped q (inRows w)) q
 unfoldable pub searchedOn : Question → Window → Searched
 searchedOn q w =
     cond (leb (q .k) 16)
-    (record { steps = steps (searchOf (q .weights)) (q .k) (inRows w); question = searched q (inRows w) })
+    (searchedIn q (inRows w))
     (record { steps = 0; question = q })

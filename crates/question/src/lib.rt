@@ -2,9 +2,11 @@
 ghost use mathlib.Core.Path.{_≡_};
 ghost use mathlib.Core.List.{[]};
 ghost use Prim.Native.Nat.{min, _%_, _≤_};
+ghost use lib.ListN.{drop};
 ghost use Rattle.ranking.specs.Best.{best};
 ghost use Rattle.ranking.specs.Standing.{above};
-ghost use Rattle.question.specs.Lines.{asked, lines, emptySlot, withEntry, cutToK, finished, begun, stepOn, searchedOn, stepsTaken, isMarked, marksOf};
+ghost use Rattle.question.specs.Lines.{asked, linesOf, lines, emptySlot, withEntry, cutToK, finished, begun, stepOn, searchedOn, stepsTaken, isMarked, marksOf};
+ghost use Rattle.question.specs.Calls.{allOf, holdsNumber, heldAs, falls, blank, rangesFit, fitQuestion, stepCall, beginCall};
 ghost use Rattle.question.specs.Inner.{pushed, shown, passed, closed, joined, taking, listTaken, at};
 use ranking::Grid;
 use ranking::Weights;
@@ -28,6 +30,12 @@ pub struct Searched {
     pub question: Question,
 }
 
+// What a step or a beginning answers: the refusal's number, or 0, and the question as it leaves it.
+pub struct Stepped {
+    pub refusal: u8,
+    pub question: Question,
+}
+
 // A list under way, while one entry waits for its rank among the lines that are still to come.
 struct Placing {
     question: Question,
@@ -37,6 +45,10 @@ struct Placing {
 impl Question {
     // A list's room, and the largest k.
     pub const LINES: u8 = 16;
+
+    pub const UNFIT: u8 = 24;
+
+    pub const FINISHED: u8 = 25;
 
     // An empty slot.
     pub fn fresh() -> Question
@@ -276,6 +288,144 @@ impl Question {
         }
         marks
     }
+
+    // Every stored number is in its range, and the lines are reports that the window holds, with their scores, strictly
+    // falling in rank. Of the window itself `Window::fit` speaks.
+    pub fn fit(self, window: Window) -> bool
+        ensures { λ r. ⌜ r ≡ fitQuestion window self ⌝ }
+    {
+        if self.ranges_fit(window.held) {
+            if self.lines_held(window) {
+                if self.falls() {
+                    return self.rest_blank();
+                }
+            }
+        }
+        false
+    }
+
+    // The next cell is marked, and its reports join the list. Refused 24 where the window or the question is unfit, 25
+    // where the search has ended.
+    pub fn step(self, window: Window) -> Stepped
+        ensures { λ r. ⌜ r ≡ stepCall window self ⌝ }
+    {
+        if !window.fit() {
+            return self.refused(Question::UNFIT);
+        }
+        if !self.fit(window) {
+            return self.refused(Question::UNFIT);
+        }
+        if self.finished() {
+            return self.refused(Question::FINISHED);
+        }
+        Stepped {
+            refusal: 0,
+            question: self.stepped(window),
+        }
+    }
+
+    // The search anew: no lines, no marks. Refused 24 where the window or the question is unfit, and so it is while its
+    // search has not ended.
+    pub fn begin(self, window: Window) -> Stepped
+        ensures { λ r. ⌜ r ≡ beginCall window self ⌝ }
+    {
+        if !window.fit() {
+            return self.refused(Question::UNFIT);
+        }
+        if !self.fit(window) {
+            return self.refused(Question::UNFIT);
+        }
+        if !self.finished() {
+            return self.refused(Question::UNFIT);
+        }
+        Stepped {
+            refusal: 0,
+            question: self.begun(),
+        }
+    }
+
+    fn refused(self, refusal: u8) -> Stepped
+        ensures { λ r. ⌜ r ≡ record { refusal = refusal; question = self } ⌝ }
+    {
+        Stepped {
+            refusal,
+            question: self,
+        }
+    }
+
+    // k, the weights, the next cell and the list's length are in their ranges.
+    fn ranges_fit(self, held: u16) -> bool
+        ensures { λ r. ⌜ r ≡ rangesFit self held ⌝ }
+    {
+        let k = self.k;
+        let len = self.len;
+        if k < 1 {
+            return false;
+        }
+        if Question::LINES < k {
+            return false;
+        }
+        if !self.weights.fit() {
+            return false;
+        }
+        if Grid::CELLS < self.next {
+            return false;
+        }
+        if k < len {
+            return false;
+        }
+        len as u16 <= held
+    }
+
+    // Every line names a report that the window holds, with its score.
+    fn lines_held(self, window: Window) -> bool
+        ensures { λ r. ⌜ r ≡ allOf (heldAs window (self .weights)) (lines self) ⌝ }
+    {
+        let n = self.shown() as usize;
+        let mut i: usize = 0;
+        while i < n {
+            if !held_as(window, self.weights, self.numbers[i], self.scores[i]) {
+                return false;
+            }
+            i += 1;
+        }
+        true
+    }
+
+    // Each line ranks above the next.
+    fn falls(self) -> bool
+        ensures { λ r. ⌜ r ≡ falls (lines self) ⌝ }
+    {
+        let n = self.shown() as usize;
+        let mut i: usize = 0;
+        while i + 1 < n {
+            let next = i + 1;
+            if !ranks_above(
+                self.scores[i],
+                self.numbers[i],
+                self.scores[next],
+                self.numbers[next],
+            ) {
+                return false;
+            }
+            i = next;
+        }
+        true
+    }
+
+    // The places past the list's end are 0.
+    fn rest_blank(self) -> bool
+        ensures { λ r. ⌜ r ≡ allOf blank (drop (self .len) (linesOf (self .numbers) (self .scores))) ⌝ }
+    {
+        let mut i = self.shown() as usize;
+        while i < 16 {
+            if !is_blank(self.numbers[i], self.scores[i]) {
+                return false;
+            }
+            i += 1;
+        }
+        true
+    }
 }
 
 impl Placing {
@@ -322,4 +472,44 @@ fn fewer(a: u8, b: u8) -> u8
     ensures { λ r. ⌜ r ≡ min a b ⌝ }
 {
     if a < b { a } else { b }
+}
+
+// An unused place is 0.
+fn is_blank(number: u32, score: i32) -> bool
+    ensures { λ r. ⌜ r ≡ blank (record { number = number; score = score }) ⌝ }
+{
+    if number != 0 {
+        return false;
+    }
+    score == 0
+}
+
+// The window holds the report of that number, with that score.
+fn held_as(window: Window, weights: Weights, number: u32, score: i32) -> bool
+    ensures { λ r. ⌜ r ≡ heldAs window weights (record { number = number; score = score }) ⌝ }
+{
+    if !holds_number(window.size, window.entered, window.held, number) {
+        return false;
+    }
+    let row = ((number - 1) % (window.size as u32)) as usize;
+    score == weights.score(window.losses[row], window.shakes[row])
+}
+
+// The window holds the report of that number.
+fn holds_number(size: u16, entered: u32, held: u16, number: u32) -> bool
+    ensures { λ r. ⌜ r ≡ holdsNumber size entered held number ⌝ }
+{
+    if size < Window::SMALLEST {
+        return false;
+    }
+    if Window::LARGEST < size {
+        return false;
+    }
+    if number < 1 {
+        return false;
+    }
+    if entered < number {
+        return false;
+    }
+    (entered as u64) < (number as u64) + (held as u64)
 }

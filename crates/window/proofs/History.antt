@@ -45,7 +45,7 @@ since-fresh n h =
       of-size = refl;
       all-entered = refl;
       as-many-held = omega arith;
-      holds-latest = empty-holds n ∙ sym (drop-nil (0 - n));
+      holds-latest = empty-holds n ∙ rw drop-nil;
       fit = empty-fit n h;
       whole = empty-whole n;
     }

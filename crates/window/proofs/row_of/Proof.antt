@@ -1,8 +1,7 @@
 -- The row of a number is below the size, and so fits.
 -- Assumes nothing.
-use native.Mathlib.Nat.{mod-lt}
+use native.Mathlib.Nat.{mod-lt, lt-of-lt-of-le}
 use native.Mathlib.Omega.{arith}
-use Prim.Native.Nat.{_-_}
 use borrow.Author.Needs.{needs}
 use Rattle.window.proofs.row_of.Statement.{statement}
 use Rattle.window.proofs.row_of.Tie as tie
@@ -14,7 +13,7 @@ rem-result : tie.Need-rem-result
 rem-result c = search needs
 
 cast-result : tie.Need-cast-result
-cast-result c = omega (arith, mod-lt (c .args .number - 1) (c .pre .0))
+cast-result c = record { fits = lt-of-lt-of-le (mod-lt _ (c .pre .0)) (omega arith) }
 
 returns : tie.Need-returns
 returns c = search needs

@@ -1,0 +1,153 @@
+-- What a step and a beginning answer, case by case in the order of refusals, and that the rows of a fit window serve as its held reports.
+-- Assumes nothing.
+use mathlib.Core.Path.{_≡_, sym, ap, _∙_}
+use mathlib.Core.Logic.{⊎-elim}
+use mathlib.Core.Bool.{Bool, true, false, cond, _&&_, _||_, and-false}
+use mathlib.Core.List.{List, map, _++_, Memᴰ·append-left, Memᴰ·append-right, Memᴰ·map, Memᴰ·of-map, List·Memᴰ·append-cases}
+use Prim.Native.Nat.{ℕ, _+_, min, _≤_, _<_}
+use native.Mathlib.Omega.{arith}
+use borrow.Author.Tests.{leb-true, leb-false}
+use lib.Dec.{leb, eqb}
+use lib.ListN.{drop}
+use Rattle.ranking.specs.Best.{best, only}
+use Rattle.ranking.specs.Cells.{cell, inRange, placeOf, cellAt}
+use Rattle.ranking.specs.Standing.{Held, Entry, above, entry}
+use Rattle.ranking.proofs.Tests.{Tested, passed, failed, tested, clash, and-both, and-true, or-left}
+use Rattle.ranking.proofs.Lists.{_⊆_, Same, moved, only-in, only-of}
+use Rattle.ranking.proofs.Best.{best-same}
+use Rattle.ranking.proofs.Standing.{above-strict}
+use Rattle.window.specs.declared.Window.{Window}
+use Rattle.window.specs.Rows.{heldReports, fitWindow}
+use Rattle.window.proofs.Standing.{standing-held}
+use Rattle.question.specs.declared.Question.{Question}
+use Rattle.question.specs.declared.Stepped.{Stepped}
+use Rattle.question.specs.Lines.{linesOf, lines, asked, finished, begun, stepped, inRows, stepOn}
+use Rattle.question.specs.Calls.{allOf, heldAs, falls, blank, rangesFit, fitQuestion, stepCall, beginCall}
+use Rattle.question.proofs.Taking.{if-so, if-not, step-is}
+use Rattle.question.proofs.Ending.{finished-none}
+
+-- ---- fitness
+
+module _ (w : Window) (q : Question) where
+  pub unfit-ranges : rangesFit q (w .held) ≡ false → fitQuestion w q ≡ false
+  unfolding fitQuestion
+  unfit-ranges e = rw e
+
+  pub unfit-lines : rangesFit q (w .held) ≡ true → allOf (heldAs w (q .weights)) (lines q) ≡ false → fitQuestion w q ≡ false
+  unfolding fitQuestion
+  unfit-lines e f = rw (e, f)
+
+  pub unfit-fall : rangesFit q (w .held) ≡ true → allOf (heldAs w (q .weights)) (lines q) ≡ true → falls (lines q) ≡ false → fitQuestion w q ≡ false
+  unfolding fitQuestion
+  unfit-fall e f g = rw (e, f, g)
+
+  pub fit-rest : rangesFit q (w .held) ≡ true → allOf (heldAs w (q .weights)) (lines q) ≡ true → falls (lines q) ≡ true → fitQuestion w q ≡ allOf blank (drop (q .len) (linesOf (q .numbers) (q .scores)))
+  unfolding fitQuestion
+  fit-rest e f g = rw (e, f, g)
+
+-- what fitness says of the numbers
+pub record Ranges (q : Question) (held : ℕ) : Type 0 where
+  pub some : 1 ≤ q .k
+  pub small : q .k ≤ 16
+  pub loss-range : inRange (q .weights .loss) ≡ true
+  pub shake-range : inRange (q .weights .shake) ≡ true
+  pub cell-range : q .next ≤ 256
+  pub short : q .len ≤ min (q .k) held
+
+pub ranges : (q : Question) (held : ℕ) → rangesFit q held ≡ true → Ranges q held
+unfolding rangesFit
+ranges q held h =
+    let ws = inRange (q .weights .loss) && inRange (q .weights .shake) in
+    let a = and-both (leb 1 (q .k) && leb (q .k) 16 && ws && leb (q .next) 256) (leb (q .len) (min (q .k) held)) h in
+    let b = and-both (leb 1 (q .k) && leb (q .k) 16 && ws) (leb (q .next) 256) (a .0) in
+    let c = and-both (leb 1 (q .k) && leb (q .k) 16) ws (b .0) in
+    let d = and-both (leb 1 (q .k)) (leb (q .k) 16) (c .0) in
+    let e = and-both (inRange (q .weights .loss)) (inRange (q .weights .shake)) (c .1) in
+    record {
+      some = leb-true 1 (q .k) (d .0);
+      small = leb-true (q .k) 16 (d .1);
+      loss-range = e .0;
+      shake-range = e .1;
+      cell-range = leb-true (q .next) 256 (b .1);
+      short = leb-true (q .len) (min (q .k) held) (a .1);
+    }
+
+-- and of the list
+pub record Fit (w : Window) (q : Question) : Type 0 where
+  pub numbers : Ranges q (w .held)
+  pub listed : allOf (heldAs w (q .weights)) (lines q) ≡ true
+  pub falling : falls (lines q) ≡ true
+  pub rest : allOf blank (drop (q .len) (linesOf (q .numbers) (q .scores))) ≡ true
+
+pub fit-facts : (w : Window) (q : Question) → fitQuestion w q ≡ true → Fit w q
+unfolding fitQuestion
+fit-facts w q h =
+    let A = rangesFit q (w .held) in
+    let B = allOf (heldAs w (q .weights)) (lines q) in
+    let C = falls (lines q) in
+    let a = and-both (A && B && C) (allOf blank (drop (q .len) (linesOf (q .numbers) (q .scores)))) h in
+    let b = and-both (A && B) C (a .0) in
+    let c = and-both A B (b .0) in
+    record { numbers = ranges q (w .held) (c .0); listed = c .1; falling = b .1; rest = a .1 }
+
+-- ---- a step depends on which reports there are
+
+pub stepped-same : (q : Question) (hs hs′ : List Held) → Same hs hs′ → stepped q hs ≡ stepped q hs′
+unfolding stepped
+stepped-same q hs hs′ s =
+    ap (λ l. asked (q .k) (q .weights) l (cellAt (q .weights) (placeOf (q .weights) (q .next) + 1)))
+    (best-same above above-strict (q .k) (lines q ++ new hs) (lines q ++ new hs′) (over hs hs′ (s .0), over hs′ hs (s .1)))
+  where
+    here : Held → Bool
+    here h = eqb (cell (h .loss) (h .shake)) (q .next)
+
+    new : List Held → List Entry
+    new rs = map (entry (q .weights)) (only here rs)
+
+    over : (rs rs′ : List Held) → rs ⊆ rs′ → (lines q ++ new rs) ⊆ (lines q ++ new rs′)
+    over rs rs′ f e m =
+        ⊎-elim (λ k. Memᴰ·append-left (new rs′) k)
+        (λ k.
+        let r = Memᴰ·of-map (entry (q .weights)) (only here rs) k in
+        let o = only-of here rs (r .1) in
+        Memᴰ·append-right (lines q) (moved (r .2) (Memᴰ·map (entry (q .weights)) (only-in here rs′ (f (r .0) (o .0)) (o .1)))))
+        (List·Memᴰ·append-cases (lines q) m)
+
+pub rows-held : (w : Window) → fitWindow w ≡ true → Same (inRows w) (heldReports w)
+unfolding inRows
+rows-held w fit = standing-held w fit
+
+-- a search that has not ended has a cell left
+pub cell-left : (q : Question) → finished q ≡ false → q .next < 256
+cell-left q f = go (tested (leb 256 (q .next)))
+  where
+    go : Tested (leb 256 (q .next)) → q .next < 256
+    go (passed t) = clash (finished-none q (leb-true 256 (q .next) t)) f
+    go (failed t) = leb-false 256 (q .next) t
+
+pub step-held : (w : Window) (q : Question) → fitWindow w ≡ true → fitQuestion w q ≡ true → finished q ≡ false → stepOn q w ≡ stepped q (heldReports w)
+step-held w q fits fit f =
+    step-is q w (fit-facts w q fit .numbers .small) (cell-left q f) ∙ stepped-same q (inRows w) (heldReports w) (rows-held w fits)
+
+-- ---- the answers
+
+module _ (w : Window) (q : Question) where
+  pub step-unfit : fitWindow w && fitQuestion w q ≡ false → stepCall w q ≡ record { refusal = 24; question = q }
+  unfolding stepCall
+  step-unfit e = rw e
+
+  pub step-ended : fitWindow w ≡ true → fitQuestion w q ≡ true → finished q ≡ true → stepCall w q ≡ record { refusal = 25; question = q }
+  unfolding stepCall
+  step-ended e f g = rw (e, f, g)
+
+  pub step-goes : fitWindow w ≡ true → fitQuestion w q ≡ true → finished q ≡ false → stepCall w q ≡ record { refusal = 0; question = stepOn q w }
+  unfolding stepCall
+  step-goes e f g = rw (e, f, g) (ap (λ b. record { refusal = 0; question = b }) (sym (step-held w q e f g)))
+
+  pub begin-unfit : fitWindow w && fitQuestion w q && finished q ≡ false → beginCall w q ≡ record { refusal = 24; question = q }
+  unfolding beginCall
+  begin-unfit e = rw e
+
+  pub begin-goes : fitWindow w ≡ true → fitQuestion w q ≡ true → finished q ≡ true → beginCall w q ≡ record { refusal = 0; question = begun q }
+  unfolding beginCall
+  begin-goes e f g = rw (e, f, g)

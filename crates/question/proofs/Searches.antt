@@ -1,0 +1,342 @@
+-- What steps and searches of a question come to: one step, n steps from the beginning, the end, and what other windows give the same, each by the search's laws.
+-- Assumes nothing.
+use mathlib.Core.Path.{_≡_, refl, sym, ap, ap₂, _∙_, subst}
+use mathlib.Core.Logic.{_⊎_, inl, inr, ⊎-elim, _↔_}
+use mathlib.Core.Bool.{Bool, true, false, _&&_}
+use mathlib.Core.List.{List, [], _∷_, _++_, map}
+use Prim.Native.Nat.{ℕ, zero, suc, _+_, min, _≤_, _<_}
+use native.Mathlib.Nat.{le-of-eq}
+use native.Mathlib.Numerals.{add-one}
+use native.Mathlib.Omega.{arith}
+use borrow.Author.Tests.{ltb-true, ltb-false, le-leb}
+use lib.Dec.{eqb, ltb}
+use lib.ListN.{length, take, drop, length-map}
+use lib.Seq.{take-suc}
+use Rattle.ranking.specs.Best.{_∈_, best, only}
+use Rattle.ranking.specs.Cells.{inRange, cell, cells, visiting, placeOf, cellAt}
+use Rattle.ranking.specs.Search.{entries, heldIn, listAfter, steps, found, marks, has}
+use Rattle.ranking.specs.Standing.{Held, Entry, above, entry, searchOf, Wanted}
+use Rattle.ranking.specs.declared.Weights.{Weights}
+use Rattle.ranking.proofs.Tests.{Tested, passed, failed, tested}
+use Rattle.ranking.proofs.Lists.{Same, _⊆_, Pairwise, lt-or-eq, getD-past, moved, only-in, only-of, pairwise-only}
+use Rattle.ranking.proofs.Best.{best-of, best-falling, length-best-le}
+use Rattle.ranking.proofs.Search.{has-in, in-has, held-part, ends, goes-on, found-is}
+use Rattle.ranking.proofs.Cells.{length-visiting}
+use Rattle.ranking.proofs.Scan.{place-at, at-place, cell-at, left-none}
+use Rattle.ranking.proofs.Standing.{above-strict, steps-bounded, local, Alike, demand-3, Exact, length-list}
+use Rattle.window.specs.declared.Window.{Window}
+use Rattle.window.specs.Rows.{heldReports, fitWindow}
+use Rattle.window.proofs.Fitness as window
+use Rattle.window.proofs.Reports.{length-held, held-distinct, held-latest}
+use Rattle.window.proofs.Standing.{held-permitted}
+use Rattle.question.specs.declared.Question.{Question}
+use Rattle.question.specs.declared.Searched.{Searched}
+use Rattle.question.specs.declared.Stepped.{Stepped}
+use Rattle.question.specs.Lines.{lines, asked, stepsTaken, marked, isMarked, finished, begun, stepped, takes, searched, searchedIn, inRows, searchedOn}
+use Rattle.question.specs.Calls.{fitQuestion, stepCall}
+use Rattle.question.proofs.Stored.{lines-asked}
+use Rattle.question.proofs.Taking.{if-so}
+use Rattle.question.proofs.Marking.{steps-left, steps-all}
+use Rattle.question.proofs.Steps.{reached, reached-lines, reached-none, reached-more, reached-end}
+use Rattle.question.proofs.Doors.{Ranges, rows-held, step-ended, step-goes, step-held}
+use Rattle.question.proofs.Listed.{fit-asked}
+
+-- ---- one step
+
+-- no question has taken more than 256 steps
+pub steps-few : (q : Question) → stepsTaken q ≤ 256
+steps-few q = go (tested (ltb (q .next) 256))
+  where
+    below : {n : ℕ} → n < 256 → n ≤ 256
+    below l = omega arith
+
+    go : Tested (ltb (q .next) 256) → stepsTaken q ≤ 256
+    go (passed t) =
+        let h = ltb-true (q .next) 256 t in
+        rw (steps-left q h) (below (at-place (q .weights) (q .next) h .0))
+    go (failed t) = le-of-eq (steps-all q (ltb-false (q .next) 256 t))
+
+-- a question whose next cell is at the place n has taken n steps
+pub steps-at : (q : Question) (n : ℕ) → n ≤ 256 → q .next ≡ cellAt (q .weights) n → stepsTaken q ≡ n
+steps-at q n h e = ⊎-elim some none (lt-or-eq h)
+  where
+    some : n < 256 → stepsTaken q ≡ n
+    some l =
+        steps-left q (subst (λ c. c < 256) (sym e) (cell-at (q .weights) n l))
+        ∙ ap (placeOf (q .weights)) e
+        ∙ place-at (q .weights) n l
+
+    none : n ≡ 256 → stepsTaken q ≡ n
+    none l = steps-all q (le-of-eq (sym (e ∙ getD-past 256 (visiting (q .weights)) n (left-none (q .weights) n (le-of-eq (sym l)))))) ∙ sym l
+
+-- Step, for every question with a cell left: "the next cell is marked, and the list becomes the best k of its old entries and that cell's held reports, each once".
+pub record Step (q : Question) (hs : List Held) : Type 0 where
+  pub list : lines (stepped q hs) ≡ best above (q .k) (lines q ++ map (entry (q .weights)) (only (λ h. eqb (cell (h .loss) (h .shake)) (q .next)) hs))
+  pub next-marked : marked (stepped q hs) ≡ marked q ++ (q .next ∷ [])
+  pub counted : stepsTaken (stepped q hs) ≡ stepsTaken q + 1
+
+pub one-step : (q : Question) (hs : List Held) → q .k ≤ 16 → q .next < 256 → Step q hs
+unfolding stepped marked
+one-step q hs small left = record { list = listed; next-marked = then-marked; counted = then }
+  where
+    w : Weights
+    w = q .weights
+
+    n : ℕ
+    n = placeOf w (q .next)
+
+    place : (n < 256) × (cellAt w n ≡ q .next)
+    place = at-place w (q .next) left
+
+    l : List Entry
+    l = lines q ++ map (entry w) (only (λ h. eqb (cell (h .loss) (h .shake)) (q .next)) hs)
+
+    listed : lines (stepped q hs) ≡ best above (q .k) l
+    listed = lines-asked (q .k) w (best above (q .k) l) (cellAt w (n + 1)) (omega (arith, length-best-le above above-strict (q .k) l))
+
+    then : stepsTaken (stepped q hs) ≡ stepsTaken q + 1
+    then = steps-at (stepped q hs) (n + 1) (more (place .0)) refl ∙ ap (λ m. m + 1) (sym (steps-left q left))
+      where
+        more : {m : ℕ} → m < 256 → m + 1 ≤ 256
+        more h = omega arith
+
+    then-marked : marked (stepped q hs) ≡ marked q ++ (q .next ∷ [])
+    then-marked =
+        ap (λ m. take m (visiting w)) (then ∙ ap (λ m. m + 1) (steps-left q left) ∙ add-one n)
+        ∙ take-suc (visiting w) n 256 (rw (length-visiting w) (place .0))
+        ∙ ap₂ (λ m c. take m (visiting w) ++ (c ∷ [])) (sym (steps-left q left)) (place .1)
+
+-- "Beginning a search anew: empty list, no marks, no steps taken."
+pub record Beginning (q : Question) : Type 0 where
+  pub no-lines : lines (begun q) ≡ []
+  pub no-marks : marked (begun q) ≡ []
+  pub no-steps : stepsTaken (begun q) ≡ 0
+
+pub beginning : (q : Question) → Beginning q
+unfolding marked
+beginning q =
+    let none = steps-at (begun q) 0 (omega arith) refl in
+    record { no-lines = refl; no-marks = ap (λ n. take n (visiting (q .weights))) none; no-steps = none }
+
+-- ---- n steps
+
+-- "After n steps the list is the best k of the reports in the first n cells, and those n cells are marked."
+pub record After (q : Question) (hs : List Held) (n : ℕ) (p : Question) : Type 0 where
+  pub list : lines p ≡ listAfter (searchOf (q .weights)) (q .k) hs n
+  pub marks-are : marked p ≡ take n (visiting (q .weights))
+  pub counted : stepsTaken p ≡ n
+  pub stored : p ≡ asked (q .k) (q .weights) (lines p) (cellAt (q .weights) n)
+
+module _ (q : Question) (small : q .k ≤ 16) (hs : List Held) where
+  abbrev w : Weights
+  w = q .weights
+
+  pub takes-reached : (n : ℕ) → n ≤ 256 → takes n (begun q) hs ≡ reached (q .k) w hs n
+  unfolding takes
+  takes-reached zero h = reached-none (q .k) small w hs
+  takes-reached (suc n) h =
+      ap (λ b. stepped b hs) (takes-reached n (omega arith)) ∙ reached-more (q .k) small w hs n h
+
+  pub after-reached : (n : ℕ) → n ≤ 256 → After q hs n (reached (q .k) w hs n)
+  unfolding reached marked
+  after-reached n h =
+      let back = reached-lines (q .k) small w hs n in
+      let count = steps-at (reached (q .k) w hs n) n h refl in
+      record {
+        list = back;
+        marks-are = ap (λ m. take m (visiting w)) count;
+        counted = count;
+        stored = ap (λ l. asked (q .k) w l (cellAt w n)) (sym back);
+      }
+
+  -- From the beginning, by steps alone.
+  pub n-steps : (n : ℕ) → n ≤ 256 → After q hs n (takes n (begun q) hs)
+  n-steps n h = subst (After q hs n) (sym (takes-reached n h)) (after-reached n h)
+
+  -- ---- the end
+
+  pub searched-is : searched q hs ≡ reached (q .k) w hs (steps (searchOf w) (q .k) hs)
+  unfolding searched reached
+  searched-is = refl
+
+  -- A search is stepping until it has ended, and it has not ended before.
+  pub record Whole : Type 0 where
+    pub by-steps : searched q hs ≡ takes (steps (searchOf w) (q .k) hs) (begun q) hs
+    pub has-ended : finished (searched q hs) ≡ true
+    pub not-before : (n : ℕ) → n < steps (searchOf w) (q .k) hs → finished (takes n (begun q) hs) ≡ false
+    pub few : steps (searchOf w) (q .k) hs ≤ 256
+    pub come-to : After q hs (steps (searchOf w) (q .k) hs) (searched q hs)
+
+  pub whole-search : Whole
+  whole-search =
+      let few = steps-bounded w (q .k) hs in
+      record {
+        by-steps = searched-is ∙ sym (takes-reached (steps (searchOf w) (q .k) hs) few);
+        has-ended = ap finished searched-is ∙ reached-end (q .k) small w hs (steps (searchOf w) (q .k) hs) few ∙ ends (searchOf w) (q .k) hs;
+        not-before = λ n l. before n (less l) l;
+        few = few;
+        come-to = subst (After q hs (steps (searchOf w) (q .k) hs)) (sym searched-is) (after-reached (steps (searchOf w) (q .k) hs) few);
+      }
+    where
+      less : {n : ℕ} → n < steps (searchOf w) (q .k) hs → n ≤ 256
+      less l = omega (arith, steps-bounded w (q .k) hs)
+
+      before : (n : ℕ) → n ≤ 256 → n < steps (searchOf w) (q .k) hs → finished (takes n (begun q) hs) ≡ false
+      before n h l = ap finished (takes-reached n h) ∙ reached-end (q .k) small w hs n h ∙ goes-on (searchOf w) (q .k) hs n l
+
+-- ---- of a fit window
+
+-- Demands 2 and 3 at the end of a search, for a fit window: the list is the best k of all that is held, a cell is marked exactly where it is wanted, and the steps are the number of the marked cells.
+pub record Found (w : Window) (q p : Question) : Type 0 where
+  pub list : lines p ≡ best above (q .k) (map (entry (q .weights)) (heldReports w))
+  pub length-is : length (lines p) ≡ min (q .k) (w .held)
+  pub marks-are : (c : ℕ) → c < 256 → isMarked p c ≡ true ↔ Wanted (q .weights) (q .k) (heldReports w) (w .entered + 1) c
+  pub steps-are : stepsTaken p ≡ length (only (isMarked p) cells)
+
+pub search-finds : (w : Window) → fitWindow w ≡ true → (q : Question) → 1 ≤ q .k → q .k ≤ 16 → Found w q (searched q (heldReports w))
+unfolding isMarked
+search-finds w fit q some small =
+    record {
+      list = list;
+      length-is = ap length list ∙ length-list (q .weights) (q .k) hs (held-distinct w) ∙ ap (min (q .k)) (length-held w);
+      marks-are = is;
+      steps-are = come .counted ∙ exact .number (isMarked p) is;
+    }
+  where
+    hs : List Held
+    hs = heldReports w
+
+    p : Question
+    p = searched q hs
+
+    newer : (r : Held) → r ∈ hs → r .number < w .entered + 1
+    newer r m = omega (arith, held-latest w (window.fit-facts w fit .ranges) r m .1)
+
+    exact : Exact (q .weights) (q .k) hs (w .entered + 1)
+    exact = demand-3 (q .weights) (q .k) some hs (held-permitted w fit) (w .entered + 1) newer
+
+    come : After q hs (steps (searchOf (q .weights)) (q .k) hs) p
+    come = whole-search q small hs .come-to
+
+    list : lines p ≡ best above (q .k) (map (entry (q .weights)) hs)
+    list = come .list ∙ exact .list
+
+    is : (c : ℕ) → c < 256 → isMarked p c ≡ true ↔ Wanted (q .weights) (q .k) hs (w .entered + 1) c
+    is c h = (
+      λ t. exact .marks-are c h .0 (subst (λ l. c ∈ l) (come .marks-are) (has-in c (marked p) t)),
+      λ v. in-has c (marked p) (subst (λ l. c ∈ l) (sym (come .marks-are)) (exact .marks-are c h .1 v)),
+    )
+
+-- ---- which windows give the same
+
+-- Locality: any reports that are the same in the marked cells, and others only in unmarked cells, give the same search.
+pub same-search : (q : Question) (hs hs′ : List Held) → Same (heldIn (searchOf (q .weights)) (marks (searchOf (q .weights)) (q .k) hs) hs) (heldIn (searchOf (q .weights)) (marks (searchOf (q .weights)) (q .k) hs) hs′) → searchedIn q hs ≡ searchedIn q hs′
+unfolding searched
+same-search q hs hs′ same =
+    ap₂ (λ n l. record { steps = n; question = asked (q .k) (q .weights) l (cellAt (q .weights) n) }) (alike .same-steps) (alike .same-list)
+  where
+    alike : Alike (q .weights) (q .k) hs hs′
+    alike = local (q .weights) (q .k) hs hs′ same
+
+-- What stands in the rows of a fit window is searched as what it holds.
+pub searched-held : (w : Window) → fitWindow w ≡ true → (q : Question) → q .k ≤ 16 → searchedOn q w ≡ searchedIn q (heldReports w)
+unfolding searchedOn
+searched-held w fit q small =
+    if-so (searchedIn q (inRows w)) (record { steps = 0; question = q }) (le-leb (q .k) 16 small)
+    ∙ same-search q (inRows w) (heldReports w) (over (inRows w) (heldReports w) (same .0), over (heldReports w) (inRows w) (same .1))
+  where
+    same : Same (inRows w) (heldReports w)
+    same = rows-held w fit
+
+    marked-in : Held → Bool
+    marked-in h = has (cell (h .loss) (h .shake)) (marks (searchOf (q .weights)) (q .k) (inRows w))
+
+    over : (rs rs′ : List Held) → rs ⊆ rs′ → only marked-in rs ⊆ only marked-in rs′
+    over rs rs′ f x m = let r = only-of marked-in rs m in only-in marked-in rs′ (f x (r .0)) (r .1)
+
+-- ---- by calls alone
+
+-- A question after n steps is fit, so its next step is not refused before the search's end, and is then.
+module _ (w : Window) (fit : fitWindow w ≡ true) (q : Question) (some : 1 ≤ q .k) (small : q .k ≤ 16) (loss-range : inRange (q .weights .loss) ≡ true) (shake-range : inRange (q .weights .shake) ≡ true) where
+  abbrev hs : List Held
+  hs = heldReports w
+
+  fewer : {A : Type 0} (p : A → Bool) (l : List A) → length (only p l) ≤ length l
+  fewer p [] = omega arith
+  fewer p (x ∷ l) = go (tested (p x)) (fewer p l)
+    where
+      go : Tested (p x) → length (only p l) ≤ length l → length (only p (x ∷ l)) ≤ suc (length l)
+      go (passed e) h = rw (e, only) (omega arith)
+      go (failed e) h = rw (e, only) (omega arith)
+
+  pub reached-fit : (n : ℕ) → n ≤ 256 → fitQuestion w (reached (q .k) (q .weights) hs n) ≡ true
+  unfolding reached
+  reached-fit n h =
+      fit-asked w fit (q .k) (q .weights) l (cellAt (q .weights) n)
+      (record {
+        some = some;
+        small = small;
+        loss-range = loss-range;
+        shake-range = shake-range;
+        cell-range = ⊎-elim near last (lt-or-eq h);
+        short = short;
+      })
+      (λ e m. held-part (searchOf (q .weights)) taken hs e (best-of above above-strict (q .k) inside e m))
+      (best-falling above above-strict (q .k) inside)
+    where
+      taken : List ℕ
+      taken = take n (visiting (q .weights))
+
+      inside : List Entry
+      inside = entries (searchOf (q .weights)) (heldIn (searchOf (q .weights)) taken hs)
+
+      l : List Entry
+      l = best above (q .k) inside
+
+      short : length l ≤ min (q .k) (w .held)
+      short =
+          omega (
+            arith,
+            length-list (q .weights) (q .k) (heldIn (searchOf (q .weights)) taken hs) (pairwise-only (λ (a b : Held). a .number ≡ b .number → ⊥) (λ r. has (cell (r .loss) (r .shake)) taken) hs (held-distinct w)),
+            fewer (λ (r : Held). has (cell (r .loss) (r .shake)) taken) hs,
+            length-held w,
+          )
+
+      near : n < 256 → cellAt (q .weights) n ≤ 256
+      near g = less (cell-at (q .weights) n g)
+        where
+          less : {m : ℕ} → m < 256 → m ≤ 256
+          less k = omega arith
+
+      last : n ≡ 256 → cellAt (q .weights) n ≤ 256
+      last e = le-of-eq (getD-past 256 (visiting (q .weights)) n (left-none (q .weights) n (le-of-eq (sym e))))
+
+  -- every step before the end is answered, and comes to the question after one step more
+  pub calls-step : (n : ℕ) → n < steps (searchOf (q .weights)) (q .k) hs → stepCall w (takes n (begun q) hs) ≡ record { refusal = 0; question = takes (suc n) (begun q) hs }
+  unfolding takes
+  calls-step n l =
+      ap (stepCall w) at
+      ∙ step-goes w here fit fit-here going
+      ∙ ap (λ b. record { refusal = 0; question = b }) (step-held w here fit fit-here going ∙ ap (λ b. stepped b hs) (sym at))
+    where
+      within : n ≤ 256
+      within = omega (arith, steps-bounded (q .weights) (q .k) hs)
+
+      here : Question
+      here = reached (q .k) (q .weights) hs n
+
+      at : takes n (begun q) hs ≡ here
+      at = takes-reached q small hs n within
+
+      fit-here : fitQuestion w here ≡ true
+      fit-here = reached-fit n within
+
+      going : finished here ≡ false
+      going = reached-end (q .k) small (q .weights) hs n within ∙ goes-on (searchOf (q .weights)) (q .k) hs n l
+
+  -- and one more is refused 25
+  pub calls-end : stepCall w (searched q hs) ≡ record { refusal = 25; question = searched q hs }
+  calls-end =
+      step-ended w (searched q hs) fit
+      (ap (fitQuestion w) (searched-is q small hs) ∙ reached-fit (steps (searchOf (q .weights)) (q .k) hs) (steps-bounded (q .weights) (q .k) hs))
+      (whole-search q small hs .has-ended)

@@ -1,0 +1,25 @@
+use mathlib.Core.Path.{sym, ap, _∙_}
+use mathlib.Core.Bool.{_&&_}
+use borrow.Author.Tests.{eq-eqb, ne-eqb}
+use lib.Dec.{lit<}
+use lib.IntN.{pos}
+use Rattle.question.specs.Calls.{equal}
+use Rattle.question.proofs.Fitness.{equal-bits}
+use Rattle.question.proofs.is_blank.Statement.{statement}
+use Rattle.question.proofs.is_blank.Tie as tie
+use Rattle.question.proofs.is_blank.Reads as reads
+use Rattle.question.proofs.is_blank.Lts as lts
+
+-- src/lib.rt:483:9
+returns : tie.Need-returns
+returns c = rw (ne-eqb _ _ (c .if1 .taken))
+
+-- src/lib.rt:479:1
+returns-2 : tie.Need-returns-2
+returns-2 c =
+    let start = c .before in
+    equal-bits (start .args .score) (pos 0) (start .fits .score) (record { sfits = lit< tt })
+    ∙ sym (ap (λ b. b && equal (start .args .score) (pos 0)) (eq-eqb (start .args .number) 0 (c .if1 .left)))
+
+pub is-blank-spec : {M : Type 1} → statement M
+is-blank-spec = tie.close (tie.spec returns returns-2)
