@@ -15,7 +15,7 @@ use Rattle.question.specs.declared.Question.{Question}
 use Rattle.question.specs.declared.Searched.{Searched}
 use Rattle.question.specs.Lines.{searchedOn}
 use Rattle.question.proofs.Taking.{if-so, if-not}
-use Rattle.board.specs.Work.{noQuestion, listed, lists, refreshed, oldest, entering, searchedIn, enterRefusal, enterWork}
+use Rattle.board.specs.Work.{noQuestion, listed, lists, refreshed, oldest, entering, isSearched, enterRefusal, enterWork}
 use Rattle.board.specs.declared.Board.{Board}
 use Rattle.board.specs.declared.Entered.{Entered}
 use Rattle.board.proofs.Refusals.{zero-is, enterable}
@@ -85,7 +85,7 @@ module _ (loss shake : ℕ) (old : List Question) (number oldest : ℕ) (window 
 pub turned-all : (b : Board) (loss shake : ℕ) {leaves i : ℕ} {window : Window} {slots : List Question} {searched : List Bool} {steps : List ℕ} → enterRefusal (b .window .entered) loss shake ≡ 0
     → leaves ≡ oldest (b .window) → window ≡ added (b .window) loss shake → length (b .slots) ≤ i → Turned loss shake (b .slots) (b .window .entered + 1) leaves window i slots searched steps
     → _≡_ {A = Entered} (record { refusal = 0; number = b .window .entered + 1; searched = searched; steps = steps; board = record { window = window; slots = slots } }) (enterWork b loss shake)
-unfolding enterWork entering searchedIn
+unfolding enterWork entering isSearched
 turned-all b loss shake {leaves} {i} {window} {slots} {searched} {steps} taken o w h t =
     let may = enterable (b .window .entered) loss shake taken in
     let l : loss % 4096 ≡ loss = mod-eq-of-lt (omega (arith, may .loss-fits)) in

@@ -2,3 +2,4 @@
 pub mod Refusals
 pub mod Listing
 pub mod Filling
+pub mod Slots

@@ -109,8 +109,8 @@ unfoldable pub entering : Window → ℕ → ℕ → Question → Searched
 entering w loss shake q = refreshed (listed q (newReport w loss shake)) (oldest w) (added w loss shake)
 
 -- It is searched, in this entry.
-unfoldable pub searchedIn : Window → ℕ → ℕ → Question → Bool
-searchedIn w loss shake q = lists (listed q (newReport w loss shake)) (oldest w)
+unfoldable pub isSearched : Window → ℕ → ℕ → Question → Bool
+isSearched w loss shake q = lists (listed q (newReport w loss shake)) (oldest w)
 
 -- "12: loss or shake over 4095. 11: 1,000,000 already entered."
 unfoldable pub enterRefusal : (entered loss shake : ℕ) → ℕ
@@ -123,7 +123,7 @@ enterWork b loss shake =
     (record {
       refusal = 0;
       number = b .window .entered + 1;
-      searched = map (searchedIn (b .window) loss shake) (b .slots);
+      searched = map (isSearched (b .window) loss shake) (b .slots);
       steps = map (λ q. entering (b .window) loss shake q .steps) (b .slots);
       board = record { window = added (b .window) loss shake; slots = map (λ q. entering (b .window) loss shake q .question) (b .slots) };
     })

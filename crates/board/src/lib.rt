@@ -1,10 +1,13 @@
 // The window with its 32 slots: standing questions that each have a list.
 ghost use mathlib.Core.Path.{_≡_};
-ghost use mathlib.Core.Bool.{false};
+ghost use mathlib.Core.Bool.{false, _&&_};
 ghost use Prim.Native.Nat.{min, _%_, _<_};
 ghost use lib.IntN.{pos};
 ghost use lib.ListN.{replicate};
+ghost use Rattle.question.specs.Lines.{linesOf, finished};
+ghost use Rattle.question.specs.Calls.{allOf, equal, blank, fitQuestion};
 ghost use Rattle.board.specs.Work.{freshBoard, setRefusal, setWork, slotRefusal, removeWork, readWork, hasPlace, listed, leaving, lists, enterRefusal, enterWork, withSlot};
+ghost use Rattle.board.specs.Calls.{isEmpty, slotFit, fitBoard, setCall, removeCall, readCall, enterCall};
 use question::Question;
 use question::Searched;
 use ranking::Grid;
@@ -83,6 +86,65 @@ impl Board {
             refusal: made.refusal,
             board: Board { window, slots },
         }
+    }
+
+    // Every stored number is in its range, the held numbers are the latest without a gap, and each slot is empty or holds a
+    // fit question whose search has ended.
+    pub fn fit(self) -> bool
+        ensures { λ r. ⌜ r ≡ fitBoard self ⌝ }
+    {
+        let window = self.window;
+        if window.fit() {
+            return self.slots_fit();
+        }
+        false
+    }
+
+    // Sets a question in an empty slot and searches it: the board with it, and the steps. Refused 24, 13, 14, 15, 16.
+    pub fn set(self, slot: u8, k: u8, weights: Weights) -> Placed
+        ensures { λ r. ⌜ r ≡ setCall self slot k weights ⌝ }
+    {
+        if self.fit() {
+            return self.set_known(slot, k, weights);
+        }
+        Placed {
+            refusal: Board::UNFIT,
+            steps: 0,
+            board: self,
+        }
+    }
+
+    // Empties a slot. Refused 24, 13, 17.
+    pub fn remove(self, slot: u8) -> Removed
+        ensures { λ r. ⌜ r ≡ removeCall self slot ⌝ }
+    {
+        if self.fit() {
+            return self.remove_known(slot);
+        }
+        Removed {
+            refusal: Board::UNFIT,
+            board: self,
+        }
+    }
+
+    // The list of a slot. Refused 24, 13, 17.
+    pub fn read(self, slot: u8) -> Shown
+        ensures { λ r. ⌜ r ≡ readCall self slot ⌝ }
+    {
+        if self.fit() {
+            return self.read_known(slot);
+        }
+        not_shown(Board::UNFIT)
+    }
+
+    // Enters a report: its number, which questions were searched, and the steps of each. Refused 24, 12, 11.
+    pub fn enter(self, loss: u16, shake: u16) -> Entered
+        ensures { λ r. ⌜ r ≡ enterCall self loss shake ⌝ }
+    {
+        if self.fit() {
+            return self.enter_known(loss, shake);
+        }
+        self.not_entered(Board::UNFIT)
     }
 
     // Sets a question on a board that is known to be fit: it is searched over the held reports.
@@ -215,6 +277,25 @@ impl Board {
             steps,
             board: self,
         }
+    }
+
+    // Each slot is empty, or holds a fit question whose search has ended.
+    fn slots_fit(self) -> bool
+        ensures { λ r. ⌜ r ≡ allOf (slotFit (self .window)) (self .slots) ⌝ }
+    {
+        let window = self.window;
+        let slots = self.slots;
+        let mut i: usize = 0;
+        while i < 32 {
+            let question = slots[i];
+            if !is_empty(question) {
+                if !stands(question, window) {
+                    return false;
+                }
+            }
+            i += 1;
+        }
+        true
     }
 
     // Why a question is not set; 0 for no reason.
@@ -372,4 +453,74 @@ fn lists(question: Question, number: u32) -> bool
         i += 1;
     }
     false
+}
+
+// A fit question whose search has ended.
+fn stands(question: Question, window: Window) -> bool
+    ensures { λ r. ⌜ r ≡ (fitQuestion window question && finished question) ⌝ }
+{
+    if question.fit(window) {
+        return question.finished();
+    }
+    false
+}
+
+// k is 0, and so is everything else.
+fn is_empty(question: Question) -> bool
+    ensures { λ r. ⌜ r ≡ isEmpty question ⌝ }
+{
+    let weights = question.weights;
+    if question.k != 0 {
+        return false;
+    }
+    if !no_weights(weights) {
+        return false;
+    }
+    if question.len != 0 {
+        return false;
+    }
+    if question.next != 0 {
+        return false;
+    }
+    no_lines(question)
+}
+
+fn no_weights(weights: Weights) -> bool
+    ensures { λ r. ⌜ r ≡ (equal (weights .loss) (pos 0) && equal (weights .shake) (pos 0)) ⌝ }
+{
+    if is_zero(weights.loss) {
+        return is_zero(weights.shake);
+    }
+    false
+}
+
+fn is_zero(weight: i16) -> bool
+    ensures { λ r. ⌜ r ≡ equal weight (pos 0) ⌝ }
+{
+    weight == 0
+}
+
+// Every place of the list is 0.
+fn no_lines(question: Question) -> bool
+    ensures { λ r. ⌜ r ≡ allOf blank (linesOf (question .numbers) (question .scores)) ⌝ }
+{
+    let numbers = question.numbers;
+    let scores = question.scores;
+    let mut i: usize = 0;
+    while i < 16 {
+        if !no_line(numbers[i], scores[i]) {
+            return false;
+        }
+        i += 1;
+    }
+    true
+}
+
+fn no_line(number: u32, score: i32) -> bool
+    ensures { λ r. ⌜ r ≡ blank (record { number = number; score = score }) ⌝ }
+{
+    if number != 0 {
+        return false;
+    }
+    score == 0
 }
