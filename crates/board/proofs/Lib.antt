@@ -3,3 +3,4 @@ pub mod Refusals
 pub mod Listing
 pub mod Filling
 pub mod Slots
+pub mod Slot

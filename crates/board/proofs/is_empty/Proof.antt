@@ -20,13 +20,13 @@ returns-2 c = rw (eq-eqb _ _ (c .before .before .if1 .left), sym (c .before .no-
 
 returns-3 : tie.Need-returns-3
 unfolding isEmpty
-returns-3 c = 
+returns-3 c =
     let at = c .before .before in
     rw (eq-eqb _ _ (at .before .before .if1 .left), sym (at .before .no-weights .ensures) ∙ not-false _ (at .if2 .left), ne-eqb _ _ (c .if3 .taken))
 
 returns-4 : tie.Need-returns-4
 unfolding isEmpty
-returns-4 c = 
+returns-4 c =
     let at = c .before .before .before .before in
     rw (eq-eqb _ _ (at .before .before .if1 .left), sym (at .before .no-weights .ensures) ∙ not-false _ (at .if2 .left), eq-eqb _ _ (c .before .before .if3 .left), ne-eqb _ _ (c .if4 .taken))
 
@@ -35,7 +35,7 @@ no-lines-requires c κs = search needs
 
 returns-5 : tie.Need-returns-5
 unfolding isEmpty
-returns-5 c = 
+returns-5 c =
     let at = c .before .before .before .before .before in
     rw (eq-eqb _ _ (at .before .before .if1 .left), sym (at .before .no-weights .ensures) ∙ not-false _ (at .if2 .left), eq-eqb _ _ (c .before .before .before .if3 .left), eq-eqb _ _ (c .before .if4 .left)) (c .no-lines .ensures)
 

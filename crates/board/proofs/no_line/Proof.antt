@@ -14,7 +14,7 @@ returns : tie.Need-returns
 returns c = rw (ne-eqb _ _ (c .if1 .taken))
 
 returns-2 : tie.Need-returns-2
-returns-2 c = 
+returns-2 c =
     let start = c .before in
     equal-bits (start .args .score) (pos 0) (start .fits .score) (record { sfits = lit< tt })
     ∙ sym (ap (λ b. b && equal (start .args .score) (pos 0)) (eq-eqb (start .args .number) 0 (c .if1 .left)))

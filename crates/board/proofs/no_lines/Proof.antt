@@ -21,7 +21,7 @@ abbrev μ-loop : tie.MeasureT-loop
 μ-loop numbers scores i₀ i = 16 - i
 
 loop-holds : tie.Need-loop-holds Inv-loop μ-loop
-loop-holds c = 
+loop-holds c =
     let start = c .before .before in
     let q = start .args .question in
     let good = start .good .0 .1 .1 .1 .1 in
@@ -49,7 +49,7 @@ no-line-requires : tie.Need-no-line-requires Inv-loop μ-loop
 no-line-requires c κs = search needs
 
 returns : tie.Need-returns Inv-loop μ-loop
-returns c = 
+returns c =
     let turn = c .before .before .before in
     walk-fails (turn .before .loop .inv) (turn .loop-test .taken) (c .before .before .no-line-arg .given) (c .before .no-line .result) (c .before .no-line .ensures)
     (not-true _ (c .if1 .taken))
@@ -61,7 +61,7 @@ loop-less : tie.Need-loop-less Inv-loop μ-loop
 loop-less c = search needs
 
 loop-again : tie.Need-loop-again Inv-loop μ-loop
-loop-again c = 
+loop-again c =
     let turn = c .before .before .before in
     walk-on (turn .before .loop .inv) (turn .loop-test .taken) (c .before .before .no-line-arg .given) (c .before .no-line .result) (c .before .no-line .ensures)
     (not-false _ (c .if1 .left))

@@ -14,12 +14,12 @@ finished-requires : tie.Need-finished-requires
 finished-requires c κs = search needs
 
 returns : tie.Need-returns
-returns c = 
+returns c =
     let start = c .before .before .before in
     c .finished .ensures ∙ sym (ap (λ b. b && finished (start .args .question)) (sym (c .before .before .fit .ensures) ∙ c .before .if1 .taken))
 
 returns-2 : tie.Need-returns-2
-returns-2 c = 
+returns-2 c =
     let start = c .before .before in
     sym (ap (λ b. b && finished (start .args .question)) (sym (c .before .fit .ensures) ∙ c .if1 .left))
 

@@ -22,7 +22,7 @@ abbrev μ-loop : tie.MeasureT-loop
 μ-loop window slots i₀ i = 32 - i
 
 loop-holds : tie.Need-loop-holds Inv-loop μ-loop
-loop-holds c = 
+loop-holds c =
     let start = c .before .before in
     record { up-to = search needs; many = sym (length-map (start .args .self .slots) _) ∙ start .good .0 .1 .1 .1 .0 .1 .0 .1; decides = refl }
 
@@ -39,7 +39,7 @@ stands-requires : tie.Need-stands-requires Inv-loop μ-loop
 stands-requires c κs = search needs
 
 returns : tie.Need-returns Inv-loop μ-loop
-returns c = 
+returns c =
     let l = c .before .before .before .before .before .before in
     let a = l .before .before .before .args .self in
     let used = sym (c .before .before .before .is-empty .ensures) ∙ not-true _ (c .before .before .if1 .taken) in
@@ -58,10 +58,10 @@ loop-again c =
     let empty = c .before .is-empty .ensures in
     let q = getD (a .slots) (l .loop .i) noQuestion in
     let passes : slotFit (a .window) q ≡ true =
-        ⊎-elim
-        (λ w. slot-used (a .window) q (sym empty ∙ not-true _ (w .0 .taken)) ∙ sym (w .1 .ensures) ∙ not-false _ (w .2 .left))
-        (λ w. slot-empty (a .window) q (sym empty ∙ not-false _ (w .left)))
-        (c .if1 .came) in
+    ⊎-elim
+    (λ w. slot-used (a .window) q (sym empty ∙ not-true _ (w .0 .taken)) ∙ sym (w .1 .ensures) ∙ not-false _ (w .2 .left))
+    (λ w. slot-empty (a .window) q (sym empty ∙ not-false _ (w .left)))
+    (c .if1 .came) in
     walk-on (a .window) (a .slots) (l .loop .i) (l .loop .inv) (omega arith) passes
 
 returns-2 : tie.Need-returns-2 Inv-loop μ-loop
