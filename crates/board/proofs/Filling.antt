@@ -15,7 +15,7 @@ use Rattle.question.specs.declared.Question.{Question}
 use Rattle.question.specs.declared.Searched.{Searched}
 use Rattle.question.specs.Lines.{searchedOn}
 use Rattle.question.proofs.Taking.{if-so, if-not}
-use Rattle.board.specs.Work.{noQuestion, listed, lists, refreshed, oldest, entering, isSearched, enterRefusal, enterWork}
+use Rattle.board.specs.Work.{noQuestion, listed, lists, refreshed, outgoing, entering, isSearched, enterRefusal, enterWork}
 use Rattle.board.specs.declared.Board.{Board}
 use Rattle.board.specs.declared.Entered.{Entered}
 use Rattle.board.proofs.Refusals.{zero-is, enterable}
@@ -50,19 +50,19 @@ pub refreshed-kept : (q : Question) (number : ℕ) (w : Window) → lists q numb
 unfolding refreshed
 refreshed-kept q number w e = rw e
 
-module _ (loss shake : ℕ) (old : List Question) (number oldest : ℕ) (window : Window) where
+module _ (loss shake : ℕ) (old : List Question) (number gone : ℕ) (window : Window) where
   abbrev pub one : Question → Question
   one q = listed q (record { number = number; loss = loss % 4096; shake = shake % 4096 })
 
   -- After i turns.
   pub record Turned (i : ℕ) (slots : List Question) (searched : List Bool) (steps : List ℕ) : Type 0 where
-    pub slots-are : Filled (λ q. refreshed (one q) oldest window .question) old i slots
-    pub searched-are : Filled (λ q. lists (one q) oldest) old i searched
-    pub steps-are : Filled (λ q. refreshed (one q) oldest window .steps) old i steps
+    pub slots-are : Filled (λ q. refreshed (one q) gone window .question) old i slots
+    pub searched-are : Filled (λ q. lists (one q) gone) old i searched
+    pub steps-are : Filled (λ q. refreshed (one q) gone window .steps) old i steps
 
   pub turned-none : (slots : List Question) (searched : List Bool) (steps : List ℕ) → length slots ≡ length old → length searched ≡ length old → length steps ≡ length old → Turned 0 slots searched steps
   turned-none slots searched steps a b c =
-      record { slots-are = record { whole = a; first = none slots (map (λ q. refreshed (one q) oldest window .question) old) }; searched-are = record { whole = b; first = none searched (map (λ q. lists (one q) oldest) old) }; steps-are = record { whole = c; first = none steps (map (λ q. refreshed (one q) oldest window .steps) old) } }
+      record { slots-are = record { whole = a; first = none slots (map (λ q. refreshed (one q) gone window .question) old) }; searched-are = record { whole = b; first = none searched (map (λ q. lists (one q) gone) old) }; steps-are = record { whole = c; first = none steps (map (λ q. refreshed (one q) gone window .steps) old) } }
     where
       none : {A : Type 0} (l m : List A) → take 0 l ≡ take 0 m
       none [] [] = λ i. []
@@ -71,19 +71,19 @@ module _ (loss shake : ℕ) (old : List Question) (number oldest : ℕ) (window 
       none (x ∷ l) (y ∷ m) = λ i. []
 
   module _ (i : ℕ) (below : i < length old) (slots : List Question) (searched : List Bool) (steps : List ℕ) (t : Turned i slots searched steps) where
-    pub turned-more : (p : Question) (again : Bool) (found : Searched) → p ≡ one (getD old i noQuestion) → again ≡ lists p oldest → found ≡ refreshed p oldest window
+    pub turned-more : (p : Question) (again : Bool) (found : Searched) → p ≡ one (getD old i noQuestion) → again ≡ lists p gone → found ≡ refreshed p gone window
         → Turned (i + 1) (set slots i (found .question)) (set searched i again) (set steps i (found .steps))
     turned-more p again found e₁ e₂ e₃ =
-        let is = e₃ ∙ ap (λ x. refreshed x oldest window) e₁ in
+        let is = e₃ ∙ ap (λ x. refreshed x gone window) e₁ in
         record {
-          slots-are = filled-more (λ q. refreshed (one q) oldest window .question) old i slots noQuestion (found .question) below (t .slots-are) (ap (λ f. f .question) is);
-          searched-are = filled-more (λ q. lists (one q) oldest) old i searched noQuestion again below (t .searched-are) (e₂ ∙ ap (λ x. lists x oldest) e₁);
-          steps-are = filled-more (λ q. refreshed (one q) oldest window .steps) old i steps noQuestion (found .steps) below (t .steps-are) (ap (λ f. f .steps) is);
+          slots-are = filled-more (λ q. refreshed (one q) gone window .question) old i slots noQuestion (found .question) below (t .slots-are) (ap (λ f. f .question) is);
+          searched-are = filled-more (λ q. lists (one q) gone) old i searched noQuestion again below (t .searched-are) (e₂ ∙ ap (λ x. lists x gone) e₁);
+          steps-are = filled-more (λ q. refreshed (one q) gone window .steps) old i steps noQuestion (found .steps) below (t .steps-are) (ap (λ f. f .steps) is);
         }
 
 -- When all turns are taken, the answer is there.
 pub turned-all : (b : Board) (loss shake : ℕ) {leaves i : ℕ} {window : Window} {slots : List Question} {searched : List Bool} {steps : List ℕ} → enterRefusal (b .window .entered) loss shake ≡ 0
-    → leaves ≡ oldest (b .window) → window ≡ added (b .window) loss shake → length (b .slots) ≤ i → Turned loss shake (b .slots) (b .window .entered + 1) leaves window i slots searched steps
+    → leaves ≡ outgoing (b .window) → window ≡ added (b .window) loss shake → length (b .slots) ≤ i → Turned loss shake (b .slots) (b .window .entered + 1) leaves window i slots searched steps
     → _≡_ {A = Entered} (record { refusal = 0; number = b .window .entered + 1; searched = searched; steps = steps; board = record { window = window; slots = slots } }) (enterWork b loss shake)
 unfolding enterWork entering isSearched
 turned-all b loss shake {leaves} {i} {window} {slots} {searched} {steps} taken o w h t =

@@ -4,3 +4,4 @@ pub mod Listing
 pub mod Filling
 pub mod Slots
 pub mod Slot
+pub mod Entry

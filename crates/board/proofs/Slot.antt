@@ -3,7 +3,7 @@
 -- Assumes nothing.
 use mathlib.Core.Path.{_≡_, refl, sym, ap, _∙_, subst}
 use mathlib.Core.Logic.{_⊎_, inl, inr, ⊎-elim}
-use mathlib.Core.Bool.{Bool, true, false, not, cond, _&&_, _||_}
+use mathlib.Core.Bool.{Bool, true, false, not, cond, _&&_, _||_, and-false}
 use mathlib.Core.List.{List, [], _∷_, _++_, map, List·Memᴰ·head, List·Memᴰ·tail, List·Memᴰ·cases-cons, Memᴰ·append-left, Memᴰ·append-right, List·Memᴰ·append-cases, Memᴰ·map, Memᴰ·of-map}
 use Prim.Native.Nat.{ℕ, zero, suc, _+_, _-_, min, _≤_, _<_}
 use native.Mathlib.Omega.{arith}
@@ -17,8 +17,10 @@ use Rattle.ranking.specs.Cells.{inRange, cell, cells, score, visiting, cellAt}
 use Rattle.ranking.specs.Search.{has, marks, steps, found}
 use Rattle.ranking.specs.Standing.{Held, Entry, Permitted, above, entry, reaches, searchOf}
 use Rattle.ranking.specs.declared.Weights.{Weights}
-use Rattle.ranking.proofs.Tests.{Tested, passed, failed, tested, clash, and-true}
-use Rattle.ranking.proofs.Lists.{Same, here, there, moved, last-not}
+use Rattle.ranking.proofs.Tests.{Tested, passed, failed, tested, clash, and-true, or-right}
+use Rattle.ranking.proofs.Cells.{before-strict, visiting-in}
+use Rattle.ranking.proofs.Scan.{cell-at}
+use Rattle.ranking.proofs.Lists.{Same, here, there, moved, last-not, lt-or-eq}
 use Rattle.ranking.proofs.Best.{best-same, best-cons, best-rule, best-leave, best-of, best-falling, length-best-le}
 use Rattle.ranking.proofs.Search.{has-in, in-has, goes-on, All}
 use Rattle.ranking.proofs.Standing.{above-strict, sound, steps-bounded, newest-above, reach-rises, length-list}
@@ -31,11 +33,13 @@ use Rattle.window.proofs.Standing.{held-permitted}
 use Rattle.question.specs.declared.Question.{Question}
 use Rattle.question.specs.declared.Searched.{Searched}
 use Rattle.question.specs.Lines.{asked, lines, marked, stepsTaken, isMarked, finished, emptySlot, searched, begun, stepped}
-use Rattle.question.specs.Calls.{fitQuestion}
+use Rattle.question.specs.Calls.{fitQuestion, rangesFit, stepCall, beginCall}
 use Rattle.question.proofs.Stored.{lines-asked}
 use Rattle.question.proofs.Steps.{reached, reached-more, reached-none, reached-end, goes-further}
 use Rattle.question.proofs.Taking.{joined-asked, if-so, if-not}
-use Rattle.question.proofs.Doors.{Ranges, Fit, fit-facts}
+use Rattle.question.proofs.Doors.{Ranges, Fit, fit-facts, step-unfit, step-ended, step-goes, step-held, begin-unfit, begin-goes}
+use Rattle.question.proofs.Ending.{finished-none, finished-other}
+use Rattle.question.proofs.Marking.{marked-left}
 use Rattle.question.proofs.Listed.{fit-asked}
 use Rattle.question.proofs.Searches.{search-finds, whole-search, searched-is, reached-fit}
 use Rattle.board.specs.Work.{hasPlace, listed, lists}
@@ -170,3 +174,111 @@ module _ (hs : List Held) (k : ℕ) (ws : Weights) (next : ℕ) (asks : Asks k w
   -- The marks go on guarding the list.
   pub guard-more : Guarded (searchOf ws) k (taken ws next) (top k ws (h ∷ hs))
   guard-more = guard-enter (searchOf ws) (sound ws) k (asks .some) (reach-rises ws) (taken ws next) (entry ws h) (map (entry ws) hs) guarded
+
+-- ---- fitness
+
+module _ (w : Window) (fit : fitWindow w ≡ true) where
+  pub stands-fit : (q : Question) → Stands w q → fitQuestion w q ≡ true
+  stands-fit q s =
+      subst (λ p. fitQuestion w p ≡ true) (sym (s .is))
+      (fit-asked w fit (s .k) (s .ws) (top (s .k) (s .ws) (heldReports w)) (s .next)
+      (record {
+        some = s .asks .some;
+        small = s .asks .small;
+        loss-range = s .asks .loss-range;
+        shake-range = s .asks .shake-range;
+        cell-range = s .cell-range;
+        short = omega (arith, length-list (s .ws) (s .k) (heldReports w) (held-distinct w), length-held w);
+      })
+      (best-of above above-strict (s .k) (map (entry (s .ws)) (heldReports w)))
+      (best-falling above above-strict (s .k) (map (entry (s .ws)) (heldReports w))))
+
+  -- Its search has ended: the next cell has no mark, so it can't change the list.
+  pub stands-ended : (q : Question) → Stands w q → finished q ≡ true
+  unfolding marked stepsTaken isMarked finished
+  stands-ended q s = ap finished (s .is) ∙ go (tested (ltb (s .next) 256))
+    where
+      l : List Entry
+      l = top (s .k) (s .ws) (heldReports w)
+
+      p : Question
+      p = asked (s .k) (s .ws) (top (s .k) (s .ws) (heldReports w)) (s .next)
+
+      off : (h : s .next < 256) → s .next ∈ taken (s .ws) (s .next) → ⊥
+      off h m = clash (in-has (s .next) (taken (s .ws) (s .next)) m) (marked-left p h (s .next) h ∙ before-strict (s .ws) .irreflexive (s .next))
+
+      last : (m : List Entry) → 1 ≤ length m → onLast (reaches (s .ws) (s .next)) m ≡ false → onLast (λ e. not (reaches (s .ws) (s .next) e)) m ≡ true
+      last [] h e = absurd (omega arith)
+      last (y ∷ m) h e = last-not (reaches (s .ws) (s .next)) y m ∙ ap not e
+
+      ended : (h : s .next < 256) → finished p ≡ true
+      ended h =
+          let g = s .guarded (s .next) (visiting-in (s .ws) (s .next) h) (off h) in
+          let room : length (top (s .k) (s .ws) (heldReports w)) ≤ 16 = omega (arith, g .0, s .asks .small) in
+          or-right (leb 256 (s .next)) (eqb (p .len) (p .k) && onLast (λ e. not (reaches (s .ws) (s .next) e)) (lines p))
+          (and-true (eq-eqb (p .len) (p .k) (g .0))
+          (ap (onLast (λ e. not (reaches (s .ws) (s .next) e))) (lines-asked (s .k) (s .ws) (top (s .k) (s .ws) (heldReports w)) (s .next) room)
+          ∙ last (top (s .k) (s .ws) (heldReports w)) (omega (arith, g .0, s .asks .some)) (g .1)))
+
+      go : Tested (ltb (s .next) 256) → finished p ≡ true
+      go (passed t) = ended (ltb-true (s .next) 256 t)
+      go (failed t) = finished-none p (ltb-false (s .next) 256 t)
+
+  pub searches-fit : (q : Question) → Searches w q → fitQuestion w q ≡ true
+  searches-fit q s =
+      ap (fitQuestion w) (s .is)
+      ∙ reached-fit w fit (asked (s .k) (s .ws) [] 0) (s .asks .some) (s .asks .small) (s .asks .loss-range) (s .asks .shake-range) (s .n) (omega (arith, s .before-end, steps-bounded (s .ws) (s .k) (heldReports w)))
+
+  pub searches-on : (q : Question) → Searches w q → finished q ≡ false
+  searches-on q s =
+      ap finished (s .is)
+      ∙ reached-end (s .k) (s .asks .small) (s .ws) (heldReports w) (s .n) (omega (arith, s .before-end, steps-bounded (s .ws) (s .k) (heldReports w)))
+      ∙ goes-on (searchOf (s .ws)) (s .k) (heldReports w) (s .n) (s .before-end)
+
+-- ---- a step and a beginning
+
+module _ (w : Window) (fit : fitWindow w ≡ true) where
+  empty-unfit : fitQuestion w emptySlot ≡ false
+  unfolding fitQuestion rangesFit
+  empty-unfit = refl
+
+  pub step-slot : (q : Question) → Slot w q → Slot w (stepCall w q .question)
+  step-slot q (empty e) = empty (ap (λ p. stepCall w p .question) e ∙ ap (λ r. r .question) (step-unfit w emptySlot (ap (λ b. fitWindow w && b) empty-unfit ∙ and-false (fitWindow w))))
+  step-slot q (stands s) = subst (Slot w) (sym (ap (λ r. r .question) (step-ended w q fit (stands-fit w fit q s) (stands-ended w fit q s)))) (stands s)
+  step-slot q (searches s) = subst (Slot w) (sym same) (go (lt-or-eq (s .before-end)))
+    where
+      next : Question
+      next = reached (s .k) (s .ws) (heldReports w) (suc (s .n))
+
+      few : s .n < 256
+      few = omega (arith, s .before-end, steps-bounded (s .ws) (s .k) (heldReports w))
+
+      same : stepCall w q .question ≡ reached (s .k) (s .ws) (heldReports w) (suc (s .n))
+      same =
+          ap (λ r. r .question) (step-goes w q fit (searches-fit w fit q s) (searches-on w fit q s))
+          ∙ step-held w q fit (searches-fit w fit q s) (searches-on w fit q s)
+          ∙ ap (λ p. stepped p (heldReports w)) (s .is)
+          ∙ reached-more (s .k) (s .asks .small) (s .ws) (heldReports w) (s .n) few
+
+      first : Question
+      first = asked (s .k) (s .ws) [] 0
+
+      go : (suc (s .n) < steps (searchOf (s .ws)) (s .k) (heldReports w)) ⊎ (suc (s .n) ≡ steps (searchOf (s .ws)) (s .k) (heldReports w)) → Slot w (reached (s .k) (s .ws) (heldReports w) (suc (s .n)))
+      go (inl l) = searches (record { k = s .k; ws = s .ws; n = suc (s .n); asks = s .asks; before-end = l; is = refl })
+      go (inr e) =
+          subst (Slot w)
+          (searched-is (asked (s .k) (s .ws) [] 0) (s .asks .small) (heldReports w) ∙ ap (reached (s .k) (s .ws) (heldReports w)) (sym e))
+          (stands (search-stands w fit (asked (s .k) (s .ws) [] 0) (s .asks)))
+
+  pub begin-slot : (q : Question) → Slot w q → Slot w (beginCall w q .question)
+  begin-slot q (empty e) = empty (ap (λ p. beginCall w p .question) e ∙ ap (λ r. r .question) (begin-unfit w emptySlot (ap (λ b. fitWindow w && b && finished emptySlot) empty-unfit ∙ ap (λ b. b && finished emptySlot) (and-false (fitWindow w)))))
+  begin-slot q (searches s) = subst (Slot w) (sym (ap (λ r. r .question) (begin-unfit w q (ap (λ b. fitWindow w && fitQuestion w q && b) (searches-on w fit q s) ∙ and-false (fitWindow w && fitQuestion w q))))) (searches s)
+  begin-slot q (stands s) =
+      subst (Slot w) (sym (ap (λ r. r .question) (begin-goes w q fit (stands-fit w fit q s) (stands-ended w fit q s)) ∙ ap begun (s .is) ∙ reached-none (s .k) (s .asks .small) (s .ws) (heldReports w)))
+      (searches (record { k = s .k; ws = s .ws; n = 0; asks = s .asks; before-end = goes-further (s .k) (s .asks .small) (s .ws) (heldReports w) 0 (omega arith) unfinished; is = refl }))
+    where
+      unfinished : finished (reached (s .k) (s .ws) (heldReports w) 0) ≡ false
+      unfinished = ap finished (sym (reached-none (s .k) (s .asks .small) (s .ws) (heldReports w))) ∙ finished-other (asked (s .k) (s .ws) [] (cellAt (s .ws) 0)) (cell-at (s .ws) 0 (omega arith)) (λ e. none e)
+        where
+          none : 0 ≡ s .k → ⊥
+          none e = omega (arith, s .asks .some)

@@ -101,16 +101,16 @@ abbrev pub newReport : Window → ℕ → ℕ → Held
 newReport w loss shake = record { number = w .entered + 1; loss = loss; shake = shake }
 
 -- The number of the report that leaves when one enters a window; 0 for none.
-abbrev pub oldest : Window → ℕ
-oldest w = leaving (w .size) (w .entered) (w .held)
+abbrev pub outgoing : Window → ℕ
+outgoing w = leaving (w .size) (w .entered) (w .held)
 
 -- What entering leaves of one question: first the report is added, then the oldest leaves.
 unfoldable pub entering : Window → ℕ → ℕ → Question → Searched
-entering w loss shake q = refreshed (listed q (newReport w loss shake)) (oldest w) (added w loss shake)
+entering w loss shake q = refreshed (listed q (newReport w loss shake)) (outgoing w) (added w loss shake)
 
 -- It is searched, in this entry.
 unfoldable pub isSearched : Window → ℕ → ℕ → Question → Bool
-isSearched w loss shake q = lists (listed q (newReport w loss shake)) (oldest w)
+isSearched w loss shake q = lists (listed q (newReport w loss shake)) (outgoing w)
 
 -- "12: loss or shake over 4095. 11: 1,000,000 already entered."
 unfoldable pub enterRefusal : (entered loss shake : ℕ) → ℕ
