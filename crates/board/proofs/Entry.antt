@@ -83,6 +83,11 @@ empty-unmarked : (c : ℕ) → isMarked emptySlot c ≡ false
 unfolding isMarked marked
 empty-unmarked c = ap (λ n. has c (take n (visiting (emptySlot .weights)))) no-steps
 
+pub empty-unnamed : (h : Held) (m : ℕ) → lists (listed emptySlot h) m ≡ false
+unfolding lists
+empty-unnamed h m =
+    ap (λ q. lists q m) (listed-unmarked emptySlot h (empty-unmarked (cell (h .loss) (h .shake)))) ∙ and-false (not (eqb m 0))
+
 pub empty-stays : (w : Window) (loss shake : ℕ) → entering w loss shake emptySlot ≡ record { steps = 0; question = emptySlot }
 unfolding entering lists
 empty-stays w loss shake =

@@ -5,3 +5,5 @@ pub mod Filling
 pub mod Slots
 pub mod Slot
 pub mod Entry
+pub mod Kept
+pub mod Demands
