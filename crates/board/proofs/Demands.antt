@@ -50,7 +50,7 @@ use Rattle.board.proofs.Kept.{Kept, kept, slot-of}
 
 -- ---- fit
 
-empty-is : isEmpty emptySlot ≡ true
+pub empty-is : isEmpty emptySlot ≡ true
 unfolding isEmpty equal
 empty-is = refl
 

@@ -47,7 +47,7 @@ pub record Kept (n : ℕ) (past : List Values) (b : Board) : Type 0 where
 
 -- ---- lists
 
-set-of : {A : Type 0} (l : List A) (i : ℕ) (x : A) {z : A} → z ∈ set l i x → (z ≡ x) ⊎ (z ∈ l)
+pub set-of : {A : Type 0} (l : List A) (i : ℕ) (x : A) {z : A} → z ∈ set l i x → (z ≡ x) ⊎ (z ∈ l)
 set-of [] i x m = inr m
 set-of (y ∷ l) zero x m = ⊎-elim (λ e. inl e) (λ k. inr (there k)) (List·Memᴰ·cases-cons m)
 set-of (y ∷ l) (suc i) x m = ⊎-elim (λ e. inr (List·Memᴰ·head e)) (λ k. ⊎-elim (λ e. inl e) (λ t. inr (there t)) (set-of l i x k)) (List·Memᴰ·cases-cons m)
@@ -86,7 +86,7 @@ empty-k q e =
     eqb-true (q .k) 0 (and-both a b (and-both (a && b) c (and-both (a && b && c) d r .0) .0) .0)
 
 module _ (w : Window) (fit : fitWindow w ≡ true) (q : Question) where
-  not-searching : slotFit w q ≡ true → Searches w q → ⊥
+  pub not-searching : slotFit w q ≡ true → Searches w q → ⊥
   unfolding slotFit reached
   not-searching t s = ⊎-elim full ended (or-either (isEmpty q) (fitQuestion w q && finished q) t)
     where

@@ -7,3 +7,4 @@ pub mod Slot
 pub mod Entry
 pub mod Kept
 pub mod Demands
+pub mod Fit
