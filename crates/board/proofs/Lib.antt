@@ -8,3 +8,4 @@ pub mod Entry
 pub mod Kept
 pub mod Demands
 pub mod Fit
+pub mod Examples
