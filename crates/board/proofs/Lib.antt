@@ -9,3 +9,4 @@ pub mod Kept
 pub mod Demands
 pub mod Fit
 pub mod Examples
+pub mod Outcomes
