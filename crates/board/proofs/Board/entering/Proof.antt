@@ -1,0 +1,122 @@
+-- The loop fills three arrays, and when it ends they hold what entering leaves of every question.
+-- Assumes nothing.
+use mathlib.Core.Path.{_≡_, refl, sym, ap, _∙_}
+use mathlib.Core.Logic.{⊎-elim}
+use Prim.Native.Nat.{_+_, _-_, _≤_, _<_}
+use native.Mathlib.Omega.{arith}
+use lib.ListN.{length, length-map}
+use Rattle.board.proofs.Refusals.{Enterable, enterable}
+use Rattle.board.proofs.Filling.{Turned, turned-none, turned-more, refreshed-searched, refreshed-kept, turned-all}
+use borrow.Author.Needs.{needs}
+use borrow.Author.Needs.{needs}
+use Rattle.board.proofs.Board.entering.Statement.{statement}
+use Rattle.board.proofs.Board.entering.Tie as tie
+
+abbrev Inv-loop : tie.InvT-loop
+Inv-loop loss shake old number oldest window slots₀ searched₀ steps₀ i₀ slots searched steps i = (i ≤ 32) × (length old ≡ 32) × Turned loss shake old number oldest window i slots searched steps
+
+abbrev μ-loop : tie.MeasureT-loop
+μ-loop loss shake old number oldest window slots₀ searched₀ steps₀ i₀ slots searched steps i = 32 - i
+
+module _ (start : tie.Start Inv-loop μ-loop) where
+  may-enter : Enterable (start .args .self .window .entered) (start .args .loss) (start .args .shake)
+  may-enter = enterable (start .args .self .window .entered) (start .args .loss) (start .args .shake) (start .pre)
+
+  all-slots : length (start .args .self .slots) ≡ 32
+  all-slots = sym (length-map (start .args .self .slots) _) ∙ start .good .0 .1 .1 .1 .0 .1 .0 .1
+
+add-number : tie.Need-add-number Inv-loop μ-loop
+add-number c = omega (arith, may-enter (c .before .before .before) .room)
+
+leaving-requires : tie.Need-leaving-requires Inv-loop μ-loop
+leaving-requires c κs = may-enter (c .before .before .before) .room
+
+with-requires : tie.Need-with-requires Inv-loop μ-loop
+with-requires c κs = search needs
+
+loop-holds : tie.Need-loop-holds Inv-loop μ-loop
+loop-holds c =
+    let start = c .before .before .before .before .before .before in
+    let n = all-slots start in
+    (omega arith, n, turned-none _ _ _ _ _ _ _ _ _ refl (sym n) (sym n))
+
+mul-listed : tie.Need-mul-listed Inv-loop μ-loop
+mul-listed c = omega arith
+
+array-copy-out-listed : tie.Need-array-copy-out-listed Inv-loop μ-loop
+array-copy-out-listed c = omega arith
+
+listed-requires : tie.Need-listed-requires Inv-loop μ-loop
+listed-requires c κs = search needs
+
+lists-requires : tie.Need-lists-requires Inv-loop μ-loop
+lists-requires c κs = search needs
+
+searched-requires : tie.Need-searched-requires Inv-loop μ-loop
+searched-requires c κs = search needs
+
+mul-slots : tie.Need-mul-slots Inv-loop μ-loop
+mul-slots c = omega arith
+
+array-set-from-slots : tie.Need-array-set-from-slots Inv-loop μ-loop
+array-set-from-slots c = omega arith
+
+array-write-searched : tie.Need-array-write-searched Inv-loop μ-loop
+array-write-searched c = omega arith
+
+mul-steps : tie.Need-mul-steps Inv-loop μ-loop
+mul-steps c = omega arith
+
+array-write-steps : tie.Need-array-write-steps Inv-loop μ-loop
+array-write-steps c = omega arith
+
+add-i : tie.Need-add-i Inv-loop μ-loop
+add-i c = omega arith
+
+loop-less : tie.Need-loop-less Inv-loop μ-loop
+loop-less c = omega arith
+
+loop-again : tie.Need-loop-again Inv-loop μ-loop
+loop-again c =
+    let l = c .before .before .before .before .before .before in
+    let start = l .before .before .before .before .before .before .before in
+    let below : l .loop .i < length (start .args .self .slots) = omega (arith, l .loop .inv .1) in
+    let came = c .before .if1 .came in
+    let again = c .before .before .lists .ensures in
+    let found =
+    ⊎-elim
+    (λ w. w .2 ∙ w .1 .ensures ∙ sym (refreshed-searched _ _ _ (sym again ∙ w .0 .taken)))
+    (λ w. w .1 ∙ sym (refreshed-kept _ _ _ (sym again ∙ w .0 .left)))
+    came in
+    (omega arith, l .loop .inv .1, turned-more (start .args .loss) (start .args .shake) (start .args .self .slots) _ _ _ (l .loop .i) below (l .loop .slots) (l .loop .searched) (l .loop .steps) (l .loop .inv .2) _ _ _ (c .before .before .before .listed .ensures) again found)
+
+returns : tie.Need-returns Inv-loop μ-loop
+returns c =
+    let l = c .before in
+    let start = l .before .before .before .before .before .before .before in
+    turned-all (start .args .self) (start .args .loss) (start .args .shake) (start .pre) (l .before .before .before .leaving .ensures) (l .before .before .with .ensures) (omega (arith, l .loop .inv .1)) (l .loop .inv .2)
+
+pub entering-spec : {M : Type 1} → statement M
+entering-spec =
+    tie.close
+    (tie.spec
+    Inv-loop
+    μ-loop
+    add-number
+    leaving-requires
+    with-requires
+    loop-holds
+    mul-listed
+    array-copy-out-listed
+    listed-requires
+    lists-requires
+    searched-requires
+    mul-slots
+    array-set-from-slots
+    array-write-searched
+    mul-steps
+    array-write-steps
+    add-i
+    loop-less
+    loop-again
+    returns)

@@ -1,0 +1,28 @@
+-- A fit board is handed on; an unfit one is refused 24.
+-- Assumes nothing.
+use mathlib.Core.Path.{sym, _∙_}
+use Rattle.board.specs.Calls.{readCall}
+use borrow.Author.Needs.{needs}
+use Rattle.board.proofs.Board.read.Statement.{statement}
+use Rattle.board.proofs.Board.read.Tie as tie
+
+fit-requires : tie.Need-fit-requires
+fit-requires c κs = search needs
+
+read-known-requires : tie.Need-read-known-requires
+read-known-requires c κs = search needs
+
+returns : tie.Need-returns
+unfolding readCall
+returns c = rw (sym (c .before .before .fit .ensures) ∙ c .before .if1 .taken) (c .read-known .ensures)
+
+not-shown-requires : tie.Need-not-shown-requires
+not-shown-requires c κs = search needs
+
+returns-2 : tie.Need-returns-2
+unfolding readCall
+returns-2 c = rw (sym (c .before .before .fit .ensures) ∙ c .before .if1 .left) (c .not-shown .ensures)
+
+pub read-spec : {M : Type 1} → statement M
+read-spec =
+    tie.close (tie.spec fit-requires read-known-requires returns not-shown-requires returns-2)

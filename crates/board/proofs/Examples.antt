@@ -1,0 +1,257 @@
+-- P9 to P11 through the calls. What an entry answers of a slot is said by what was entered before, so that each example is a short computation over two reports.
+-- Assumes nothing.
+use mathlib.Core.Path.{_≡_, refl, sym, ap, ap₂, _∙_, subst}
+use mathlib.Core.Logic.{inl}
+use mathlib.Core.Bool.{Bool, true, false, not, cond, _&&_}
+use mathlib.Core.List.{List, [], _∷_, _++_, map}
+use Prim.Native.Nat.{ℕ, _+_, min, _≤_, _<_}
+use native.Mathlib.Omega.{arith}
+use lib.Dec.{eqb}
+use lib.IntN.{pos}
+use lib.ListN.{length, getD, getD-replicate}
+use lib.Seq.{getD-set-same}
+use Rattle.ranking.specs.Cells.{visiting}
+use Rattle.ranking.specs.Search.{has, steps}
+use Rattle.ranking.specs.Standing.{Held, Entry, entry, above, searchOf}
+use Rattle.ranking.specs.declared.Weights.{Weights}
+use Rattle.ranking.proofs.Tests.{Tested, passed, failed, tested}
+use Rattle.ranking.proofs.Best.{length-best-le}
+use Rattle.ranking.proofs.Standing.{above-strict}
+use Rattle.window.specs.declared.Window.{Window}
+use Rattle.window.specs.Rows.{freshWindow, heldReports, fitWindow, added}
+use Rattle.window.specs.History.{Values, numbered, latest}
+use Rattle.question.specs.declared.Question.{Question}
+use Rattle.question.specs.declared.Searched.{Searched}
+use Rattle.question.specs.Lines.{asked, lines, emptySlot, finished, searched, searchedIn, searchedOn}
+use Rattle.question.proofs.Stored.{lines-asked}
+use Rattle.question.proofs.Taking.{if-so, if-not}
+use Rattle.question.proofs.Searches.{searched-held}
+use Rattle.board.specs.Work.{noQuestion, slotAt, freshBoard, setRefusal, setWork, leaving, outgoing, newReport, listed, lists, entering, enterRefusal, enterWork}
+use Rattle.board.specs.Calls.{fitBoard, setCall, enterCall}
+use Rattle.board.specs.Reached.{Reached, pastAfter, fresh, enter}
+use Rattle.board.specs.Reached as reach
+use Rattle.board.specs.declared.Board.{Board}
+use Rattle.board.specs.declared.Placed.{Placed}
+use Rattle.board.specs.declared.Entered.{Entered}
+use Rattle.board.proofs.Refusals.{zero-is, Enterable, enterable}
+use Rattle.board.proofs.Filling.{refreshed-searched, refreshed-kept}
+use Rattle.board.proofs.Slot.{top, Asks, Stands, search-stands, stands-ended}
+use Rattle.board.proofs.Entry.{added-is, entry-stands, next-fit}
+use Rattle.board.proofs.Kept.{Kept, kept}
+use Rattle.board.proofs.Demands.{reached-window, reached-fit, demand-2, Answers, enter-answers, listed-keeps}
+use Rattle.board.proofs.Fit.{fit-set, fit-enter}
+
+-- Whether the report that leaves is on the list after the addition, by what was entered.
+abbrev named : ℕ → List Values → Values → ℕ → Weights → Bool
+named n past v k ws =
+    not (eqb (leaving n (length past) (min n (length past))) 0)
+    && has (leaving n (length past) (min n (length past)))
+    (map (λ e. e .number) (top k ws (record { number = length past + 1; loss = v .loss; shake = v .shake } ∷ latest n (numbered 1 past))))
+
+-- A reached fit board with a question of that k and those weights in slot 0.
+record Stage (n : ℕ) (past : List Values) (k : ℕ) (ws : Weights) (b : Board) : Type 0 where
+  reached : Reached n past b
+  fit : fitBoard b ≡ true
+  stood : Stands (b .window) (slotAt b 0)
+  at-k : slotAt b 0 .k ≡ k
+  at-ws : slotAt b 0 .weights ≡ ws
+
+-- What the next entry answers of slot 0.
+record Says (n : ℕ) (past : List Values) (v : Values) (k : ℕ) (ws : Weights) (r : Entered) : Type 0 where
+  taken : r .refusal ≡ 0
+  searched-is : getD (r .searched) 0 false ≡ named n past v k ws
+  steps-are : named n past v k ws ≡ true → getD (r .steps) 0 0 ≡ steps (searchOf ws) k (latest n (numbered 1 (past ++ (v ∷ []))))
+  list-is : lines (slotAt (r .board) 0) ≡ top k ws (latest n (numbered 1 (past ++ (v ∷ []))))
+
+module _ {n : ℕ} {past : List Values} {k : ℕ} {ws : Weights} (b : Board) (g : Stage n past k ws b) (v : Values) (t : enterRefusal (length past) (v .loss) (v .shake) ≡ 0) where
+  may-enter : enterRefusal (b .window .entered) (v .loss) (v .shake) ≡ 0
+  may-enter = ap (λ e. enterRefusal e (v .loss) (v .shake)) (kept (g .reached) .since .all-entered) ∙ t
+
+  answered : enterCall b (v .loss) (v .shake) .refusal ≡ 0
+  unfolding enterCall enterWork
+  answered = ap (λ (r : Entered). r .refusal) (if-so _ _ (g .fit) ∙ zero-is _ _ may-enter)
+
+  reached-next : Reached n (past ++ (v ∷ [])) (enterCall b (v .loss) (v .shake) .board)
+  reached-next = subst (λ r. Reached n (pastAfter past v r) (enterCall b (v .loss) (v .shake) .board)) answered (enter (g .reached) v)
+
+  may : Enterable (b .window .entered) (v .loss) (v .shake)
+  may = enterable (b .window .entered) (v .loss) (v .shake) may-enter
+
+  abbrev s : Stands (b .window) (slotAt b 0)
+  s = g .stood
+
+  its-k : s .k ≡ k
+  its-k = sym (ap (λ (q : Question). q .k) (s .is)) ∙ g .at-k
+
+  its-ws : s .ws ≡ ws
+  its-ws = sym (ap (λ (q : Question). q .weights) (s .is)) ∙ g .at-ws
+
+  answers : Answers (g .reached) (g .fit) (v .loss) (v .shake) may-enter 0 (omega arith) (enterCall b (v .loss) (v .shake))
+  answers = enter-answers (g .reached) (g .fit) (v .loss) (v .shake) may-enter 0 (omega arith)
+
+  window-is : b .window .size ≡ n
+  window-is = kept (g .reached) .since .of-size
+
+  next-window : enterCall b (v .loss) (v .shake) .board .window ≡ added (b .window) (v .loss) (v .shake)
+  unfolding enterCall enterWork
+  next-window = ap (λ (r : Entered). r .board .window) (if-so _ _ (g .fit) ∙ zero-is _ _ may-enter)
+
+  next-held : heldReports (added (b .window) (v .loss) (v .shake)) ≡ latest n (numbered 1 (past ++ (v ∷ [])))
+  next-held = ap heldReports (sym next-window) ∙ kept reached-next .since .holds-latest
+
+  room : enterRefusal (b .window .entered) (v .loss) (v .shake) ≡ 0 → length (top (s .k) (s .ws) (newReport (b .window) (v .loss) (v .shake) ∷ heldReports (b .window))) ≤ 16
+  room _ = omega (arith, s .asks .small, length-best-le above above-strict (s .k) (map (entry (s .ws)) (newReport (b .window) (v .loss) (v .shake) ∷ heldReports (b .window))))
+
+  named-is : lists (listed (slotAt b 0) (newReport (b .window) (v .loss) (v .shake))) (outgoing (b .window)) ≡ named n past v k ws
+  unfolding lists
+  named-is =
+      let m = may in
+      let since = kept (g .reached) .since in
+      ap (λ q. lists q (outgoing (b .window))) (added-is (b .window) (reached-window (g .reached)) (since .whole) (v .loss) (v .shake) (m .loss-fits) (m .shake-fits) (m .room) (slotAt b 0) s)
+      ∙ ap (λ l. not (eqb (outgoing (b .window)) 0) && has (outgoing (b .window)) (map (λ e. e .number) l))
+      (lines-asked (s .k) (s .ws) (top (s .k) (s .ws) (newReport (b .window) (v .loss) (v .shake) ∷ heldReports (b .window))) (s .next) (room may-enter))
+      ∙ (λ i.
+      let gone = leaving (since .of-size i) (since .all-entered i) (since .as-many-held i) in
+      not (eqb gone 0) && has gone (map (λ e. e .number) (top (its-k i) (its-ws i) (record { number = since .all-entered i + 1; loss = v .loss; shake = v .shake } ∷ since .holds-latest i))))
+
+  stands-next : Stands (added (b .window) (v .loss) (v .shake)) (entering (b .window) (v .loss) (v .shake) (slotAt b 0) .question)
+  stands-next = entry-stands (b .window) (reached-window (g .reached)) (kept (g .reached) .since .whole) (v .loss) (v .shake) (may .loss-fits) (may .shake-fits) (may .room) (slotAt b 0) s
+
+  abbrev p : Question
+  p = listed (slotAt b 0) (newReport (b .window) (v .loss) (v .shake))
+
+  p-k : listed (slotAt b 0) (newReport (b .window) (v .loss) (v .shake)) .k ≡ k
+  p-k = listed-keeps (slotAt b 0) (newReport (b .window) (v .loss) (v .shake)) .same-k ∙ g .at-k
+
+  p-ws : listed (slotAt b 0) (newReport (b .window) (v .loss) (v .shake)) .weights ≡ ws
+  p-ws = listed-keeps (slotAt b 0) (newReport (b .window) (v .loss) (v .shake)) .same-weights ∙ g .at-ws
+
+  p-small : listed (slotAt b 0) (newReport (b .window) (v .loss) (v .shake)) .k ≤ 16
+  p-small = subst (λ m. m ≤ 16) (its-k ∙ sym p-k) (s .asks .small)
+
+  after-fit : fitWindow (added (b .window) (v .loss) (v .shake)) ≡ true
+  after-fit = next-fit (b .window) (reached-window (g .reached)) (kept (g .reached) .since .whole) (v .loss) (v .shake) (may .loss-fits) (may .shake-fits) (may .room)
+
+  searched-so : lists p (outgoing (b .window)) ≡ true → entering (b .window) (v .loss) (v .shake) (slotAt b 0) ≡ searchedIn p (heldReports (added (b .window) (v .loss) (v .shake)))
+  unfolding entering
+  searched-so h = refreshed-searched p (outgoing (b .window)) (added (b .window) (v .loss) (v .shake)) h ∙ searched-held (added (b .window) (v .loss) (v .shake)) after-fit p p-small
+
+  kept-so : lists p (outgoing (b .window)) ≡ false → entering (b .window) (v .loss) (v .shake) (slotAt b 0) ≡ record { steps = 0; question = p }
+  unfolding entering
+  kept-so h = refreshed-kept p (outgoing (b .window)) (added (b .window) (v .loss) (v .shake)) h
+
+  left-k : (entering (b .window) (v .loss) (v .shake) (slotAt b 0) .question .k ≡ k) × (entering (b .window) (v .loss) (v .shake) (slotAt b 0) .question .weights ≡ ws)
+  unfolding searched
+  left-k = go (tested (lists p (outgoing (b .window))))
+    where
+      go : Tested (lists p (outgoing (b .window))) → (entering (b .window) (v .loss) (v .shake) (slotAt b 0) .question .k ≡ k) × (entering (b .window) (v .loss) (v .shake) (slotAt b 0) .question .weights ≡ ws)
+      go (passed h) = (ap (λ (r : Searched). r .question .k) (searched-so h) ∙ p-k, ap (λ (r : Searched). r .question .weights) (searched-so h) ∙ p-ws)
+      go (failed h) = (ap (λ (r : Searched). r .question .k) (kept-so h) ∙ p-k, ap (λ (r : Searched). r .question .weights) (kept-so h) ∙ p-ws)
+
+  stage-next : Stage n (past ++ (v ∷ [])) k ws (enterCall b (v .loss) (v .shake) .board)
+  stage-next =
+      record {
+        reached = reached-next;
+        fit = fit-enter b (kept (g .reached)) (g .fit) (v .loss) (v .shake);
+        stood = subst (λ w. Stands w (slotAt (enterCall b (v .loss) (v .shake) .board) 0)) (sym next-window) (subst (Stands (added (b .window) (v .loss) (v .shake))) (sym (answers .left-as)) stands-next);
+        at-k = ap (λ (q : Question). q .k) (answers .left-as) ∙ left-k .0;
+        at-ws = ap (λ (q : Question). q .weights) (answers .left-as) ∙ left-k .1;
+      }
+
+  says : Says n past v k ws (enterCall b (v .loss) (v .shake))
+  says =
+      record {
+        taken = answered;
+        searched-is = answers .set-of-searched ∙ named-is;
+        steps-are = λ h. answers .steps-of ∙ ap (λ (r : Searched). r .steps) (searched-so (named-is ∙ h)) ∙ (λ i. steps (searchOf (p-ws i)) (p-k i) (next-held i));
+        list-is =
+            demand-2 reached-next 0 (omega arith) (stands-ended (enterCall b (v .loss) (v .shake) .board .window) (reached-window reached-next) (slotAt (enterCall b (v .loss) (v .shake) .board) 0) (stage-next .stood))
+            ∙ (λ i. top (stage-next .at-k i) (stage-next .at-ws i) (kept reached-next .since .holds-latest i));
+      }
+
+-- ---- the examples
+
+abbrev pair : ℕ → ℕ → Values
+pair loss shake = record { loss = loss; shake = shake }
+
+-- "N 2, k 1, weights 1, 1, set first"
+unfoldable pub bench : Board
+bench = setCall (freshBoard 2 .board) 0 1 (record { loss = pos 1; shake = pos 1 }) .board
+
+-- The answer to the third of three entries.
+abbrev pub third : Values → Values → Values → Entered
+third u v w = enterCall (enterCall (enterCall bench (u .loss) (u .shake) .board) (v .loss) (v .shake) .board) (w .loss) (w .shake)
+
+begun-fresh : Reached 2 [] (freshBoard 2 .board)
+unfolding freshBoard freshWindow
+begun-fresh = fresh refl
+
+all-empty : (slot : ℕ) → slot < 32 → slotAt (freshBoard 2 .board) slot ≡ emptySlot
+unfolding freshBoard
+all-empty slot h = getD-replicate 32 slot emptySlot noQuestion h
+
+fresh-fit : fitBoard (freshBoard 2 .board) ≡ true
+fresh-fit = reached-fit begun-fresh (λ slot h. inl (all-empty slot h))
+
+can-set : setRefusal (freshBoard 2 .board) 0 1 (record { loss = pos 1; shake = pos 1 }) ≡ 0
+unfolding setRefusal freshBoard
+can-set = refl
+
+record Placed-so (r : Placed) : Type 0 where
+  stood : Stands (r .board .window) (slotAt (r .board) 0)
+  at-k : slotAt (r .board) 0 .k ≡ 1
+  at-ws : slotAt (r .board) 0 .weights ≡ record { loss = pos 1; shake = pos 1 }
+
+placed-so : Placed-so (setCall (freshBoard 2 .board) 0 1 (record { loss = pos 1; shake = pos 1 }))
+unfolding setCall setWork searched
+placed-so =
+    let b = freshBoard 2 .board in
+    let ws : Weights = record { loss = pos 1; shake = pos 1 } in
+    let q = asked 1 ws [] 0 in
+    let fit = reached-window begun-fresh in
+    let many = kept begun-fresh .many in
+    let at = getD-set-same (b .slots) 0 (searchedOn q (b .window) .question) noQuestion (omega (arith, many)) in
+    let is = at ∙ ap (λ (r : Searched). r .question) (searched-held (b .window) fit q (omega arith)) in
+    subst Placed-so (sym (if-so _ _ fresh-fit ∙ zero-is _ _ can-set))
+    (record {
+      stood = subst (Stands (b .window)) (sym is) (search-stands (b .window) fit q (record { some = omega arith; small = omega arith; loss-range = refl; shake-range = refl }));
+      at-k = ap (λ (p : Question). p .k) is;
+      at-ws = ap (λ (p : Question). p .weights) is;
+    })
+
+stage-bench : Stage 2 [] 1 (record { loss = pos 1; shake = pos 1 }) bench
+unfolding bench
+stage-bench =
+    record {
+      reached = reach.set begun-fresh 0 1 (record { loss = pos 1; shake = pos 1 });
+      fit = fit-set (freshBoard 2 .board) (kept begun-fresh) fresh-fit 0 1 (record { loss = pos 1; shake = pos 1 });
+      stood = placed-so .stood;
+      at-k = placed-so .at-k;
+      at-ws = placed-so .at-ws;
+    }
+
+third-says : (u v w : Values) → enterRefusal 0 (u .loss) (u .shake) ≡ 0 → enterRefusal 1 (v .loss) (v .shake) ≡ 0 → enterRefusal 2 (w .loss) (w .shake) ≡ 0 → Says 2 (u ∷ v ∷ []) w 1 (record { loss = pos 1; shake = pos 1 }) (third u v w)
+third-says u v w a b c =
+    let one = stage-next bench stage-bench u a in
+    let two = stage-next (enterCall bench (u .loss) (u .shake) .board) one v b in
+    says (enterCall (enterCall bench (u .loss) (u .shake) .board) (v .loss) (v .shake) .board) two w c
+
+abbrev line : ℕ → ℕ → Entry
+line number score = record { number = number; score = pos score }
+
+-- "P9 (10, 10), (5, 5), (1, 1): third entry searches, 256 steps, list 2:10"
+pub p9 : (getD (third (pair 10 10) (pair 5 5) (pair 1 1) .searched) 0 false ≡ true) × (getD (third (pair 10 10) (pair 5 5) (pair 1 1) .steps) 0 0 ≡ 256) × (lines (slotAt (third (pair 10 10) (pair 5 5) (pair 1 1) .board) 0) ≡ line 2 10 ∷ [])
+unfolding steps visiting leaving enterRefusal
+p9 =
+    let t = third-says (pair 10 10) (pair 5 5) (pair 1 1) refl refl refl in
+    (t .searched-is, t .steps-are refl, t .list-is)
+
+-- "P10 same, (1, 1), (5, 5), (1, 2): no search, list 2:10"
+pub p10 : (getD (third (pair 1 1) (pair 5 5) (pair 1 2) .searched) 0 false ≡ false) × (lines (slotAt (third (pair 1 1) (pair 5 5) (pair 1 2) .board) 0) ≡ line 2 10 ∷ [])
+unfolding leaving enterRefusal
+p10 = let t = third-says (pair 1 1) (pair 5 5) (pair 1 2) refl refl refl in (t .searched-is, t .list-is)
+
+-- "P11 same, (9, 9), (1, 1), (9, 9): no search, list 3:18"
+pub p11 : (getD (third (pair 9 9) (pair 1 1) (pair 9 9) .searched) 0 false ≡ false) × (lines (slotAt (third (pair 9 9) (pair 1 1) (pair 9 9) .board) 0) ≡ line 3 18 ∷ [])
+unfolding leaving enterRefusal
+p11 = let t = third-says (pair 9 9) (pair 1 1) (pair 9 9) refl refl refl in (t .searched-is, t .list-is)

@@ -1,0 +1,96 @@
+-- What one question does with a report that enters: the tests of the definitions, read off the stored lines.
+-- Assumes nothing.
+use mathlib.Core.Path.{_≡_, refl, sym, ap, _∙_}
+use mathlib.Core.Bool.{Bool, true, false, not, cond, _&&_, _||_}
+use mathlib.Core.List.{List, [], _∷_, map}
+use Prim.Native.Nat.{ℕ, zero, suc, _+_, min, _≤_, _<_}
+use native.Mathlib.Numerals.{add-one}
+use native.Mathlib.Omega.{arith}
+use borrow.Author.Tests.{lt-ltb, le-ltb, eq-eqb, ne-eqb}
+use lib.Dec.{eqb, ltb}
+use lib.IntN.{ℤ, pos}
+use lib.ListN.{length, take, drop, getD, length-take}
+use lib.Seq.{drop-cons, getD-take, take-all}
+use lib.Signed.{leZ}
+use Rattle.ranking.specs.Cells.{cell, score}
+use Rattle.ranking.specs.Search.{has}
+use Rattle.ranking.specs.Standing.{Held, entry}
+use Rattle.question.specs.declared.Question.{Question}
+use Rattle.question.specs.Lines.{linesOf, lines, withEntry, cutToK, isMarked}
+use Rattle.question.specs.Inner.{shown}
+use Rattle.question.proofs.Stored.{Roomy, last-line, no-lines, take-min}
+use Rattle.question.proofs.Taking.{if-so, if-not}
+use Rattle.board.specs.Work.{hasPlace, listed, lists}
+
+module _ (q : Question) (s : ℤ) where
+  pub place-short : q .len < q .k → hasPlace q s ≡ true
+  unfolding hasPlace
+  place-short h = rw (lt-ltb (q .len) (q .k) h)
+
+  module _ (full : q .k ≤ q .len) where
+    pub place-none : shown q ≡ 0 → hasPlace q s ≡ false
+    unfolding hasPlace
+    place-none e = rw (le-ltb (q .len) (q .k) full, no-lines q e)
+
+    pub place-last : Roomy (q .numbers) (q .scores) → (i : ℕ) → i + 1 ≡ shown q → hasPlace q s ≡ leZ (getD (q .scores) i (pos 0)) s
+    unfolding hasPlace
+    place-last r i e = rw (le-ltb (q .len) (q .k) full) (last-line q r i e (λ x. leZ (x .score) s))
+
+module _ (q : Question) (h : Held) where
+  pub listed-taken : isMarked q (cell (h .loss) (h .shake)) ≡ true → hasPlace q (score (q .weights) (h .loss) (h .shake)) ≡ true → listed q h ≡ cutToK (withEntry q (entry (q .weights) h))
+  unfolding listed
+  listed-taken m p = rw (m, p)
+
+  pub listed-unmarked : isMarked q (cell (h .loss) (h .shake)) ≡ false → listed q h ≡ q
+  unfolding listed
+  listed-unmarked m = rw m
+
+  pub listed-no-place : isMarked q (cell (h .loss) (h .shake)) ≡ true → hasPlace q (score (q .weights) (h .loss) (h .shake)) ≡ false → listed q h ≡ q
+  unfolding listed
+  listed-no-place m p = rw (m, p)
+
+-- ---- which report a list names
+
+numbers-of : (ns : List ℕ) (ss : List ℤ) (n : ℕ) → length ns ≡ length ss → map (λ e. e .number) (take n (linesOf ns ss)) ≡ take n ns
+numbers-of [] ss zero e = refl
+numbers-of [] ss (suc n) e = refl
+numbers-of (x ∷ ns) [] n e = absurd (omega arith)
+numbers-of (x ∷ ns) (y ∷ ss) zero e = refl
+numbers-of (x ∷ ns) (y ∷ ss) (suc n) e = let same : length ns ≡ length ss = omega arith in ap (λ l. x ∷ l) (numbers-of ns ss n same)
+
+pub lists-none : (q : Question) (number : ℕ) → number ≡ 0 → lists q number ≡ false
+unfolding lists
+lists-none q number e = rw (eq-eqb number 0 e)
+
+pub lists-numbers : (q : Question) (number : ℕ) → Roomy (q .numbers) (q .scores) → (number ≡ 0 → ⊥) → (n : ℕ) → n ≡ shown q → has number (take n (q .numbers)) ≡ lists q number
+unfolding lists
+lists-numbers q number r some n e =
+    rw (ne-eqb number 0 some, numbers-of (q .numbers) (q .scores) (q .len) (r .numbers ∙ sym (r .scores)))
+    (ap (has number) (ap (λ m. take m (q .numbers)) e ∙ ap (λ m. take (min (q .len) m) (q .numbers)) (sym (r .numbers)) ∙ sym (take-min (q .len) (q .numbers))))
+
+has-first : (x y : ℕ) (l : List ℕ) → y ≡ x → has x (y ∷ l) ≡ true
+has-first x y l e = rw (eq-eqb x y (sym e), has)
+
+has-later : (x y : ℕ) (l : List ℕ) → (y ≡ x → ⊥) → has x (y ∷ l) ≡ has x l
+has-later x y l e = rw (ne-eqb x y (λ t. e (sym t)), has)
+
+module _ (number : ℕ) (ns : List ℕ) (n i : ℕ) (fits : n ≤ length ns) (below : i < n) where
+  line-left : drop i (take n ns) ≡ getD ns i 0 ∷ drop (i + 1) (take n ns)
+  line-left =
+      let inside : i < length (take n ns) = omega (arith, length-take n ns) in
+      drop-cons (take n ns) i 0 inside ∙ ap (λ x. x ∷ drop (suc i) (take n ns)) (getD-take n ns i 0 below) ∙ ap (λ m. getD ns i 0 ∷ drop m (take n ns)) (sym (add-one i))
+
+  pub named-here : getD ns i 0 ≡ number → has number (drop i (take n ns)) ≡ true
+  named-here e = ap (has number) line-left ∙ has-first number (getD ns i 0) (drop (i + 1) (take n ns)) e
+
+  pub named-later : (getD ns i 0 ≡ number → ⊥) → has number (drop i (take n ns)) ≡ has number (drop (i + 1) (take n ns))
+  named-later e = ap (has number) line-left ∙ has-later number (getD ns i 0) (drop (i + 1) (take n ns)) e
+
+pub named-nowhere : (number : ℕ) (ns : List ℕ) (n i : ℕ) → i ≡ n → has number (drop i (take n ns)) ≡ false
+named-nowhere number ns n i e = ap (λ m. has number (drop m (take n ns))) e ∙ ap (has number) (nothing n ns)
+  where
+    nothing : (n : ℕ) (l : List ℕ) → drop n (take n l) ≡ []
+    nothing zero [] = refl
+    nothing zero (x ∷ l) = refl
+    nothing (suc n) [] = refl
+    nothing (suc n) (x ∷ l) = nothing n l

@@ -1,0 +1,25 @@
+-- Which boards are reached (document 01, "Refusal numbers").
+use Prim.Native.Nat.{ℕ, _<_}
+use mathlib.Core.Path.{_≡_}
+use mathlib.Core.Bool.{true, cond}
+use mathlib.Core.List.{List, [], _∷_, _++_}
+use lib.Dec.{eqb}
+use Rattle.ranking.specs.declared.Weights.{Weights}
+use Rattle.window.specs.History.{Values}
+use Rattle.question.specs.Calls.{stepCall, beginCall}
+use Rattle.board.specs.Work.{slotAt, withSlot, freshBoard}
+use Rattle.board.specs.Calls.{setCall, removeCall, enterCall}
+use Rattle.board.specs.declared.Board.{Board}
+
+-- What was entered, where a call that brought these values was answered with that refusal, 0 for none.
+abbrev pub pastAfter : List Values → Values → ℕ → List Values
+pastAfter past v refusal = cond (eqb refusal 0) (past ++ (v ∷ [])) past
+
+-- "States reached from fresh ones: one window with its 32 slots, each call handed them as the call before left them, a stepped question standing in its slot." `past` is what was entered, in that order.
+pub data Reached (n : ℕ) : List Values → Board → Type 0 where
+  fresh : freshBoard n .refusal ≡ 0 → Reached n [] (freshBoard n .board)
+  set : {past : List Values} {b : Board} → Reached n past b → (slot k : ℕ) (weights : Weights) → Reached n past (setCall b slot k weights .board)
+  remove : {past : List Values} {b : Board} → Reached n past b → (slot : ℕ) → Reached n past (removeCall b slot .board)
+  enter : {past : List Values} {b : Board} → Reached n past b → (v : Values) → Reached n (pastAfter past v (enterCall b (v .loss) (v .shake) .refusal)) (enterCall b (v .loss) (v .shake) .board)
+  begin : {past : List Values} {b : Board} → Reached n past b → (slot : ℕ) → slot < 32 → Reached n past (withSlot b slot (beginCall (b .window) (slotAt b slot) .question))
+  step : {past : List Values} {b : Board} → Reached n past b → (slot : ℕ) → slot < 32 → Reached n past (withSlot b slot (stepCall (b .window) (slotAt b slot) .question))
