@@ -3,18 +3,18 @@
 -- Assumes nothing.
 use mathlib.Core.Path.{_≡_, refl, sym, ap, _∙_, subst}
 use mathlib.Core.Logic.{_⊎_, inl, inr, ⊎-elim, _↔_}
-use mathlib.Core.Bool.{Bool, true, false, not, cond, _&&_, _||_}
-use mathlib.Core.List.{List, [], _∷_, _++_, map, Memᴰ·map, Memᴰ·of-map}
-use Prim.Native.Nat.{ℕ, zero, suc, _+_, _-_, min, _≤_, _<_}
+use mathlib.Core.Bool.{true, false, not, cond, _&&_, _||_}
+use mathlib.Core.List.{List, [], _∷_, map, Memᴰ·map, Memᴰ·of-map}
+use Prim.Native.Nat.{ℕ, zero, suc, min, _≤_, _<_}
 use native.Mathlib.Omega.{arith}
-use borrow.Author.Tests.{eqb-true, eqb-false, ne-eqb, not-true}
+use borrow.Author.Tests.{eqb-false, ne-eqb, not-true}
 use lib.Dec.{eqb, ltb}
-use lib.ListN.{length, getD, set, take}
+use lib.ListN.{length, getD, take}
 use lib.Seq.{getD-set-same}
 use Rattle.ranking.specs.Best.{_∈_, best, only}
 use Rattle.ranking.specs.Cells.{cell, cells, score, visiting, placeOf}
 use Rattle.ranking.specs.Search.{has, steps}
-use Rattle.ranking.specs.Standing.{Held, Entry, above, entry, searchOf}
+use Rattle.ranking.specs.Standing.{Held, Entry, above, entry}
 use Rattle.ranking.specs.declared.Weights.{Weights}
 use Rattle.ranking.proofs.Tests.{Tested, passed, failed, tested, clash, and-both, and-true, or-right}
 use Rattle.ranking.proofs.Lists.{index-of, moved}
@@ -26,24 +26,24 @@ use Rattle.window.specs.Rows.{heldReports, fitWindow, added}
 use Rattle.window.specs.History.{Values, numbered, latest}
 use Rattle.question.specs.declared.Question.{Question}
 use Rattle.question.specs.declared.Searched.{Searched}
-use Rattle.question.specs.Lines.{asked, lines, emptySlot, finished, marked, stepsTaken, isMarked, searched, searchedOn, withEntry, cutToK}
-use Rattle.question.specs.Calls.{allOf, equal, fitQuestion}
+use Rattle.question.specs.Lines.{asked, lines, emptySlot, finished, marked, stepsTaken, isMarked, searched, searchedOn}
+use Rattle.question.specs.Calls.{equal, fitQuestion}
 use Rattle.question.proofs.Stored.{lines-asked}
 use Rattle.question.proofs.Steps.{reached as stepped-to}
 use Rattle.question.proofs.Taking.{if-so, if-not}
 use Rattle.question.proofs.Listed.{all-is}
 use Rattle.question.proofs.Searches.{Found, search-finds, searched-held, whole-search}
-use Rattle.board.specs.Work.{noQuestion, slotAt, withSlot, setRefusal, setWork, slotRefusal, removeWork, enterWork, hasPlace, listed, lists, outgoing, newReport, refreshed, entering, isSearched, enterRefusal}
+use Rattle.board.specs.Work.{noQuestion, slotAt, setRefusal, setWork, slotRefusal, removeWork, enterWork, hasPlace, listed, lists, outgoing, newReport, refreshed, entering, isSearched, enterRefusal}
 use Rattle.board.specs.Calls.{isEmpty, slotFit, fitBoard, setCall, removeCall, enterCall}
 use Rattle.board.specs.Reached.{Reached}
 use Rattle.board.specs.declared.Board.{Board}
 use Rattle.board.specs.declared.Placed.{Placed}
 use Rattle.board.specs.declared.Removed.{Removed}
 use Rattle.board.specs.declared.Entered.{Entered}
-use Rattle.board.proofs.Refusals.{zero-is, zero-not, slot-there, settable, enterable}
+use Rattle.board.proofs.Refusals.{zero-is, slot-there, settable, enterable}
 use Rattle.board.proofs.Listing.{listed-unmarked}
 use Rattle.board.proofs.Filling.{refreshed-searched, refreshed-kept}
-use Rattle.board.proofs.Slot.{top, Asks, Stands, Searches, Slot, stands, searches, stands-fit, stands-ended, searches-fit, searches-on}
+use Rattle.board.proofs.Slot.{top, Slot, stands, searches, stands-fit, searches-fit, searches-on}
 use Rattle.board.proofs.Slot as state
 use Rattle.board.proofs.Entry.{next-fit, empty-unnamed}
 use Rattle.board.proofs.Kept.{Kept, kept, slot-of}
@@ -57,10 +57,6 @@ empty-is = refl
 empty-waits : finished emptySlot ≡ false
 unfolding finished
 empty-waits = refl
-
--- A slot in whose question no search is under way.
-pub Rests : Question → Type 0
-Rests q = (q .k ≡ 0) ⊎ (finished q ≡ true)
 
 module _ {n : ℕ} {past : List Values} {b : Board} (reached : Reached n past b) where
   k : Kept n past b
@@ -168,9 +164,6 @@ pub lists-when : (q : Question) (number : ℕ) → lists q number ≡ true ↔ (
 unfolding lists
 lists-when q number = (to, from)
   where
-    numbers : List ℕ
-    numbers = map (λ e. e .number) (lines q)
-
     to : not (eqb number 0) && has number (map (λ e. e .number) (lines q)) ≡ true → (number ≡ 0 → ⊥) × ((e : Entry) × (e ∈ lines q) × (e .number ≡ number))
     to t =
         let both = and-both (not (eqb number 0)) (has number (map (λ e. e .number) (lines q))) t in
@@ -223,9 +216,6 @@ getD-at f (x ∷ l) zero d e h = refl
 getD-at f (x ∷ l) (suc i) d e h = getD-at f l i d e (omega arith)
 
 module _ {n : ℕ} {past : List Values} {b : Board} (reached : Reached n past b) (fit : fitBoard b ≡ true) (loss shake : ℕ) (taken : enterRefusal (b .window .entered) loss shake ≡ 0) (slot : ℕ) (there-is : slot < 32) where
-  w : Window
-  w = b .window
-
   -- What the call answers of a slot.
   pub record Answers (r : Entered) : Type 0 where
     pub set-of-searched : getD (r .searched) slot false ≡ lists (listed (slotAt b slot) (newReport (b .window) loss shake)) (outgoing (b .window))

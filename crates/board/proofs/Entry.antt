@@ -2,23 +2,23 @@
 -- too, and one that does is searched afresh.
 -- Assumes nothing.
 use mathlib.Core.Path.{_≡_, refl, sym, ap, _∙_, subst}
-use mathlib.Core.Logic.{_⊎_, inl, inr, ⊎-elim}
-use mathlib.Core.Bool.{Bool, true, false, not, cond, _&&_, and-false}
+use mathlib.Core.Logic.{⊎-elim}
+use mathlib.Core.Bool.{true, false, not, and-false}
 use mathlib.Core.List.{List, [], _∷_, _++_, map, List·Memᴰ·head, List·Memᴰ·cases-cons, Memᴰ·append-left, Memᴰ·append-right, List·Memᴰ·append-cases, List·Memᴰ·eq-of-singleton, Memᴰ·map, Memᴰ·of-map}
-use Prim.Native.Nat.{ℕ, suc, _+_, _-_, _≤_, _<_}
+use Prim.Native.Nat.{ℕ, _+_, _-_, _≤_, _<_}
 use native.Mathlib.Omega.{arith}
 use borrow.Author.Tests.{ltb-true, ltb-false, ne-eqb}
 use lib.Dec.{ltb, eqb}
-use lib.ListN.{length, take, drop}
+use lib.ListN.{take, drop}
 use Rattle.ranking.specs.Best.{_∈_, best}
 use Rattle.ranking.specs.Cells.{visiting, cell}
 use Rattle.ranking.specs.Search.{has}
-use Rattle.ranking.specs.Standing.{Held, Entry, Permitted, above, entry, searchOf}
+use Rattle.ranking.specs.Standing.{Held, Entry, above, entry, searchOf}
 use Rattle.ranking.specs.declared.Weights.{Weights}
 use Rattle.ranking.proofs.Tests.{Tested, passed, failed, tested, clash, and-true}
-use Rattle.ranking.proofs.Lists.{_⊆_, Same, here, there, moved}
+use Rattle.ranking.proofs.Lists.{_⊆_, Same, there, moved}
 use Rattle.ranking.proofs.Best.{best-same, best-leave, length-best-le}
-use Rattle.ranking.proofs.Search.{in-has, All}
+use Rattle.ranking.proofs.Search.{in-has}
 use Rattle.ranking.proofs.Standing.{above-strict}
 use Rattle.ranking.proofs.Guard.{Guarded}
 use Rattle.window.specs.declared.Window.{Window}
@@ -26,16 +26,14 @@ use Rattle.window.specs.Rows.{heldReports, fitWindow, added, reportOf}
 use Rattle.window.proofs.Fitness as window
 use Rattle.window.proofs.Reports.{held-added, held-latest, oldest-first}
 use Rattle.question.specs.declared.Question.{Question}
-use Rattle.question.specs.declared.Searched.{Searched}
 use Rattle.question.specs.Lines.{asked, lines, marked, stepsTaken, isMarked, emptySlot, searched}
 use Rattle.question.proofs.Stored.{lines-asked}
-use Rattle.question.proofs.Taking.{if-so, if-not}
+use Rattle.question.proofs.Taking.{if-not}
 use Rattle.question.proofs.Searches.{searched-held}
-use Rattle.board.specs.Work.{listed, lists, leaving, outgoing, newReport, refreshed, entering, isSearched}
+use Rattle.board.specs.Work.{listed, lists, leaving, outgoing, newReport, refreshed, entering}
 use Rattle.board.proofs.Listing.{listed-unmarked}
 use Rattle.board.proofs.Filling.{refreshed-searched, refreshed-kept}
-use Rattle.board.proofs.Slot.{top, taken, Asks, Stands, Slot, stands, searches, search-stands, listed-is, guard-more}
-use Rattle.board.proofs.Slot as slot
+use Rattle.board.proofs.Slot.{top, taken, Stands, search-stands, listed-is, guard-more}
 
 -- ---- the same reports
 
@@ -95,12 +93,6 @@ empty-stays w loss shake =
     ∙ refreshed-kept emptySlot (outgoing w) (added w loss shake) (and-false (not (eqb (outgoing w) 0)))
 
 module _ (w : Window) (fit : fitWindow w ≡ true) (whole : window.Whole w) (loss shake : ℕ) (loss-fits : loss ≤ 4095) (shake-fits : shake ≤ 4095) (room : w .entered < 1000000) where
-  h : Held
-  h = newReport w loss shake
-
-  next-window : Window
-  next-window = added w loss shake
-
   ranges : window.Counts w
   ranges = window.fit-facts w fit .ranges
 
@@ -119,9 +111,6 @@ module _ (w : Window) (fit : fitWindow w ≡ true) (whole : window.Whole w) (los
   unfolding leaving
   kept-list k ws next small unnamed = go (tested (ltb (w .held) (w .size)))
     where
-      new : Held
-      new = newReport w loss shake
-
       go : Tested (ltb (w .held) (w .size)) → top k ws (newReport w loss shake ∷ heldReports w) ≡ top k ws (heldReports (added w loss shake))
       go (passed t) =
           let stays : w .held + 1 - w .size ≡ 0 = omega (arith, ltb-true (w .held) (w .size) t) in
@@ -137,12 +126,12 @@ module _ (w : Window) (fit : fitWindow w ≡ true) (whole : window.Whole w) (los
           let first = ap (λ l. top k ws (newReport w loss shake ∷ l)) split ∙ top-same k ws (newReport w loss shake ∷ o ∷ rest) (o ∷ newReport w loss shake ∷ rest) (same-swap (newReport w loss shake) o rest) in
           let number : w .entered + 1 - w .size ≡ w .entered - w .held + 1 = omega (arith, ranges .ring .were-entered) in
           let named : entry ws o ∈ best above k (entry ws o ∷ map (entry ws) (newReport w loss shake ∷ rest)) → ⊥ = λ m.
-            clash
-            (ap (lists (asked k ws (top k ws (newReport w loss shake ∷ heldReports w)) next)) (if-not 0 (w .entered + 1 - w .size) t ∙ number)
-            ∙ lists-member (asked k ws (top k ws (newReport w loss shake ∷ heldReports w)) next) (entry ws o)
-            (subst (λ l. entry ws o ∈ l) (sym first ∙ sym (lines-asked k ws (top k ws (newReport w loss shake ∷ heldReports w)) next (omega (arith, length-best-le above above-strict k (map (entry ws) (newReport w loss shake ∷ heldReports w)))))) m)
-            (omega arith))
-            unnamed in
+          clash
+          (ap (lists (asked k ws (top k ws (newReport w loss shake ∷ heldReports w)) next)) (if-not 0 (w .entered + 1 - w .size) t ∙ number)
+          ∙ lists-member (asked k ws (top k ws (newReport w loss shake ∷ heldReports w)) next) (entry ws o)
+          (subst (λ l. entry ws o ∈ l) (sym first ∙ sym (lines-asked k ws (top k ws (newReport w loss shake ∷ heldReports w)) next (omega (arith, length-best-le above above-strict k (map (entry ws) (newReport w loss shake ∷ heldReports w)))))) m)
+          (omega arith))
+          unnamed in
           first
           ∙ best-leave above above-strict k (entry ws o) (map (entry ws) (newReport w loss shake ∷ rest)) named
           ∙ top-same k ws (newReport w loss shake ∷ rest) (rest ++ (newReport w loss shake ∷ [])) (same-end (newReport w loss shake) rest)

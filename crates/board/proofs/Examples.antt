@@ -1,8 +1,8 @@
 -- P9 to P11 through the calls. What an entry answers of a slot is said by what was entered before, so that each example is a short computation over two reports.
 -- Assumes nothing.
-use mathlib.Core.Path.{_≡_, refl, sym, ap, ap₂, _∙_, subst}
+use mathlib.Core.Path.{_≡_, refl, sym, ap, _∙_, subst}
 use mathlib.Core.Logic.{inl}
-use mathlib.Core.Bool.{Bool, true, false, not, cond, _&&_}
+use mathlib.Core.Bool.{Bool, true, false, not, _&&_}
 use mathlib.Core.List.{List, [], _∷_, _++_, map}
 use Prim.Native.Nat.{ℕ, _+_, min, _≤_, _<_}
 use native.Mathlib.Omega.{arith}
@@ -12,19 +12,18 @@ use lib.ListN.{length, getD, getD-replicate}
 use lib.Seq.{getD-set-same}
 use Rattle.ranking.specs.Cells.{visiting}
 use Rattle.ranking.specs.Search.{has, steps}
-use Rattle.ranking.specs.Standing.{Held, Entry, entry, above, searchOf}
+use Rattle.ranking.specs.Standing.{Entry, entry, above, searchOf}
 use Rattle.ranking.specs.declared.Weights.{Weights}
 use Rattle.ranking.proofs.Tests.{Tested, passed, failed, tested}
 use Rattle.ranking.proofs.Best.{length-best-le}
 use Rattle.ranking.proofs.Standing.{above-strict}
-use Rattle.window.specs.declared.Window.{Window}
 use Rattle.window.specs.Rows.{freshWindow, heldReports, fitWindow, added}
 use Rattle.window.specs.History.{Values, numbered, latest}
 use Rattle.question.specs.declared.Question.{Question}
 use Rattle.question.specs.declared.Searched.{Searched}
-use Rattle.question.specs.Lines.{asked, lines, emptySlot, finished, searched, searchedIn, searchedOn}
+use Rattle.question.specs.Lines.{asked, lines, emptySlot, searched, searchedIn, searchedOn}
 use Rattle.question.proofs.Stored.{lines-asked}
-use Rattle.question.proofs.Taking.{if-so, if-not}
+use Rattle.question.proofs.Taking.{if-so}
 use Rattle.question.proofs.Searches.{searched-held}
 use Rattle.board.specs.Work.{noQuestion, slotAt, freshBoard, setRefusal, setWork, leaving, outgoing, newReport, listed, lists, entering, enterRefusal, enterWork}
 use Rattle.board.specs.Calls.{fitBoard, setCall, enterCall}
@@ -35,9 +34,9 @@ use Rattle.board.specs.declared.Placed.{Placed}
 use Rattle.board.specs.declared.Entered.{Entered}
 use Rattle.board.proofs.Refusals.{zero-is, Enterable, enterable}
 use Rattle.board.proofs.Filling.{refreshed-searched, refreshed-kept}
-use Rattle.board.proofs.Slot.{top, Asks, Stands, search-stands, stands-ended}
+use Rattle.board.proofs.Slot.{top, Stands, search-stands, stands-ended}
 use Rattle.board.proofs.Entry.{added-is, entry-stands, next-fit}
-use Rattle.board.proofs.Kept.{Kept, kept}
+use Rattle.board.proofs.Kept.{kept}
 use Rattle.board.proofs.Demands.{reached-window, reached-fit, demand-2, Answers, enter-answers, listed-keeps}
 use Rattle.board.proofs.Fit.{fit-set, fit-enter}
 
@@ -88,9 +87,6 @@ module _ {n : ℕ} {past : List Values} {k : ℕ} {ws : Weights} (b : Board) (g 
 
   answers : Answers (g .reached) (g .fit) (v .loss) (v .shake) may-enter 0 (omega arith) (enterCall b (v .loss) (v .shake))
   answers = enter-answers (g .reached) (g .fit) (v .loss) (v .shake) may-enter 0 (omega arith)
-
-  window-is : b .window .size ≡ n
-  window-is = kept (g .reached) .since .of-size
 
   next-window : enterCall b (v .loss) (v .shake) .board .window ≡ added (b .window) (v .loss) (v .shake)
   unfolding enterCall enterWork

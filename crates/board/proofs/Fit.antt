@@ -1,9 +1,9 @@
 -- A fit reached board stays fit under setting, removing and entering, so that only a search that is begun and stepped by hand makes one unfit: each slot that a call writes is
 -- empty, or has the list and marks that a search or an entry leaves.
 -- Assumes nothing.
-use mathlib.Core.Path.{_≡_, refl, sym, ap, _∙_, subst}
+use mathlib.Core.Path.{_≡_, sym, ap, _∙_, subst}
 use mathlib.Core.Logic.{⊎-elim}
-use mathlib.Core.Bool.{Bool, true, false, cond, _&&_, _||_}
+use mathlib.Core.Bool.{true, _&&_}
 use mathlib.Core.List.{List, [], map, Memᴰ·of-map}
 use Prim.Native.Nat.{ℕ}
 use borrow.Author.Tests.{eqb-true}

@@ -2,30 +2,30 @@
 -- Assumes nothing.
 use mathlib.Core.Path.{_≡_, refl, sym, ap, _∙_, subst}
 use mathlib.Core.Logic.{_⊎_, inl, inr, ⊎-elim}
-use mathlib.Core.Bool.{Bool, true, false, cond, _&&_, _||_}
+use mathlib.Core.Bool.{true, _&&_}
 use mathlib.Core.List.{List, [], _∷_, _++_, map, List·Memᴰ·head, List·Memᴰ·not-nil, List·Memᴰ·cases-cons, Memᴰ·of-map}
-use Prim.Native.Nat.{ℕ, zero, suc, _+_, _≤_, _<_}
+use Prim.Native.Nat.{ℕ, zero, suc, _<_}
 use native.Mathlib.Omega.{arith}
-use borrow.Author.Tests.{eqb-true, eqb-false, le-leb}
+use borrow.Author.Tests.{eqb-true}
 use lib.Dec.{eqb}
 use lib.IntN.{pos}
-use lib.ListN.{length, getD, set, replicate, length-set, length-map}
+use lib.ListN.{length, set, replicate, length-set, length-map}
 use Rattle.ranking.specs.Best.{_∈_}
 use Rattle.ranking.specs.declared.Weights.{Weights}
 use Rattle.ranking.specs.Cells.{inRange}
-use Rattle.ranking.proofs.Tests.{Tested, passed, failed, tested, clash, and-both, and-true, or-either, or-left, or-right}
-use Rattle.ranking.proofs.Lists.{here, there, moved, getD-in}
+use Rattle.ranking.proofs.Tests.{Tested, passed, failed, tested, clash, and-both, or-either}
+use Rattle.ranking.proofs.Lists.{there, getD-in}
 use Rattle.window.specs.declared.Window.{Window}
 use Rattle.window.specs.declared.Fresh.{Fresh}
-use Rattle.window.specs.Rows.{sized, empty, freshWindow, heldReports, fitWindow, added}
+use Rattle.window.specs.Rows.{sized, empty, freshWindow, fitWindow, added}
 use Rattle.window.specs.History.{Values}
 use Rattle.window.proofs.History.{Since, since-fresh, since-added}
 use Rattle.question.specs.declared.Question.{Question}
-use Rattle.question.specs.Lines.{asked, linesOf, emptySlot, finished, searched, searchedOn}
+use Rattle.question.specs.Lines.{asked, linesOf, emptySlot, finished, searchedOn}
 use Rattle.question.specs.Calls.{allOf, equal, blank, fitQuestion, stepCall, beginCall}
 use Rattle.question.proofs.Steps.{reached}
 use Rattle.question.proofs.Taking.{if-so, if-not}
-use Rattle.question.proofs.Listed.{all-in, all-is}
+use Rattle.question.proofs.Listed.{all-in}
 use Rattle.question.proofs.Searches.{searched-held}
 use Rattle.board.specs.Work.{noQuestion, slotAt, withSlot, freshBoard, setRefusal, setWork, slotRefusal, removeWork, enterRefusal, enterWork, entering}
 use Rattle.board.specs.Calls.{isEmpty, slotFit, fitBoard, setCall, removeCall, enterCall}
@@ -35,8 +35,8 @@ use Rattle.board.specs.declared.Board.{Board}
 use Rattle.board.specs.declared.Placed.{Placed}
 use Rattle.board.specs.declared.Removed.{Removed}
 use Rattle.board.specs.declared.Entered.{Entered}
-use Rattle.board.proofs.Refusals.{zero-is, zero-not, slot-there, Settable, settable, Enterable, enterable}
-use Rattle.board.proofs.Slot.{Asks, Stands, Searches, Slot, stands, searches, search-stands, stands-fit, stands-ended, searches-on, step-slot, begin-slot}
+use Rattle.board.proofs.Refusals.{settable, Enterable, enterable}
+use Rattle.board.proofs.Slot.{Asks, Searches, Slot, stands, searches, search-stands, searches-on, step-slot, begin-slot}
 use Rattle.board.proofs.Slot as state
 use Rattle.board.proofs.Entry.{empty-stays, entry-stands}
 
@@ -145,8 +145,8 @@ module _ {n : ℕ} {past : List Values} (b : Board) (kept : Kept n past b) where
         since = since-added n past w v (kept .since) (may .loss-fits) (may .shake-fits) (omega (arith, may .room, kept .since .all-entered));
         many = length-map (b .slots) (λ q. entering w (v .loss) (v .shake) q .question) ∙ kept .many;
         each = λ z m.
-          let r = Memᴰ·of-map (λ q. entering w (v .loss) (v .shake) q .question) (b .slots) m in
-          subst (Slot (added w (v .loss) (v .shake))) (r .2) (go (r .0) (all-in (slotFit w) (b .slots) slots-fit (r .0) (r .1)) (kept .each (r .0) (r .1)));
+            let r = Memᴰ·of-map (λ q. entering w (v .loss) (v .shake) q .question) (b .slots) m in
+            subst (Slot (added w (v .loss) (v .shake))) (r .2) (go (r .0) (all-in (slotFit w) (b .slots) slots-fit (r .0) (r .1)) (kept .each (r .0) (r .1)));
       }
     where
       may-enter : Enterable (b .window .entered) (v .loss) (v .shake)

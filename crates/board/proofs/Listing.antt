@@ -1,16 +1,15 @@
 -- What one question does with a report that enters: the tests of the definitions, read off the stored lines.
 -- Assumes nothing.
 use mathlib.Core.Path.{_≡_, refl, sym, ap, _∙_}
-use mathlib.Core.Bool.{Bool, true, false, not, cond, _&&_, _||_}
+use mathlib.Core.Bool.{true, false}
 use mathlib.Core.List.{List, [], _∷_, map}
 use Prim.Native.Nat.{ℕ, zero, suc, _+_, min, _≤_, _<_}
 use native.Mathlib.Numerals.{add-one}
 use native.Mathlib.Omega.{arith}
 use borrow.Author.Tests.{lt-ltb, le-ltb, eq-eqb, ne-eqb}
-use lib.Dec.{eqb, ltb}
 use lib.IntN.{ℤ, pos}
 use lib.ListN.{length, take, drop, getD, length-take}
-use lib.Seq.{drop-cons, getD-take, take-all}
+use lib.Seq.{drop-cons, getD-take}
 use lib.Signed.{leZ}
 use Rattle.ranking.specs.Cells.{cell, score}
 use Rattle.ranking.specs.Search.{has}
@@ -19,7 +18,6 @@ use Rattle.question.specs.declared.Question.{Question}
 use Rattle.question.specs.Lines.{linesOf, lines, withEntry, cutToK, isMarked}
 use Rattle.question.specs.Inner.{shown}
 use Rattle.question.proofs.Stored.{Roomy, last-line, no-lines, take-min}
-use Rattle.question.proofs.Taking.{if-so, if-not}
 use Rattle.board.specs.Work.{hasPlace, listed, lists}
 
 module _ (q : Question) (s : ℤ) where

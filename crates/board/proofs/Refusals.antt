@@ -1,18 +1,16 @@
 -- What no refusal tells, and what each work answers by its refusal: a chain of tests answers 0 only where each is passed.
 -- Assumes nothing.
-use mathlib.Core.Path.{_≡_, refl, sym, ap, _∙_}
+use mathlib.Core.Path.{_≡_, refl}
 use mathlib.Core.Bool.{Bool, true, false, cond, _&&_}
-use mathlib.Core.List.{[]}
-use Prim.Native.Nat.{ℕ, suc, _+_, _≤_, _<_}
+use Prim.Native.Nat.{ℕ, suc, _≤_, _<_}
 use native.Mathlib.Omega.{arith}
 use borrow.Author.Tests.{ltb-true, leb-true, eqb-true, eq-eqb, ne-eqb}
 use lib.Dec.{leb, ltb, eqb}
 use Rattle.ranking.specs.Cells.{inRange}
 use Rattle.ranking.specs.declared.Weights.{Weights}
 use Rattle.ranking.proofs.Tests.{and-both}
-use Rattle.question.specs.Lines.{asked, emptySlot, searchedOn}
 use Rattle.question.proofs.Taking.{if-so, if-not}
-use Rattle.board.specs.Work.{slotAt, withSlot, setRefusal, setWork, slotRefusal, removeWork, readWork, enterRefusal, enterWork}
+use Rattle.board.specs.Work.{slotAt, setRefusal, slotRefusal, enterRefusal}
 use Rattle.board.specs.declared.Board.{Board}
 
 no-refusal : (t : Bool) (x n : ℕ) → cond t x (suc n) ≡ 0 → (t ≡ true) × (x ≡ 0)

@@ -2,47 +2,45 @@
 -- comes to such a list, and an entry keeps it: a mark decides whether the report can count, and a listed report that leaves has the question searched.
 -- Assumes nothing.
 use mathlib.Core.Path.{_≡_, refl, sym, ap, _∙_, subst}
-use mathlib.Core.Logic.{_⊎_, inl, inr, ⊎-elim}
-use mathlib.Core.Bool.{Bool, true, false, not, cond, _&&_, _||_, and-false}
-use mathlib.Core.List.{List, [], _∷_, _++_, map, List·Memᴰ·head, List·Memᴰ·tail, List·Memᴰ·cases-cons, Memᴰ·append-left, Memᴰ·append-right, List·Memᴰ·append-cases, Memᴰ·map, Memᴰ·of-map}
-use Prim.Native.Nat.{ℕ, zero, suc, _+_, _-_, min, _≤_, _<_}
+use mathlib.Core.Logic.{_⊎_, inl, inr}
+use mathlib.Core.Bool.{Bool, true, false, not, _&&_, _||_, and-false}
+use mathlib.Core.List.{List, [], _∷_, map, Memᴰ·of-map}
+use Prim.Native.Nat.{ℕ, suc, min, _≤_, _<_}
 use native.Mathlib.Omega.{arith}
-use borrow.Author.Tests.{lt-ltb, le-ltb, ltb-true, ltb-false, ne-eqb, eq-eqb, le-leb, lt-leb}
+use borrow.Author.Tests.{ltb-true, ltb-false, eq-eqb, le-leb, lt-leb}
 use lib.Dec.{leb, ltb, eqb}
 use lib.IntN.{ℤ, pos, negsuc}
-use lib.ListN.{length, take, drop}
+use lib.ListN.{length}
 use lib.Signed.{ltZ, leZ}
 use Rattle.ranking.specs.Best.{_∈_, best, place, onLast}
-use Rattle.ranking.specs.Cells.{inRange, cell, cells, score, visiting, cellAt}
-use Rattle.ranking.specs.Search.{has, marks, steps, found}
+use Rattle.ranking.specs.Cells.{inRange, cell, cells, score, cellAt}
+use Rattle.ranking.specs.Search.{has, marks, steps}
 use Rattle.ranking.specs.Standing.{Held, Entry, Permitted, above, entry, reaches, searchOf}
 use Rattle.ranking.specs.declared.Weights.{Weights}
 use Rattle.ranking.proofs.Tests.{Tested, passed, failed, tested, clash, and-true, or-right}
 use Rattle.ranking.proofs.Cells.{before-strict, visiting-in}
 use Rattle.ranking.proofs.Scan.{cell-at}
-use Rattle.ranking.proofs.Lists.{Same, here, there, moved, last-not, lt-or-eq}
-use Rattle.ranking.proofs.Best.{best-same, best-cons, best-rule, best-leave, best-of, best-falling, length-best-le}
-use Rattle.ranking.proofs.Search.{has-in, in-has, goes-on, All}
+use Rattle.ranking.proofs.Lists.{here, there, last-not, lt-or-eq}
+use Rattle.ranking.proofs.Best.{best-cons, best-rule, best-of, best-falling, length-best-le}
+use Rattle.ranking.proofs.Search.{in-has, goes-on}
 use Rattle.ranking.proofs.Standing.{above-strict, sound, steps-bounded, newest-above, reach-rises, length-list}
 use Rattle.ranking.proofs.Guard.{Guarded, guard-search, guard-unmarked, guard-enter}
 use Rattle.window.specs.declared.Window.{Window}
-use Rattle.window.specs.Rows.{heldReports, fitWindow, added, reportOf}
-use Rattle.window.proofs.Fitness as window
-use Rattle.window.proofs.Reports.{held-added, held-latest, held-distinct, length-held, oldest-first}
+use Rattle.window.specs.Rows.{heldReports, fitWindow, added}
+use Rattle.window.proofs.Reports.{held-distinct, length-held}
 use Rattle.window.proofs.Standing.{held-permitted}
 use Rattle.question.specs.declared.Question.{Question}
-use Rattle.question.specs.declared.Searched.{Searched}
 use Rattle.question.specs.Lines.{asked, lines, marked, stepsTaken, isMarked, finished, emptySlot, searched, begun, stepped}
 use Rattle.question.specs.Calls.{fitQuestion, rangesFit, stepCall, beginCall}
 use Rattle.question.proofs.Stored.{lines-asked}
 use Rattle.question.proofs.Steps.{reached, reached-more, reached-none, reached-end, goes-further}
-use Rattle.question.proofs.Taking.{joined-asked, if-so, if-not}
-use Rattle.question.proofs.Doors.{Ranges, Fit, fit-facts, step-unfit, step-ended, step-goes, step-held, begin-unfit, begin-goes}
+use Rattle.question.proofs.Taking.{joined-asked, if-not}
+use Rattle.question.proofs.Doors.{fit-facts, step-unfit, step-ended, step-goes, step-held, begin-unfit, begin-goes}
 use Rattle.question.proofs.Ending.{finished-none, finished-other}
 use Rattle.question.proofs.Marking.{marked-left}
 use Rattle.question.proofs.Listed.{fit-asked}
 use Rattle.question.proofs.Searches.{search-finds, whole-search, searched-is, reached-fit}
-use Rattle.board.specs.Work.{hasPlace, listed, lists}
+use Rattle.board.specs.Work.{hasPlace, listed}
 use Rattle.board.proofs.Listing.{listed-taken, listed-unmarked, listed-no-place}
 
 -- "The list is the first min(k, reports held) in that ranking."
@@ -125,12 +123,6 @@ last-same p q (x ∷ y ∷ l) h = last-same p q (y ∷ l) (λ z m. h z (there m)
 
 module _ (hs : List Held) (k : ℕ) (ws : Weights) (next : ℕ) (asks : Asks k ws) (guarded : Guarded (searchOf ws) k (taken ws next) (top k ws hs))
     (h : Held) (permitted : Permitted h) (newest : (r : Held) → r ∈ hs → r .number < h .number) where
-  L : List Entry
-  L = top k ws hs
-
-  x : Entry
-  x = entry ws h
-
   room : length (top k ws hs) ≤ 16
   room = omega (arith, length-best-le above above-strict k (map (entry ws) hs), asks .small)
 
@@ -198,9 +190,6 @@ module _ (w : Window) (fit : fitWindow w ≡ true) where
   unfolding marked stepsTaken isMarked finished
   stands-ended q s = ap finished (s .is) ∙ go (tested (ltb (s .next) 256))
     where
-      l : List Entry
-      l = top (s .k) (s .ws) (heldReports w)
-
       p : Question
       p = asked (s .k) (s .ws) (top (s .k) (s .ws) (heldReports w)) (s .next)
 
@@ -247,9 +236,6 @@ module _ (w : Window) (fit : fitWindow w ≡ true) where
   step-slot q (stands s) = subst (Slot w) (sym (ap (λ r. r .question) (step-ended w q fit (stands-fit w fit q s) (stands-ended w fit q s)))) (stands s)
   step-slot q (searches s) = subst (Slot w) (sym same) (go (lt-or-eq (s .before-end)))
     where
-      next : Question
-      next = reached (s .k) (s .ws) (heldReports w) (suc (s .n))
-
       few : s .n < 256
       few = omega (arith, s .before-end, steps-bounded (s .ws) (s .k) (heldReports w))
 
@@ -259,9 +245,6 @@ module _ (w : Window) (fit : fitWindow w ≡ true) where
           ∙ step-held w q fit (searches-fit w fit q s) (searches-on w fit q s)
           ∙ ap (λ p. stepped p (heldReports w)) (s .is)
           ∙ reached-more (s .k) (s .asks .small) (s .ws) (heldReports w) (s .n) few
-
-      first : Question
-      first = asked (s .k) (s .ws) [] 0
 
       go : (suc (s .n) < steps (searchOf (s .ws)) (s .k) (heldReports w)) ⊎ (suc (s .n) ≡ steps (searchOf (s .ws)) (s .k) (heldReports w)) → Slot w (reached (s .k) (s .ws) (heldReports w) (suc (s .n)))
       go (inl l) = searches (record { k = s .k; ws = s .ws; n = suc (s .n); asks = s .asks; before-end = l; is = refl })

@@ -1,21 +1,19 @@
 -- A walk over the slots, one after the other: what is left to test decides the whole.
 -- Assumes nothing.
 use mathlib.Core.Path.{_≡_, sym, ap, _∙_}
-use mathlib.Core.Bool.{Bool, true, false, cond, _&&_, _||_}
-use mathlib.Core.List.{List, [], _∷_}
-use Prim.Native.Nat.{ℕ, suc, _+_, _≤_, _<_}
+use mathlib.Core.Bool.{true, false, _&&_}
+use mathlib.Core.List.{List}
+use Prim.Native.Nat.{ℕ, _+_, _≤_, _<_}
 use native.Mathlib.Numerals.{add-one}
 use native.Mathlib.Omega.{arith}
 use lib.ListN.{length, drop, getD, drop-of-length-le}
 use lib.Seq.{drop-cons}
 use Rattle.window.specs.declared.Window.{Window}
-use Rattle.window.specs.Rows.{fitWindow}
 use Rattle.question.specs.declared.Question.{Question}
 use Rattle.question.specs.Lines.{finished}
 use Rattle.question.specs.Calls.{allOf, fitQuestion}
 use Rattle.board.specs.Work.{noQuestion}
-use Rattle.board.specs.Calls.{isEmpty, slotFit, fitBoard}
-use Rattle.board.specs.declared.Board.{Board}
+use Rattle.board.specs.Calls.{isEmpty, slotFit}
 
 -- The walk has come to the slot i.
 pub record Walk (w : Window) (whole : List Question) (i : ℕ) : Type 0 where

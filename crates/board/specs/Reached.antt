@@ -1,7 +1,7 @@
 -- Which boards are reached (document 01, "Refusal numbers").
 use Prim.Native.Nat.{ℕ, _<_}
 use mathlib.Core.Path.{_≡_}
-use mathlib.Core.Bool.{true, cond}
+use mathlib.Core.Bool.{cond}
 use mathlib.Core.List.{List, [], _∷_, _++_}
 use lib.Dec.{eqb}
 use Rattle.ranking.specs.declared.Weights.{Weights}

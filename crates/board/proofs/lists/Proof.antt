@@ -1,12 +1,11 @@
 -- The invariant: the number is among the lines left if it is among all.
 -- Assumes nothing.
 use mathlib.Core.Path.{_≡_, refl, sym, _∙_}
-use mathlib.Core.Bool.{true}
-use Prim.Native.Nat.{_+_, _-_, _≤_, _<_}
+use Prim.Native.Nat.{_-_, _≤_}
 use native.Mathlib.Omega.{arith}
-use lib.ListN.{length, take, drop}
+use lib.ListN.{take, drop}
 use Rattle.ranking.specs.Search.{has}
-use Rattle.question.proofs.Stored.{Roomy, roomy}
+use Rattle.question.proofs.Stored.{roomy}
 use Rattle.board.proofs.Listing.{lists-none, lists-numbers, named-here, named-later, named-nowhere}
 use borrow.Author.Needs.{needs}
 use borrow.Author.Needs.{needs}
