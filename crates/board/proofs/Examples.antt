@@ -235,19 +235,31 @@ third-says u v w a b c =
 abbrev line : ℕ → ℕ → Entry
 line number score = record { number = number; score = pos score }
 
--- "P9 (10, 10), (5, 5), (1, 1): third entry searches, 256 steps, list 2:10"
-pub p9 : (getD (third (pair 10 10) (pair 5 5) (pair 1 1) .searched) 0 false ≡ true) × (getD (third (pair 10 10) (pair 5 5) (pair 1 1) .steps) 0 0 ≡ 256) × (lines (slotAt (third (pair 10 10) (pair 5 5) (pair 1 1) .board) 0) ≡ line 2 10 ∷ [])
+-- "N 2, k 1, weights 1, 1, set first": three entries, what the third answers, and the list after it.
+pub record Examples : Type 0 where
+  -- "P9 (10, 10), (5, 5), (1, 1): third entry searches, 256 steps, list 2:10"
+  pub p9-searches : getD (third (pair 10 10) (pair 5 5) (pair 1 1) .searched) 0 false ≡ true
+  pub p9-steps : getD (third (pair 10 10) (pair 5 5) (pair 1 1) .steps) 0 0 ≡ 256
+  pub p9-list : lines (slotAt (third (pair 10 10) (pair 5 5) (pair 1 1) .board) 0) ≡ line 2 10 ∷ []
+  -- "P10 same, (1, 1), (5, 5), (1, 2): no search, list 2:10"
+  pub p10-searches : getD (third (pair 1 1) (pair 5 5) (pair 1 2) .searched) 0 false ≡ false
+  pub p10-list : lines (slotAt (third (pair 1 1) (pair 5 5) (pair 1 2) .board) 0) ≡ line 2 10 ∷ []
+  -- "P11 same, (9, 9), (1, 1), (9, 9): no search, list 3:18"
+  pub p11-searches : getD (third (pair 9 9) (pair 1 1) (pair 9 9) .searched) 0 false ≡ false
+  pub p11-list : lines (slotAt (third (pair 9 9) (pair 1 1) (pair 9 9) .board) 0) ≡ line 3 18 ∷ []
+
+pub examples : Examples
 unfolding steps visiting leaving enterRefusal
-p9 =
-    let t = third-says (pair 10 10) (pair 5 5) (pair 1 1) refl refl refl in
-    (t .searched-is, t .steps-are refl, t .list-is)
-
--- "P10 same, (1, 1), (5, 5), (1, 2): no search, list 2:10"
-pub p10 : (getD (third (pair 1 1) (pair 5 5) (pair 1 2) .searched) 0 false ≡ false) × (lines (slotAt (third (pair 1 1) (pair 5 5) (pair 1 2) .board) 0) ≡ line 2 10 ∷ [])
-unfolding leaving enterRefusal
-p10 = let t = third-says (pair 1 1) (pair 5 5) (pair 1 2) refl refl refl in (t .searched-is, t .list-is)
-
--- "P11 same, (9, 9), (1, 1), (9, 9): no search, list 3:18"
-pub p11 : (getD (third (pair 9 9) (pair 1 1) (pair 9 9) .searched) 0 false ≡ false) × (lines (slotAt (third (pair 9 9) (pair 1 1) (pair 9 9) .board) 0) ≡ line 3 18 ∷ [])
-unfolding leaving enterRefusal
-p11 = let t = third-says (pair 9 9) (pair 1 1) (pair 9 9) refl refl refl in (t .searched-is, t .list-is)
+examples =
+    let nine = third-says (pair 10 10) (pair 5 5) (pair 1 1) refl refl refl in
+    let ten = third-says (pair 1 1) (pair 5 5) (pair 1 2) refl refl refl in
+    let eleven = third-says (pair 9 9) (pair 1 1) (pair 9 9) refl refl refl in
+    record {
+      p9-searches = nine .searched-is;
+      p9-steps = nine .steps-are refl;
+      p9-list = nine .list-is;
+      p10-searches = ten .searched-is;
+      p10-list = ten .list-is;
+      p11-searches = eleven .searched-is;
+      p11-list = eleven .list-is;
+    }

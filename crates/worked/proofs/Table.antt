@@ -2,12 +2,15 @@
 -- Assumes nothing.
 use Rattle.joining.proofs.Examples as frames
 use Rattle.ranking.proofs.Examples as search
+use Rattle.board.proofs.Examples as entries
 
 pub record Table : Type 0 where
   -- P1 to P4, and the edges of size and loss
   pub of-frames : frames.Examples
   -- P5 to P8
   pub of-searches : search.Examples
+  -- P9 to P11
+  pub of-entries : entries.Examples
 
 pub table : Table
-table = record { of-frames = frames.examples; of-searches = search.examples }
+table = record { of-frames = frames.examples; of-searches = search.examples; of-entries = entries.examples }
