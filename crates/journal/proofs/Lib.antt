@@ -1,3 +1,4 @@
 -- Laws that the crates above cite.
 pub mod Calls
 pub mod Searches
+pub mod Frames

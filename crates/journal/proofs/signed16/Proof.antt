@@ -18,7 +18,7 @@ use Rattle.journal.proofs.signed16.Lts as lts
 -- Of 16 bits the upper half stands for what is missing to 65536, below 0.
 module _ (n : ℕ) (high : 32768 ≤ n) (fits : n < 65536) where
   taken-off : toZ w32 n -ℤ pos 65536 ≡ negsuc (65535 - n)
-  taken-off = rw (toZ-pos w32 {n} (omega arith), lt-ltb n 65536 fits)
+  taken-off = rw (toZ-pos w32 {n = n} (omega arith), lt-ltb n 65536 fits)
 
   fits32 : SFits w32 (toZ w32 n -ℤ pos 65536)
   fits32 = rw taken-off (record { sfits = omega arith })
@@ -47,7 +47,7 @@ cast-result-3 c = fits16 (c .before .args .n) (search needs) (search needs)
 
 returns : tie.Need-returns
 unfolding signed16
-returns c = rw (toZ-pos w16 {c .before .args .n} (omega arith), lt-ltb (c .before .args .n) 32768 (omega arith))
+returns c = rw (toZ-pos w16 {n = c .before .args .n} (omega arith), lt-ltb (c .before .args .n) 32768 (omega arith))
 
 returns-2 : tie.Need-returns-2
 returns-2 c = lower (c .before .args .n) (search needs) (search needs)

@@ -1,17 +1,14 @@
--- `journal::Log::set_item` meets its contract: TODO.
+-- `journal::Log::set_item` meets its contract: the board answers the refusal, or the steps of the search that is printed.
 -- Assumes nothing.
+use mathlib.Core.Path.{ap, _∙_}
+use Rattle.board.specs.declared.Placed.{Placed}
+use Rattle.board.specs.Work.{setWork}
+use Rattle.text.specs.Text.{sLine}
+use Rattle.journal.specs.Log.{withBoard, signed16, setItem}
+use Rattle.journal.proofs.Calls.{refuses, does, stores}
 use borrow.Author.Needs.{needs}
 use Rattle.journal.proofs.Log.set_item.Statement.{statement}
 use Rattle.journal.proofs.Log.set_item.Tie as tie
-use Rattle.journal.proofs.Log.set_item.Reads as reads
-use Rattle.journal.proofs.Log.set_item.Lts as lts
-use Rattle.board.proofs.Board.set_known.Reads as set-known-reads
-use Rattle.journal.proofs.Log.refused.Reads as refused-reads
-use Rattle.journal.proofs.Log.with_board.Reads as with-board-reads
-use Rattle.journal.proofs.signed16.Reads as signed16-reads
-use Rattle.text.proofs.put_s.Reads as put-s-reads
-use Rattle.wire.proofs.byte.Reads as byte-reads
-use Rattle.wire.proofs.read16.Reads as read16-reads
 
 byte-requires : tie.Need-byte-requires
 byte-requires c κs = search needs
@@ -41,7 +38,15 @@ same-length : tie.Need-same-length
 same-length c = search needs
 
 returns : tie.Need-returns
-returns c = ?
+unfolding setItem
+returns c =
+    let a = c .before .before .before .before .before .before .before .before .before .before .before .before .before .before .before .args in
+    let slot = c .before .before .before .before .before .before .before .before .before .before .before .before .byte .ensures in
+    let k = c .before .before .before .before .before .before .byte2 .ensures in
+    let loss = c .before .before .before .before .before .before .before .before .before .before .signed16 .ensures ∙ ap signed16 (c .before .before .before .before .before .before .before .before .before .before .before .read16 .ensures) in
+    let shake = c .before .before .before .before .before .before .before .before .signed162 .ensures ∙ ap signed16 (c .before .before .before .before .before .before .before .before .before .read162 .ensures) in
+    let placed = c .before .before .before .before .before .set-known .ensures ∙ (λ i. setWork (a .self .board) (slot i) (k i) (record { loss = loss i; shake = shake i })) in
+    refuses (a .self) _ (ap (λ (p : Placed). p .refusal) placed) (c .before .before .before .before .if1 .taken) (c .before .before .refused .ensures)
 
 put-s-requires : tie.Need-put-s-requires
 put-s-requires c κs = search needs
@@ -53,7 +58,17 @@ same-length-2 : tie.Need-same-length-2
 same-length-2 c = search needs
 
 returns-2 : tie.Need-returns-2
-returns-2 c = ?
+unfolding setItem
+returns-2 c =
+    let a = c .before .before .before .before .before .before .before .before .before .before .before .before .before .before .before .before .before .args in
+    let slot = c .before .before .before .before .before .before .before .before .before .before .before .before .before .before .byte .ensures in
+    let k = c .before .before .before .before .before .before .before .before .byte2 .ensures in
+    let loss = c .before .before .before .before .before .before .before .before .before .before .before .before .signed16 .ensures ∙ ap signed16 (c .before .before .before .before .before .before .before .before .before .before .before .before .before .read16 .ensures) in
+    let shake = c .before .before .before .before .before .before .before .before .before .before .signed162 .ensures ∙ ap signed16 (c .before .before .before .before .before .before .before .before .before .before .before .read162 .ensures) in
+    let placed = c .before .before .before .before .before .before .before .set-known .ensures ∙ (λ i. setWork (a .self .board) (slot i) (k i) (record { loss = loss i; shake = shake i })) in
+    does (a .self) (ap (λ (p : Placed). p .refusal) placed) (c .before .before .before .before .before .before .if1 .left)
+    (λ i. record { text = sLine (a .self .items) (slot i) (placed i .steps); log = withBoard (a .self) (placed i .board) })
+    (stores _ _ (c .with-board .ensures) (c .before .before .before .before .put-s .ensures))
 
 pub set-item-spec : {M : Type 1} → statement M
 set-item-spec =

@@ -1,14 +1,16 @@
--- `journal::Log::show_item` meets its contract: TODO.
+-- `journal::Log::show_item` meets its contract: the board answers the refusal, or the list that is printed.
 -- Assumes nothing.
+use mathlib.Core.Path.{refl, ap, ap₂, _∙_}
+use Prim.Native.Nat.{ℕ}
+use lib.ListN.{take}
+use Rattle.board.specs.declared.Shown.{Shown}
+use Rattle.board.specs.Work.{readWork}
+use Rattle.text.specs.Text.{qLine, listed}
+use Rattle.journal.specs.Log.{Outcome, showItem}
+use Rattle.journal.proofs.Calls.{refuses, does, stores}
 use borrow.Author.Needs.{needs}
 use Rattle.journal.proofs.Log.show_item.Statement.{statement}
 use Rattle.journal.proofs.Log.show_item.Tie as tie
-use Rattle.journal.proofs.Log.show_item.Reads as reads
-use Rattle.journal.proofs.Log.show_item.Lts as lts
-use Rattle.board.proofs.Board.read_known.Reads as read-known-reads
-use Rattle.journal.proofs.Log.refused.Reads as refused-reads
-use Rattle.text.proofs.put_q.Reads as put-q-reads
-use Rattle.wire.proofs.byte.Reads as byte-reads
 
 byte-requires : tie.Need-byte-requires
 byte-requires c κs = search needs
@@ -23,7 +25,11 @@ same-length : tie.Need-same-length
 same-length c = search needs
 
 returns : tie.Need-returns
-returns c = ?
+unfolding showItem
+returns c =
+    let a = c .before .before .before .before .before .before .before .before .before .before .args in
+    let shown = c .before .before .before .before .before .read-known .ensures ∙ ap (readWork (a .self .board)) (c .before .before .before .before .before .before .before .byte .ensures) in
+    refuses (a .self) _ (ap (λ (s : Shown). s .refusal) shown) (c .before .before .before .before .if1 .taken) (c .before .before .refused .ensures)
 
 cast-put-q : tie.Need-cast-put-q
 cast-put-q c = search needs
@@ -35,7 +41,14 @@ same-length-2 : tie.Need-same-length-2
 same-length-2 c = search needs
 
 returns-2 : tie.Need-returns-2
-returns-2 c = ?
+unfolding showItem
+returns-2 c =
+    let a = c .before .before .before .before .before .before .before .before .before .before .before .before .before .args in
+    let slot = c .before .before .before .before .before .before .before .before .before .before .byte .ensures in
+    let shown = c .before .before .before .before .before .before .before .before .read-known .ensures ∙ ap (readWork (a .self .board)) slot in
+    does (a .self) (ap (λ (s : Shown). s .refusal) shown) (c .before .before .before .before .before .before .before .if1 .left)
+    (ap₂ (λ (k : ℕ) (s : Shown). record { text = qLine k (take (s .len) (listed (s .numbers) (s .scores))); log = a .self }) slot shown)
+    (stores (a .self) _ refl (c .before .before .put-q .ensures))
 
 pub show-item-spec : {M : Type 1} → statement M
 show-item-spec =
