@@ -6,7 +6,7 @@ ghost use lib.ListN.{length};
 ghost use lib.Seq.{sets};
 ghost use Rattle.joining.specs.Frame.{frameRefusal};
 ghost use Rattle.text.specs.Text.{behind, sLine};
-ghost use Rattle.journal.specs.Log.{Stores, freshLog, nextItem, counted, withBoard, withSessions, refused, known, itemRefusal, windowItem, signed16, setItem, removeItem, showItem, sLines, enterItem, answered, frameItem, byTag, itemDone};
+ghost use Rattle.journal.specs.Log.{Stores, freshLog, nextItem, counted, withBoard, withSessions, refused, known, itemRefusal, windowItem, signed16, weightsIn, setItem, removeItem, showItem, sLines, enterItem, answered, frameItem, byTag, itemDone};
 use board::Board;
 use joining::Answer;
 use joining::Bus;
@@ -166,10 +166,9 @@ impl Log {
         ensures { λ r. ⌜ Stores (setItem self (now (value .entry))) (now (out .entry)) at (r .log) (r .at) (now (out .exit)) ⌝ }
     {
         let slot = wire::byte(value, 0);
-        let loss = signed16(wire::read16(value, 2));
-        let shake = signed16(wire::read16(value, 4));
+        let weights = weights_in(value);
         let board = self.board;
-        let placed = board.set_known(slot, wire::byte(value, 1), Weights { loss, shake });
+        let placed = board.set_known(slot, wire::byte(value, 1), weights);
         let refusal = placed.refusal;
         if refusal != 0 {
             return self.refused(refusal, out, at);
@@ -296,6 +295,15 @@ fn known(tag: u8, size: usize) -> bool
         return size == 1;
     }
     if tag == Log::SHOW { size == 1 } else { false }
+}
+
+// The weights in an item that sets a question.
+fn weights_in(value: &[u8]) -> Weights
+    ensures { λ r. ⌜ r ≡ weightsIn (now (value .entry)) ⌝ }
+{
+    let loss = signed16(wire::read16(value, 2));
+    let shake = signed16(wire::read16(value, 4));
+    Weights { loss, shake }
 }
 
 // The signed number of two bytes.

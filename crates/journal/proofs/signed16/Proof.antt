@@ -1,7 +1,7 @@
 -- `journal::signed16` meets its contract: in 32 bits 65536 can be taken off, and what is left fits 16.
 -- Assumes nothing.
-use mathlib.Core.Path.{_≡_, sym, _∙_}
-use Prim.Native.Nat.{ℕ, _-_, _≤_, _<_}
+use mathlib.Core.Path.{_≡_, sym, ap, _∙_}
+use Prim.Native.Nat.{ℕ, suc, _-_, _≤_, _<_}
 use native.Mathlib.Omega.{arith}
 use borrow.Author.Tests.{lt-ltb, le-ltb}
 use lib.IntN.{pos, negsuc, _-ℤ_}
@@ -18,7 +18,9 @@ use Rattle.journal.proofs.signed16.Lts as lts
 -- Of 16 bits the upper half stands for what is missing to 65536, below 0.
 module _ (n : ℕ) (high : 32768 ≤ n) (fits : n < 65536) where
   taken-off : toZ w32 n -ℤ pos 65536 ≡ negsuc (65535 - n)
-  taken-off = rw (toZ-pos w32 {n = n} (omega arith), lt-ltb n 65536 fits)
+  taken-off =
+      let less : 65536 - suc n ≡ 65535 - n = omega arith in
+      rw (toZ-pos w32 {n = n} (omega arith), lt-ltb n 65536 fits) (ap negsuc less)
 
   fits32 : SFits w32 (toZ w32 n -ℤ pos 65536)
   fits32 = rw taken-off (record { sfits = omega arith })

@@ -4,7 +4,7 @@ use mathlib.Core.Path.{ap, _∙_}
 use Rattle.board.specs.declared.Placed.{Placed}
 use Rattle.board.specs.Work.{setWork}
 use Rattle.text.specs.Text.{sLine}
-use Rattle.journal.specs.Log.{withBoard, signed16, setItem}
+use Rattle.journal.specs.Log.{withBoard, setItem}
 use Rattle.journal.proofs.Calls.{refuses, does, stores}
 use borrow.Author.Needs.{needs}
 use Rattle.journal.proofs.Log.set_item.Statement.{statement}
@@ -13,17 +13,8 @@ use Rattle.journal.proofs.Log.set_item.Tie as tie
 byte-requires : tie.Need-byte-requires
 byte-requires c κs = search needs
 
-read16-requires : tie.Need-read16-requires
-read16-requires c κs = search needs
-
-signed16-requires : tie.Need-signed16-requires
-signed16-requires c κs = search needs
-
-read16-requires-2 : tie.Need-read16-requires-2
-read16-requires-2 c κs = search needs
-
-signed16-requires-2 : tie.Need-signed16-requires-2
-signed16-requires-2 c κs = search needs
+weights-in-requires : tie.Need-weights-in-requires
+weights-in-requires c κs = search needs
 
 byte-requires-2 : tie.Need-byte-requires-2
 byte-requires-2 c κs = search needs
@@ -40,12 +31,11 @@ same-length c = search needs
 returns : tie.Need-returns
 unfolding setItem
 returns c =
-    let a = c .before .before .before .before .before .before .before .before .before .before .before .before .before .before .before .args in
-    let slot = c .before .before .before .before .before .before .before .before .before .before .before .before .byte .ensures in
+    let a = c .before .before .before .before .before .before .before .before .before .before .before .before .args in
+    let slot = c .before .before .before .before .before .before .before .before .before .byte .ensures in
     let k = c .before .before .before .before .before .before .byte2 .ensures in
-    let loss = c .before .before .before .before .before .before .before .before .before .before .signed16 .ensures ∙ ap signed16 (c .before .before .before .before .before .before .before .before .before .before .before .read16 .ensures) in
-    let shake = c .before .before .before .before .before .before .before .before .signed162 .ensures ∙ ap signed16 (c .before .before .before .before .before .before .before .before .before .read162 .ensures) in
-    let placed = c .before .before .before .before .before .set-known .ensures ∙ (λ i. setWork (a .self .board) (slot i) (k i) (record { loss = loss i; shake = shake i })) in
+    let weights = c .before .before .before .before .before .before .before .before .weights-in .ensures in
+    let placed = c .before .before .before .before .before .set-known .ensures ∙ (λ i. setWork (a .self .board) (slot i) (k i) (weights i)) in
     refuses (a .self) _ (ap (λ (p : Placed). p .refusal) placed) (c .before .before .before .before .if1 .taken) (c .before .before .refused .ensures)
 
 put-s-requires : tie.Need-put-s-requires
@@ -60,12 +50,11 @@ same-length-2 c = search needs
 returns-2 : tie.Need-returns-2
 unfolding setItem
 returns-2 c =
-    let a = c .before .before .before .before .before .before .before .before .before .before .before .before .before .before .before .before .before .args in
-    let slot = c .before .before .before .before .before .before .before .before .before .before .before .before .before .before .byte .ensures in
+    let a = c .before .before .before .before .before .before .before .before .before .before .before .before .before .before .args in
+    let slot = c .before .before .before .before .before .before .before .before .before .before .before .byte .ensures in
     let k = c .before .before .before .before .before .before .before .before .byte2 .ensures in
-    let loss = c .before .before .before .before .before .before .before .before .before .before .before .before .signed16 .ensures ∙ ap signed16 (c .before .before .before .before .before .before .before .before .before .before .before .before .before .read16 .ensures) in
-    let shake = c .before .before .before .before .before .before .before .before .before .before .signed162 .ensures ∙ ap signed16 (c .before .before .before .before .before .before .before .before .before .before .before .read162 .ensures) in
-    let placed = c .before .before .before .before .before .before .before .set-known .ensures ∙ (λ i. setWork (a .self .board) (slot i) (k i) (record { loss = loss i; shake = shake i })) in
+    let weights = c .before .before .before .before .before .before .before .before .before .before .weights-in .ensures in
+    let placed = c .before .before .before .before .before .before .before .set-known .ensures ∙ (λ i. setWork (a .self .board) (slot i) (k i) (weights i)) in
     does (a .self) (ap (λ (p : Placed). p .refusal) placed) (c .before .before .before .before .before .before .if1 .left)
     (λ i. record { text = sLine (a .self .items) (slot i) (placed i .steps); log = withBoard (a .self) (placed i .board) })
     (stores _ _ (c .with-board .ensures) (c .before .before .before .before .put-s .ensures))
@@ -75,10 +64,7 @@ set-item-spec =
     tie.close
     (tie.spec
     byte-requires
-    read16-requires
-    signed16-requires
-    read16-requires-2
-    signed16-requires-2
+    weights-in-requires
     byte-requires-2
     set-known-requires
     refused-requires
