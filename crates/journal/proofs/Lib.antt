@@ -2,3 +2,4 @@
 pub mod Calls
 pub mod Searches
 pub mod Frames
+pub mod Cutting

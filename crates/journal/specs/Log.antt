@@ -150,20 +150,24 @@ pub record Consumed : Type 0 where
   pub log : Log
   pub rest : List ℕ
 
--- An item's text, and then the others'.
-abbrev pub after : Outcome → (Log → Consumed) → Consumed
-after done others =
-    let c = others (done .log) in
-    record { text = done .text ++ c .text; log = c .log; rest = c .rest }
+-- A text, and then that of the items behind it.
+abbrev pub after : List ℕ → Consumed → Consumed
+after text c = record { text = text ++ c .text; log = c .log; rest = c .rest }
+
+-- No whole item.
+abbrev pub none : Log → List ℕ → Consumed
+none log bs = record { text = []; log = log; rest = bs }
 
 -- The item that the bytes start with, and then the others; a field that the bytes end in is no item yet.
 abbrev pub first : Log → List ℕ → (Log → List ℕ → Consumed) → Field → Consumed
-first log bs others (Whole tag start size) = after (itemDone log tag (part start size bs)) (λ l. others l (drop (start + size) bs))
-first log bs others Cut = record { text = []; log = log; rest = bs }
+first log bs others (Whole tag start size) =
+    let done = itemDone log tag (part start size bs) in
+    after (done .text) (others (done .log) (drop (start + size) bs))
+first log bs others Cut = none log bs
 
 -- "Standard input as tagged fields": at most n of the whole items that the bytes start with.
 unfoldable pub items : ℕ → Log → List ℕ → Consumed
-items zero log bs = record { text = []; log = log; rest = bs }
+items zero log bs = none log bs
 items (suc n) log bs = first log bs (λ l r. items n l r) (fieldAt bs 0)
 
 -- All whole items that the bytes start with: there are no more than bytes.
@@ -175,8 +179,19 @@ unfoldable pub ending : Log → List ℕ → List ℕ
 ending log [] = []
 ending log (b ∷ bs) = rLine (nextItem (log .items)) 21
 
+-- The text of the bytes that a log goes on with, to its end.
+unfoldable pub textFrom : Log → List ℕ → List ℕ
+textFrom log bs =
+    let c = consumed log bs in
+    c .text ++ ending (c .log) (c .rest)
+
 -- The text of a whole log.
 unfoldable pub logText : List ℕ → List ℕ
-logText bs =
-    let c = consumed freshLog bs in
-    c .text ++ ending (c .log) (c .rest)
+logText bs = textFrom freshLog bs
+
+-- The text of a log that comes in pieces: the whole items of each are printed when it has come, and the rest waits for the next piece.
+unfoldable pub inPieces : Log → List ℕ → List (List ℕ) → List ℕ
+inPieces log rest [] = textFrom log rest
+inPieces log rest (p ∷ ps) =
+    let c = consumed log (rest ++ p) in
+    c .text ++ inPieces (c .log) (c .rest) ps
