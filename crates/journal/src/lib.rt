@@ -328,7 +328,13 @@ fn frame_refusal(id: u32, data: &[u8]) -> u8
 }
 
 // Prints a line for each question that was searched, slots rising.
-fn put_searches(out: &mut [u8], at: usize, item: u64, searched: [bool; 32], steps: [u16; 32]) -> usize
+fn put_searches(
+    out: &mut [u8],
+    at: usize,
+    item: u64,
+    searched: [bool; 32],
+    steps: [u16; 32],
+) -> usize
     ensures { λ r. ⌜ r ≡ behind at (sLines item 0 searched steps) ⌝ }
     ensures { λ _. ⌜ now (out .exit) ≡ sets (now (out .entry)) at (sLines item 0 searched steps) ⌝ }
 {

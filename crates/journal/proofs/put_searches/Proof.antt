@@ -71,7 +71,7 @@ returns c =
     let bs : length (a .t4) ≡ 32 = search needs in
     let ns : length (a .t5) ≡ 32 = search needs in
     let whole : sLines (a .item) 0 (take (l .i) (a .t4)) (take (l .i) (a .t5)) ≡ sLines (a .item) 0 (a .t4) (a .t5) =
-        ap₂ (λ (x : List Bool) (y : List ℕ). sLines (a .item) 0 x y) (take-all (l .i) (a .t4) (omega arith)) (take-all (l .i) (a .t5) (omega arith)) in
+    ap₂ (λ (x : List Bool) (y : List ℕ). sLines (a .item) 0 x y) (take-all (l .i) (a .t4) (omega arith)) (take-all (l .i) (a .t5) (omega arith)) in
     both {l = now (a .out)} (said whole (l .inv .2))
 
 pub put-searches-spec : {M : Type 1} → statement M
