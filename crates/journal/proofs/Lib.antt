@@ -1,0 +1,5 @@
+-- Laws that the crates above cite.
+pub mod Calls
+pub mod Searches
+pub mod Frames
+pub mod Cutting

@@ -1,0 +1,17 @@
+-- `journal::Log::counted` meets its contract: only the count changes.
+-- Assumes nothing.
+use borrow.Author.Needs.{needs}
+use Rattle.journal.proofs.Log.counted.Statement.{statement}
+use Rattle.journal.proofs.Log.counted.Tie as tie
+use Rattle.journal.proofs.Log.counted.Reads as reads
+use Rattle.journal.proofs.Log.counted.Lts as lts
+use Rattle.journal.proofs.next_item.Reads as next-item-reads
+
+next-item-requires : tie.Need-next-item-requires
+next-item-requires c κs = search needs
+
+returns : tie.Need-returns
+returns c = λ i. record { items = c .next-item .ensures i; board = c .before .args .self .board; sessions = c .before .args .self .sessions }
+
+pub counted-spec : {M : Type 1} → statement M
+counted-spec = tie.close (tie.spec next-item-requires returns)

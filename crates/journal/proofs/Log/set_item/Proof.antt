@@ -1,0 +1,76 @@
+-- `journal::Log::set_item` meets its contract: the board answers the refusal, or the steps of the search that is printed.
+-- Assumes nothing.
+use mathlib.Core.Path.{ap, _∙_}
+use Rattle.board.specs.declared.Placed.{Placed}
+use Rattle.board.specs.Work.{setWork}
+use Rattle.text.specs.Text.{sLine}
+use Rattle.journal.specs.Log.{withBoard, setItem}
+use Rattle.journal.proofs.Calls.{refuses, does, stores}
+use borrow.Author.Needs.{needs}
+use Rattle.journal.proofs.Log.set_item.Statement.{statement}
+use Rattle.journal.proofs.Log.set_item.Tie as tie
+
+byte-requires : tie.Need-byte-requires
+byte-requires c κs = search needs
+
+weights-in-requires : tie.Need-weights-in-requires
+weights-in-requires c κs = search needs
+
+byte-requires-2 : tie.Need-byte-requires-2
+byte-requires-2 c κs = search needs
+
+set-known-requires : tie.Need-set-known-requires
+set-known-requires c κs = search needs
+
+refused-requires : tie.Need-refused-requires
+refused-requires c κs = search needs
+
+same-length : tie.Need-same-length
+same-length c = search needs
+
+returns : tie.Need-returns
+unfolding setItem
+returns c =
+    let a = c .before .before .before .before .before .before .before .before .before .before .before .before .args in
+    let slot = c .before .before .before .before .before .before .before .before .before .byte .ensures in
+    let k = c .before .before .before .before .before .before .byte2 .ensures in
+    let weights = c .before .before .before .before .before .before .before .before .weights-in .ensures in
+    let placed = c .before .before .before .before .before .set-known .ensures ∙ (λ i. setWork (a .self .board) (slot i) (k i) (weights i)) in
+    refuses (a .self) _ (ap (λ (p : Placed). p .refusal) placed) (c .before .before .before .before .if1 .taken) (c .before .before .refused .ensures)
+
+put-s-requires : tie.Need-put-s-requires
+put-s-requires c κs = search needs
+
+with-board-requires : tie.Need-with-board-requires
+with-board-requires c κs = search needs
+
+same-length-2 : tie.Need-same-length-2
+same-length-2 c = search needs
+
+returns-2 : tie.Need-returns-2
+unfolding setItem
+returns-2 c =
+    let a = c .before .before .before .before .before .before .before .before .before .before .before .before .before .before .args in
+    let slot = c .before .before .before .before .before .before .before .before .before .before .before .byte .ensures in
+    let k = c .before .before .before .before .before .before .before .before .byte2 .ensures in
+    let weights = c .before .before .before .before .before .before .before .before .before .before .weights-in .ensures in
+    let placed = c .before .before .before .before .before .before .before .set-known .ensures ∙ (λ i. setWork (a .self .board) (slot i) (k i) (weights i)) in
+    does (a .self) (ap (λ (p : Placed). p .refusal) placed) (c .before .before .before .before .before .before .if1 .left)
+    (λ i. record { text = sLine (a .self .items) (slot i) (placed i .steps); log = withBoard (a .self) (placed i .board) })
+    (stores _ _ (c .with-board .ensures) (c .before .before .before .before .put-s .ensures))
+
+pub set-item-spec : {M : Type 1} → statement M
+set-item-spec =
+    tie.close
+    (tie.spec
+    byte-requires
+    weights-in-requires
+    byte-requires-2
+    set-known-requires
+    refused-requires
+    same-length
+    returns
+    put-s-requires
+    with-board-requires
+    same-length-2
+    returns-2)

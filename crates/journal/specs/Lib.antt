@@ -1,0 +1,2 @@
+-- A log as bytes and the text that it fixes: what the functions of `journal` are held to.
+pub mod Log

@@ -1,0 +1,197 @@
+-- The text that a whole log fixes, item by item (document 01, "Bench sender and log program").
+use Prim.Native.Nat.{ℕ, zero, suc, _+_, _-_, _^_, min}
+use mathlib.Core.Path.{_≡_}
+use mathlib.Core.Bool.{Bool, false, cond}
+use mathlib.Core.List.{List, [], _∷_, _++_}
+use lib.ListN.{length, getD, take, drop}
+use lib.Seq.{sets}
+use lib.Dec.{ltb, eqb}
+use lib.IntN.{ℤ, pos, negsuc}
+use Rattle.wire.specs.Bytes.{number, part, fieldAt}
+use Rattle.wire.specs.declared.Field.{Field}
+use Rattle.wire.specs.declared.Field.the-variants.{Whole, Cut}
+use Rattle.ranking.specs.declared.Weights.{Weights}
+use Rattle.board.specs.declared.Board.{Board}
+use Rattle.board.specs.Work.{freshBoard, setWork, removeWork, readWork, enterWork}
+use Rattle.joining.specs.Frame.{Frame}
+use Rattle.joining.specs.Run.{freshSessions, sessionsAfter, answerTo}
+use Rattle.joining.specs.declared.Session.{Session}
+use Rattle.joining.specs.declared.Answer.{Answer}
+use Rattle.joining.specs.declared.Answer.the-variants.{Refused, Kept, Complete}
+use Rattle.text.specs.Text.{sLine, rLine, qLine, listed, behind}
+use Rattle.journal.specs.declared.Log.{Log}
+
+-- No item yet, no window, fresh sessions.
+unfoldable pub freshLog : Log
+freshLog = record { items = 0; board = freshBoard 0 .board; sessions = freshSessions }
+
+-- What an item prints, and the log that it leaves.
+pub record Outcome : Type 0 where
+  pub text : List ℕ
+  pub log : Log
+
+-- The outcome, where its text is stored from `at` on in the bytes that are lent.
+pub record Stores (done : Outcome) (room : List ℕ) (at : ℕ) (log : Log) (next : ℕ) (left : List ℕ) : Type 0 where
+  pub leaves : log ≡ done .log
+  pub place : next ≡ behind at (done .text)
+  pub stored : left ≡ sets room at (done .text)
+
+-- "Items count from 1": the next item's number; where a `u64` is too small for it, the largest one.
+unfoldable pub nextItem : ℕ → ℕ
+nextItem items = min (items + 1) (2 ^ 64 - 1)
+
+-- The log with one item more, with that board, with those sessions.
+abbrev pub counted : Log → Log
+counted log = record { items = nextItem (log .items); board = log .board; sessions = log .sessions }
+
+abbrev pub withBoard : Log → Board → Log
+withBoard log b = record { items = log .items; board = b; sessions = log .sessions }
+
+abbrev pub withSessions : Log → List Session → Log
+withSessions log ss = record { items = log .items; board = log .board; sessions = ss }
+
+-- An item that prints nothing.
+abbrev pub quiet : Log → Outcome
+quiet log = record { text = []; log = log }
+
+-- "`R item code`"; a refusal leaves everything unchanged.
+abbrev pub refused : Log → ℕ → Outcome
+refused log code = record { text = rLine (log .items) code; log = log }
+
+-- What a call does that answers this refusal, 0 for none.
+unfoldable pub unless : Log → ℕ → Outcome → Outcome
+unless log refusal done = cond (eqb refusal 0) done (refused log refusal)
+
+-- "16 length 2; 17 length 6; 18 length 12; 19 length 1; 20 length 1."
+unfoldable pub known : ℕ → ℕ → Bool
+known tag size =
+    cond (eqb tag 16) (eqb size 2)
+    (cond (eqb tag 17) (eqb size 6) (cond (eqb tag 18) (eqb size 12) (cond (eqb tag 19) (eqb size 1) (cond (eqb tag 20) (eqb size 1) false))))
+
+-- "22: unknown tag or wrong length. 23: known tag but 16 with no window yet, or 16 with one." A window has rows; 0 for no refusal.
+unfoldable pub itemRefusal : Log → ℕ → ℕ → ℕ
+itemRefusal log tag size =
+    cond (known tag size)
+    (cond (eqb tag 16) (cond (eqb (log .board .window .size) 0) 0 23) (cond (eqb (log .board .window .size) 0) 23 0))
+    22
+
+-- "16 length 2, N."
+unfoldable pub windowItem : Log → List ℕ → Outcome
+windowItem log v =
+    let made = freshBoard (number (part 0 2 v)) in
+    unless log (made .refusal) (quiet (withBoard log (made .board)))
+
+-- "Signed 16-bit": the number that two bytes then stand for.
+unfoldable pub signed16 : ℕ → ℤ
+signed16 n = cond (ltb n 32768) (pos n) (negsuc (65535 - n))
+
+-- The weights a and b of a question.
+abbrev pub weightsIn : List ℕ → Weights
+weightsIn v = record { loss = signed16 (number (part 2 2 v)); shake = signed16 (number (part 4 2 v)) }
+
+-- "17 length 6, slot, k, a, b (a and b signed 16-bit)"; "`S item slot steps` for each search", and setting searches.
+unfoldable pub setItem : Log → List ℕ → Outcome
+setItem log v =
+    let placed = setWork (log .board) (getD v 0 0) (getD v 1 0) (weightsIn v) in
+    unless log (placed .refusal) (record { text = sLine (log .items) (getD v 0 0) (placed .steps); log = withBoard log (placed .board) })
+
+-- "19 length 1, remove slot."
+unfoldable pub removeItem : Log → List ℕ → Outcome
+removeItem log v =
+    let removed = removeWork (log .board) (getD v 0 0) in
+    unless log (removed .refusal) (quiet (withBoard log (removed .board)))
+
+-- "20 length 1, show slot": "`Q slot n` followed by n times ` number:score`".
+unfoldable pub showItem : Log → List ℕ → Outcome
+showItem log v =
+    let shown = readWork (log .board) (getD v 0 0) in
+    unless log (shown .refusal) (record { text = qLine (getD v 0 0) (take (shown .len) (listed (shown .numbers) (shown .scores))); log = log })
+
+-- "`S item slot steps` for each search, slots rising", from this slot on.
+unfoldable pub sLines : ℕ → ℕ → List Bool → List ℕ → List ℕ
+sLines item slot [] steps = []
+sLines item slot (b ∷ bs) [] = []
+sLines item slot (b ∷ bs) (n ∷ ns) = cond b (sLine item slot n) [] ++ sLines item (slot + 1) bs ns
+
+-- "The program enters a report when its last packet is read."
+unfoldable pub enterItem : Log → ℕ → ℕ → Outcome
+enterItem log loss shake =
+    let entered = enterWork (log .board) loss shake in
+    unless log (entered .refusal)
+    (record { text = sLines (log .items) 0 (entered .searched) (entered .steps); log = withBoard log (entered .board) })
+
+-- What a frame's answer brings: a refusal is printed, a report enters.
+abbrev pub answered : Log → Answer → Outcome
+answered log (Refused n) = refused log n
+answered log Kept = quiet log
+answered log (Complete r) = enterItem log (r .loss) (r .shake)
+
+-- A frame in 12 bytes: "identifier in 4, data in 8".
+abbrev pub frameIn : List ℕ → Frame
+frameIn v = record { identifier = number (part 0 4 v); data-bytes = part 4 8 v }
+
+-- "18 length 12, a frame as above": its sender's session takes it.
+unfoldable pub frameItem : Log → List ℕ → Outcome
+frameItem log v = answered (withSessions log (sessionsAfter (log .sessions) (frameIn v))) (answerTo (log .sessions) (frameIn v))
+
+-- An item by its tag.
+unfoldable pub byTag : Log → ℕ → List ℕ → Outcome
+byTag log tag v =
+    cond (eqb tag 16) (windowItem log v)
+    (cond (eqb tag 17) (setItem log v) (cond (eqb tag 18) (frameItem log v) (cond (eqb tag 19) (removeItem log v) (showItem log v))))
+
+-- An item counts, also where it is skipped; "log items 21, 22, 23, then the call's own".
+unfoldable pub itemDone : Log → ℕ → List ℕ → Outcome
+itemDone log tag v = unless (counted log) (itemRefusal (counted log) tag (length v)) (byTag (counted log) tag v)
+
+-- Whole items one after the other: their text, the log that they leave, and the bytes behind the last of them.
+pub record Consumed : Type 0 where
+  pub text : List ℕ
+  pub log : Log
+  pub rest : List ℕ
+
+-- A text, and then that of the items behind it.
+abbrev pub after : List ℕ → Consumed → Consumed
+after text c = record { text = text ++ c .text; log = c .log; rest = c .rest }
+
+-- No whole item.
+abbrev pub none : Log → List ℕ → Consumed
+none log bs = record { text = []; log = log; rest = bs }
+
+-- The item that the bytes start with, and then the others; a field that the bytes end in is no item yet.
+abbrev pub first : Log → List ℕ → (Log → List ℕ → Consumed) → Field → Consumed
+first log bs others (Whole tag start size) =
+    let done = itemDone log tag (part start size bs) in
+    after (done .text) (others (done .log) (drop (start + size) bs))
+first log bs others Cut = none log bs
+
+-- "Standard input as tagged fields": at most n of the whole items that the bytes start with.
+unfoldable pub items : ℕ → Log → List ℕ → Consumed
+items zero log bs = none log bs
+items (suc n) log bs = first log bs (λ l r. items n l r) (fieldAt bs 0)
+
+-- All whole items that the bytes start with: there are no more than bytes.
+unfoldable pub consumed : Log → List ℕ → Consumed
+consumed log bs = items (length bs) log bs
+
+-- "21: log ends inside an item: its R line printed"; between items it just ends.
+unfoldable pub ending : Log → List ℕ → List ℕ
+ending log [] = []
+ending log (b ∷ bs) = rLine (nextItem (log .items)) 21
+
+-- The text of the bytes that a log goes on with, to its end.
+unfoldable pub textFrom : Log → List ℕ → List ℕ
+textFrom log bs =
+    let c = consumed log bs in
+    c .text ++ ending (c .log) (c .rest)
+
+-- The text of a whole log.
+unfoldable pub logText : List ℕ → List ℕ
+logText bs = textFrom freshLog bs
+
+-- The text of a log that comes in pieces: the whole items of each are printed when it has come, and the rest waits for the next piece.
+unfoldable pub inPieces : Log → List ℕ → List (List ℕ) → List ℕ
+inPieces log rest [] = textFrom log rest
+inPieces log rest (p ∷ ps) =
+    let c = consumed log (rest ++ p) in
+    c .text ++ inPieces (c .log) (c .rest) ps
