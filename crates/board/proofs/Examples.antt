@@ -95,8 +95,13 @@ module _ {n : ℕ} {past : List Values} {k : ℕ} {ws : Weights} (b : Board) (g 
   next-held : heldReports (added (b .window) (v .loss) (v .shake)) ≡ latest n (numbered 1 (past ++ (v ∷ [])))
   next-held = ap heldReports (sym next-window) ∙ kept reached-next .since .holds-latest
 
-  room : enterRefusal (b .window .entered) (v .loss) (v .shake) ≡ 0 → length (top (s .k) (s .ws) (newReport (b .window) (v .loss) (v .shake) ∷ heldReports (b .window))) ≤ 16
-  room _ = omega (arith, s .asks .small, length-best-le above above-strict (s .k) (map (entry (s .ws)) (newReport (b .window) (v .loss) (v .shake) ∷ heldReports (b .window))))
+  room : length (top (s .k) (s .ws) (newReport (b .window) (v .loss) (v .shake) ∷ heldReports (b .window))) ≤ 16
+  room =
+      omega (
+        arith,
+        s .asks .small,
+        length-best-le above above-strict (s .k) (map (entry (s .ws)) (newReport (b .window) (v .loss) (v .shake) ∷ heldReports (b .window))),
+      )
 
   named-is : lists (listed (slotAt b 0) (newReport (b .window) (v .loss) (v .shake))) (outgoing (b .window)) ≡ named n past v k ws
   unfolding lists
@@ -105,7 +110,7 @@ module _ {n : ℕ} {past : List Values} {k : ℕ} {ws : Weights} (b : Board) (g 
       let since = kept (g .reached) .since in
       ap (λ q. lists q (outgoing (b .window))) (added-is (b .window) (reached-window (g .reached)) (since .whole) (v .loss) (v .shake) (m .loss-fits) (m .shake-fits) (m .room) (slotAt b 0) s)
       ∙ ap (λ l. not (eqb (outgoing (b .window)) 0) && has (outgoing (b .window)) (map (λ e. e .number) l))
-      (lines-asked (s .k) (s .ws) (top (s .k) (s .ws) (newReport (b .window) (v .loss) (v .shake) ∷ heldReports (b .window))) (s .next) (room may-enter))
+      (lines-asked (s .k) (s .ws) (top (s .k) (s .ws) (newReport (b .window) (v .loss) (v .shake) ∷ heldReports (b .window))) (s .next) room)
       ∙ (λ i.
       let gone = leaving (since .of-size i) (since .all-entered i) (since .as-many-held i) in
       not (eqb gone 0) && has gone (map (λ e. e .number) (top (its-k i) (its-ws i) (record { number = since .all-entered i + 1; loss = v .loss; shake = v .shake } ∷ since .holds-latest i))))

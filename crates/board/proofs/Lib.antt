@@ -8,5 +8,6 @@ pub mod Entry
 pub mod Kept
 pub mod Demands
 pub mod Fit
+pub mod Known
 pub mod Examples
 pub mod Outcomes
