@@ -1,0 +1,23 @@
+-- Any two outcomes that a contract allows are equal, since each says the answer and every lent byte by equations.
+-- Assumes nothing.
+use mathlib.Core.Path.{sym, _∙_}
+use mathlib.Core.List.{List}
+use Prim.Native.Nat.{ℕ}
+use denote.Ref.{now}
+use Rattle.wire.proofs.Outcomes.{OneAnswer, OneLeft}
+use Rattle.journal.proofs.Log.fresh.Kinds as fresh-kinds
+use Rattle.journal.proofs.Log.fresh.Reads as fresh-reads
+use Rattle.journal.proofs.Log.item.Kinds as item-kinds
+use Rattle.journal.proofs.Log.item.Reads as item-reads
+
+fresh-once : OneAnswer 0 fresh-kinds.ps fresh-kinds.r fresh-reads.Post
+fresh-once κs a x y s t p q = p ∙ sym q
+
+item-once : OneAnswer 2 item-kinds.ps item-kinds.r item-reads.Post
+item-once κs a x y s t p q =
+    let log = p .leaves ∙ sym (q .leaves) in
+    let at = p .place ∙ sym (q .place) in
+    λ i. record { log = log i; at = at i }
+
+item-leaves-once : OneLeft 2 item-kinds.ps item-kinds.r item-reads.Post (List ℕ) (λ κs s. now (s .1 .1 .1 .0))
+item-leaves-once κs a x y s t p q = p .stored ∙ sym (q .stored)
