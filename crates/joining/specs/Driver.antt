@@ -1,20 +1,10 @@
--- Frames and answers as bytes, for a driver of all sessions.
-use Prim.Native.Nat.{ℕ, zero, suc, _+_, _*_, _/_, min}
+-- Answers as bytes, for a driver of all sessions.
+use Prim.Native.Nat.{ℕ, _/_, min}
 use mathlib.Core.List.{List, [], _∷_, _++_}
 use lib.ListN.{length}
-use Rattle.wire.specs.Bytes.{number, bytes, part}
+use Rattle.wire.specs.Bytes.{number, bytes}
 use Rattle.joining.specs.declared.Answer.{Answer}
 use Rattle.joining.specs.declared.Answer.the-variants.{Refused, Kept, Complete}
-use Rattle.joining.specs.Frame.{Frame}
-
--- "12 bytes a frame: identifier in 4, data in 8."
-abbrev pub frameAt : List ℕ → ℕ → Frame
-frameAt bs i = record { identifier = number (part (12 * i) 4 bs); data-bytes = part (12 * i + 4) 8 bs }
-
--- The first `n` frames that the bytes hold.
-unfoldable pub framesIn : List ℕ → ℕ → List Frame
-framesIn bs zero = []
-framesIn bs (suc n) = framesIn bs n ++ (frameAt bs n ∷ [])
 
 -- An answer in 9 bytes: the refusal's number, 0 where the frame was kept or 255 where it completed a report; then loss, shake and number, 0 but for a report.
 unfoldable pub nine : ℕ → ℕ → ℕ → ℕ → List ℕ

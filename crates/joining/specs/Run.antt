@@ -1,26 +1,44 @@
 -- What a run of frames does to all sessions (document 01: "Each sender 0 to 253 has a session of its own").
-use mathlib.Core.Bool.{cond}
-use mathlib.Core.List.{List, [], _∷_}
-use lib.ListN.{getD, set}
-use lib.Dec.{ltb}
+use Prim.Native.Nat.{ℕ, suc}
+use mathlib.Core.Path.{_≡_}
+use mathlib.Core.Bool.{Bool, true, cond, not, _&&_, _||_}
+use mathlib.Core.List.{List, [], _∷_, _++_}
+use lib.ListN.{length, getD, take, drop, set, replicate}
+use lib.Dec.{ltb, eqb}
+use Rattle.report.specs.Payload.{readPayload}
+use Rattle.report.specs.declared.Report.{Report}
+use Rattle.report.specs.declared.Reading.the-variants.{Accepted}
 use Rattle.joining.specs.declared.Session.{Session}
 use Rattle.joining.specs.declared.Answer.{Answer}
-use Rattle.joining.specs.declared.Answer.the-variants.{Refused}
-use Rattle.joining.specs.Frame.{Frame, senderOf, frameRefusal}
-use Rattle.joining.specs.Joining.{freshSession, take-frame}
+use Rattle.joining.specs.declared.Answer.the-variants.{Refused, Kept}
+use Rattle.joining.specs.declared.Taken.{Taken}
+use Rattle.joining.specs.Frame.{Frame, senderOf, frameRefusal, isAnnouncement, isPacket}
+use Rattle.joining.specs.Joining.{packets, fit, freshSession, opened, sizeIn, take-frame}
+
+-- "Each sender 0 to 253 has a session of its own": all of them, fresh.
+abbrev pub freshSessions : List Session
+freshSessions = replicate 254 freshSession
+
+-- What stands past the last session.
+abbrev pub nobody : Session
+nobody = record { bytes = []; size = 0; count = 0; next = 0 }
+
+-- The session of sender k.
+abbrev pub sessionOf : ℕ → List Session → Session
+sessionOf k ss = getD ss k nobody
 
 -- The sessions that a frame leaves: "a frame call judges and changes its sender's session only".
 abbrev pub sessionsAfter : List Session → Frame → List Session
 sessionsAfter ss f =
     cond (ltb (senderOf (f .identifier)) 254)
-    (set ss (senderOf (f .identifier)) (take-frame (getD ss (senderOf (f .identifier)) freshSession) (f .identifier) (f .data-bytes) .session))
+    (set ss (senderOf (f .identifier)) (take-frame (sessionOf (senderOf (f .identifier)) ss) (f .identifier) (f .data-bytes) .session))
     ss
 
 -- What a frame is answered; those of senders 254 and 255 belong to no session.
 abbrev pub answerTo : List Session → Frame → Answer
 answerTo ss f =
     cond (ltb (senderOf (f .identifier)) 254)
-    (take-frame (getD ss (senderOf (f .identifier)) freshSession) (f .identifier) (f .data-bytes) .answer)
+    (take-frame (sessionOf (senderOf (f .identifier)) ss) (f .identifier) (f .data-bytes) .answer)
     (Refused (frameRefusal (f .identifier) (f .data-bytes)))
 
 -- A run of frames: the sessions at its end, and the answers in order.
@@ -31,3 +49,78 @@ sessionsAt ss (f ∷ fs) = sessionsAt (sessionsAfter ss f) fs
 unfoldable pub answersAt : List Session → List Frame → List Answer
 answersAt ss [] = []
 answersAt ss (f ∷ fs) = answerTo ss f ∷ answersAt (sessionsAfter ss f) fs
+
+-- A frame of a session's own sender: "the driver advances it where it stands".
+abbrev pub soloStep : Session → Frame → Taken
+soloStep s f = take-frame s (f .identifier) (f .data-bytes)
+
+-- One session with its own sender's frames and nothing else on the bus: the session at the end, and the answers in order.
+unfoldable pub soloSession : Session → List Frame → Session
+soloSession s [] = s
+soloSession s (f ∷ fs) = soloSession (soloStep s f .session) fs
+
+unfoldable pub soloAnswers : Session → List Frame → List Answer
+soloAnswers s [] = []
+soloAnswers s (f ∷ fs) = soloStep s f .answer ∷ soloAnswers (soloStep s f .session) fs
+
+-- The frames whose identifier's bits "0 to 7 sender" are k, in their order.
+unfoldable pub ownFrames : ℕ → List Frame → List Frame
+ownFrames k [] = []
+ownFrames k (f ∷ fs) = cond (eqb (senderOf (f .identifier)) k) (f ∷ ownFrames k fs) (ownFrames k fs)
+
+-- The answers that those frames got, of the answers to all frames: one stands for each frame.
+unfoldable pub ownAnswers : ℕ → List Frame → List Answer → List Answer
+ownAnswers k [] all = []
+ownAnswers k (f ∷ fs) [] = []
+ownAnswers k (f ∷ fs) (a ∷ all) = cond (eqb (senderOf (f .identifier)) k) (a ∷ ownAnswers k fs all) (ownAnswers k fs all)
+
+-- Frames of one and the same sender.
+abbrev pub OfSender : ℕ → List Frame → Type 0
+OfSender k [] = Unit
+OfSender k (f ∷ fs) = (senderOf (f .identifier) ≡ k) × OfSender k fs
+
+-- Refusals 1 to 4, given whatever the session is: "everything lent or handed in comes back unchanged".
+unfoldable pub passes : Frame → Bool
+passes f =
+    not (eqb (frameRefusal (f .identifier) (f .data-bytes)) 0)
+    || isAnnouncement (f .identifier) && not (eqb (getD (f .data-bytes) 0 0) 32)
+
+-- The other frames, in their order.
+unfoldable pub heard : List Frame → List Frame
+heard [] = []
+heard (f ∷ fs) = cond (passes f) (heard fs) (f ∷ heard fs)
+
+-- "A good announcement opens it, replacing an open one", with this size.
+pub record Announces (size : ℕ) (f : Frame) : Type 0 where
+  pub announcement : isAnnouncement (f .identifier) ≡ true
+  pub says : sizeIn (f .data-bytes) ≡ size
+  pub opens : (s : Session) → fit s ≡ true → soloStep s f ≡ record { answer = Kept; session = opened size }
+
+-- "Data packet: byte 0 sequence from 1, then 7 bytes."
+pub record Numbered (i : ℕ) (f : Frame) : Type 0 where
+  pub frame : frameRefusal (f .identifier) (f .data-bytes) ≡ 0
+  pub packet : isPacket (f .identifier) ≡ true
+  pub sequence : getD (f .data-bytes) 0 0 ≡ i
+
+-- Packets i, i + 1, and so on, none left out and none twice.
+abbrev pub InSequence : ℕ → List Frame → Type 0
+InSequence i [] = Unit
+InSequence i (f ∷ fs) = Numbered i f × InSequence (suc i) fs
+
+-- The payload bytes of packets, one after the other.
+unfoldable pub joined : List Frame → List ℕ
+joined [] = []
+joined (f ∷ fs) = drop 1 (f .data-bytes) ++ joined fs
+
+-- What one sender has sent where `last` yields the report r: since and including the last announcement that was accepted, exactly the packets
+-- from 1 to the count that belongs to its size, `last` among them, and r is what the bytes of these packets say.
+pub record Sent (own : List Frame) (last : Frame) (r : Report) : Type 0 where
+  pub before : List Frame
+  pub announced : Frame
+  pub middle : List Frame
+  pub size : ℕ
+  pub since : heard own ≡ before ++ (announced ∷ middle)
+  pub announces : Announces size announced
+  pub sequence : InSequence 1 (middle ++ (last ∷ []))
+  pub count : length (middle ++ (last ∷ [])) ≡ packets size
+  pub reads : readPayload (take size (joined (middle ++ (last ∷ [])))) ≡ Accepted r

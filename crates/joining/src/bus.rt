@@ -5,7 +5,8 @@ ghost use lib.ListN.{length, replicate};
 ghost use lib.Seq.{sets};
 ghost use Rattle.joining.specs.Joining.{freshSession};
 ghost use Rattle.joining.specs.Run.{sessionsAt, answersAt};
-ghost use Rattle.joining.specs.Driver.{framesIn, nine, answerBytes, allBytes, taken};
+ghost use Rattle.joining.specs.Bench.{framesIn};
+ghost use Rattle.joining.specs.Driver.{nine, answerBytes, allBytes, taken};
 use crate::Answer;
 use crate::Session;
 
@@ -40,8 +41,8 @@ impl Bus {
     // answers in order. Each frame goes to its sender's session and touches no other.
     pub fn hear(self, frames: &[u8], answers: &mut [u8]) -> Heard
         ensures { λ r. ⌜ r .frames ≡ taken (now (frames .entry)) (now (answers .entry)) ⌝ }
-        ensures { λ r. ⌜ r .bus .sessions ≡ sessionsAt (self .sessions) (framesIn (now (frames .entry)) (r .frames)) ⌝ }
-        ensures { λ r. ⌜ now (answers .exit) ≡ sets (now (answers .entry)) 0 (allBytes (answersAt (self .sessions) (framesIn (now (frames .entry)) (r .frames)))) ⌝ }
+        ensures { λ r. ⌜ r .bus .sessions ≡ sessionsAt (self .sessions) (framesIn (r .frames) (now (frames .entry))) ⌝ }
+        ensures { λ r. ⌜ now (answers .exit) ≡ sets (now (answers .entry)) 0 (allBytes (answersAt (self .sessions) (framesIn (r .frames) (now (frames .entry))))) ⌝ }
     {
         let mut sessions = self.sessions;
         let n = least(frames.len() / Bus::FRAME, answers.len() / Bus::ANSWER);
@@ -53,7 +54,7 @@ impl Bus {
             let k = (id % 256) as usize;
             if k < Bus::SENDERS {
                 let session = sessions[k];
-                let taken = session.frame(id, data);
+                let taken = session.lend(id, data);
                 let left = taken.session;
                 sessions[k] = left;
                 let answer = taken.answer;

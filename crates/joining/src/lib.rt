@@ -5,6 +5,14 @@ ghost use Prim.Native.Nat.{_≤_};
 ghost use lib.ListN.{length};
 ghost use Rattle.joining.specs.Frame.{foreign, frameRefusal, senderIn};
 ghost use Rattle.joining.specs.Joining.{packets, carries, freshSession, isOpen, fit, closed, opened, stored, finishes, refused, sound, announce, packet, take-frame, sizeHeld, payloadHeld};
+
+mod bench;
+mod bus;
+mod lent;
+
+pub use bench::Bench;
+pub use bus::Bus;
+pub use bus::Heard;
 use report::Payload;
 use report::Reading;
 use report::Report;
@@ -73,7 +81,7 @@ impl Frame {
 }
 
 // What a frame is refused for before any session is looked at, or 0.
-fn frame_refusal(id: u32, data: &[u8]) -> u8
+pub(crate) fn frame_refusal(id: u32, data: &[u8]) -> u8
     ensures { λ r. ⌜ r ≡ frameRefusal id (now («data» .entry)) ⌝ }
 {
     if Frame::IDENTIFIERS <= id {
@@ -216,16 +224,13 @@ fn carries(size: u16) -> bool
 }
 
 // The session with no report under way; its bytes stay.
-fn closed(s: Session) -> Session
+fn closed(mut s: Session) -> Session
     ensures { λ r. ⌜ r ≡ closed s ⌝ }
 {
-    let bytes = s.bytes;
-    Session {
-        bytes,
-        size: 0,
-        count: 0,
-        next: 0,
-    }
+    s.size = 0;
+    s.count = 0;
+    s.next = 0;
+    s
 }
 
 // Whether an announcement's size is one that a broadcast can have, with the count that belongs to it.
@@ -247,13 +252,11 @@ fn opened(size: u16) -> Session
     requires { ⌜ size ≤ 84 ⌝ }
     ensures { λ r. ⌜ r ≡ opened size ⌝ }
 {
-    let bytes = [255u8; 84];
-    Session {
-        bytes,
-        size: size as u8,
-        count: packets(size) as u8,
-        next: 1,
-    }
+    let mut s = Session::fresh();
+    s.size = size as u8;
+    s.count = packets(size) as u8;
+    s.next = 1;
+    s
 }
 
 // An announcement of the session's sender.

@@ -2,17 +2,16 @@
 -- Assumes nothing.
 use mathlib.Core.Path.{_≡_, sym, ap, _∙_}
 use mathlib.Core.Logic.{⊎-elim}
-use mathlib.Core.Bool.{Bool, true, false, cond, _&&_, _||_, and-false}
+use mathlib.Core.Bool.{Bool, true, false, _&&_}
 use mathlib.Core.List.{List, map, _++_, Memᴰ·append-left, Memᴰ·append-right, Memᴰ·map, Memᴰ·of-map, List·Memᴰ·append-cases}
 use Prim.Native.Nat.{ℕ, _+_, min, _≤_, _<_}
-use native.Mathlib.Omega.{arith}
 use borrow.Author.Tests.{leb-true, leb-false}
 use lib.Dec.{leb, eqb}
 use lib.ListN.{drop}
-use Rattle.ranking.specs.Best.{best, only}
+use Rattle.ranking.specs.Best.{only}
 use Rattle.ranking.specs.Cells.{cell, inRange, placeOf, cellAt}
 use Rattle.ranking.specs.Standing.{Held, Entry, above, entry}
-use Rattle.ranking.proofs.Tests.{Tested, passed, failed, tested, clash, and-both, and-true, or-left}
+use Rattle.ranking.proofs.Tests.{Tested, passed, failed, tested, clash, and-both}
 use Rattle.ranking.proofs.Lists.{_⊆_, Same, moved, only-in, only-of}
 use Rattle.ranking.proofs.Best.{best-same}
 use Rattle.ranking.proofs.Standing.{above-strict}
@@ -20,10 +19,9 @@ use Rattle.window.specs.declared.Window.{Window}
 use Rattle.window.specs.Rows.{heldReports, fitWindow}
 use Rattle.window.proofs.Standing.{standing-held}
 use Rattle.question.specs.declared.Question.{Question}
-use Rattle.question.specs.declared.Stepped.{Stepped}
 use Rattle.question.specs.Lines.{linesOf, lines, asked, finished, begun, stepped, inRows, stepOn}
 use Rattle.question.specs.Calls.{allOf, heldAs, falls, blank, rangesFit, fitQuestion, stepCall, beginCall}
-use Rattle.question.proofs.Taking.{if-so, if-not, step-is}
+use Rattle.question.proofs.Taking.{step-is}
 use Rattle.question.proofs.Ending.{finished-none}
 
 -- ---- fitness

@@ -1,18 +1,17 @@
 -- When a search has ended, case by case as a question tells it, and told of a list and a place in the visiting order.
 -- Assumes nothing.
-use mathlib.Core.Path.{_≡_, sym, ap, _∙_}
-use mathlib.Core.Bool.{true, false, not, _&&_, and-false, Bool·not-not}
+use mathlib.Core.Path.{_≡_, _∙_}
+use mathlib.Core.Bool.{true, false, not, and-false, Bool·not-not}
 use Prim.Native.Nat.{ℕ, _+_, _≤_, _<_}
 use borrow.Author.Tests.{le-leb, lt-leb, ne-eqb, eq-eqb}
 use lib.Dec.{eqb}
 use lib.IntN.{pos}
 use lib.ListN.{getD}
 use lib.Signed.{ltZ}
-use Rattle.ranking.specs.Best.{onLast}
 use Rattle.ranking.specs.Cells.{bestScore}
-use Rattle.ranking.specs.Standing.{Entry, reaches}
+use Rattle.ranking.specs.Standing.{reaches}
 use Rattle.question.specs.declared.Question.{Question}
-use Rattle.question.specs.Lines.{lines, finished}
+use Rattle.question.specs.Lines.{finished}
 use Rattle.question.specs.Inner.{shown}
 use Rattle.question.proofs.Stored.{Roomy, no-lines, last-line}
 

@@ -2,25 +2,25 @@
 -- Assumes nothing.
 use mathlib.Core.Path.{_≡_, refl, sym, ap, ap₂, _∙_, subst}
 use mathlib.Core.Logic.{⊎-elim, _↔_}
-use mathlib.Core.Bool.{Bool, true, _&&_}
+use mathlib.Core.Bool.{Bool, true}
 use mathlib.Core.List.{List, [], _∷_, _++_, map, List·Memᴰ·cases-cons, List·Memᴰ·not-nil, Memᴰ·map, Memᴰ·of-map}
 use Prim.Native.Nat.{ℕ, zero, suc, _+_, min, _%_, _≤_, _<_}
-use native.Mathlib.Nat.{le-of-suc-le-suc, not-suc-le-zero}
+use native.Mathlib.Nat.{suc-inj, suc-ne-zero}
 use native.Mathlib.Omega.{arith}
 use borrow.Author.Tests.{le-leb, lt-ltb, eqb-true}
 use lib.Dec.{eqb}
 use lib.IntN.{ℤ, pos}
 use lib.ListN.{length, take, drop, getD, replicate}
 use Rattle.ranking.specs.Best.{_∈_}
-use Rattle.ranking.specs.Cells.{score, inRange}
-use Rattle.ranking.specs.Standing.{Held, Entry, above, entry}
+use Rattle.ranking.specs.Cells.{score}
+use Rattle.ranking.specs.Standing.{Entry, above, entry}
 use Rattle.ranking.specs.declared.Weights.{Weights}
 use Rattle.ranking.proofs.Tests.{and-both, and-true}
 use Rattle.ranking.proofs.Lists.{here, there, moved}
 use Rattle.ranking.proofs.Best.{Falling}
 use Rattle.ranking.proofs.Standing.{above-strict}
 use Rattle.window.specs.declared.Window.{Window}
-use Rattle.window.specs.Rows.{sized, rowOf, reportOf, reportIn, heldReports, due, fitWindow}
+use Rattle.window.specs.Rows.{rowOf, reportOf, reportIn, heldReports, due, fitWindow}
 use Rattle.window.proofs.Fitness as window
 use Rattle.window.proofs.Reports.{held-in, held-of}
 use Rattle.question.specs.declared.Question.{Question}
@@ -149,29 +149,14 @@ fit-asked w fit k weights l next r held fall =
 
 numbers-of : (ns : List ℕ) (ss : List ℤ) → length ns ≡ length ss → map (λ e. e .number) (linesOf ns ss) ≡ ns
 numbers-of [] ss h = refl
-numbers-of (n ∷ ns) [] h = absurd (no (length ns) h)
-  where
-    no : (m : ℕ) → suc m ≡ 0 → ⊥
-    no m e = omega arith
-numbers-of (n ∷ ns) (s ∷ ss) h = ap (λ l. n ∷ l) (numbers-of ns ss (less (length ns) (length ss) h))
-  where
-    less : (a b : ℕ) → suc a ≡ suc b → a ≡ b
-    less a b e = omega arith
+numbers-of (n ∷ ns) [] h = absurd (suc-ne-zero (length ns) h)
+numbers-of (n ∷ ns) (s ∷ ss) h = ap (λ l. n ∷ l) (numbers-of ns ss (suc-inj h))
 
 scores-of : (ns : List ℕ) (ss : List ℤ) → length ns ≡ length ss → map (λ e. e .score) (linesOf ns ss) ≡ ss
 scores-of [] [] h = refl
-scores-of [] (s ∷ ss) h = absurd (no (length ss) h)
-  where
-    no : (m : ℕ) → 0 ≡ suc m → ⊥
-    no m e = omega arith
-scores-of (n ∷ ns) [] h = absurd (no (length ns) h)
-  where
-    no : (m : ℕ) → suc m ≡ 0 → ⊥
-    no m e = omega arith
-scores-of (n ∷ ns) (s ∷ ss) h = ap (λ l. s ∷ l) (scores-of ns ss (less (length ns) (length ss) h))
-  where
-    less : (a b : ℕ) → suc a ≡ suc b → a ≡ b
-    less a b e = omega arith
+scores-of [] (s ∷ ss) h = absurd (suc-ne-zero (length ss) (sym h))
+scores-of (n ∷ ns) [] h = absurd (suc-ne-zero (length ns) h)
+scores-of (n ∷ ns) (s ∷ ss) h = ap (λ l. s ∷ l) (scores-of ns ss (suc-inj h))
 
 module _ {A : Type 0} (f : Entry → A) (d : A) where
   alike : (l : List Entry) → ((e : Entry) → e ∈ l → f e ≡ d) → replicate (length l) d ≡ map f l
@@ -182,15 +167,9 @@ module _ {A : Type 0} (f : Entry → A) (d : A) where
   column-back : (n p : ℕ) → n ≤ p → (len : ℕ) (l : List Entry) → length l ≡ n → ((e : Entry) → e ∈ drop len l → f e ≡ d) → take n (map f (take len l) ++ replicate p d) ≡ map f l
   column-back n p h zero l e rest = take-replicate d n p h ∙ ap (λ m. replicate m d) (sym e) ∙ alike l rest
   column-back n p h (suc len) [] e rest = take-replicate d n p h ∙ ap (λ m. replicate m d) (sym e)
-  column-back zero p h (suc len) (x ∷ l) e rest = absurd (no (length l) e)
-    where
-      no : (m : ℕ) → suc m ≡ 0 → ⊥
-      no m e = omega arith
+  column-back zero p h (suc len) (x ∷ l) e rest = absurd (suc-ne-zero (length l) e)
   column-back (suc n) p h (suc len) (x ∷ l) e rest =
-      ap (λ m. f x ∷ m) (column-back n p (omega arith) len l (less (length l) n e) rest)
-    where
-      less : (a b : ℕ) → suc a ≡ suc b → a ≡ b
-      less a b e = omega arith
+      ap (λ m. f x ∷ m) (column-back n p (omega arith) len l (suc-inj e) rest)
 
 -- A fit question is its list, stored: k, weights, lines and next cell say all of it.
 pub fit-stored : (w : Window) (q : Question) → Roomy (q .numbers) (q .scores) → fitQuestion w q ≡ true → q ≡ asked (q .k) (q .weights) (lines q) (q .next)

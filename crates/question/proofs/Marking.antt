@@ -11,14 +11,14 @@ use borrow.Author.Tests.{lt-ltb, le-ltb}
 use lib.ListN.{length, take, set, length-set}
 use lib.Seq.{take-suc-set, take-all, take-length}
 use Rattle.ranking.specs.Best.{_∈_}
-use Rattle.ranking.specs.Cells.{before, count, cells, visiting, placeOf, cellAt}
-use Rattle.ranking.proofs.Tests.{Tested, passed, failed, tested, clash}
+use Rattle.ranking.specs.Cells.{before, count, visiting, placeOf, cellAt}
+use Rattle.ranking.proofs.Tests.{Tested, passed, failed, tested}
 use Rattle.ranking.proofs.Search.{has-in, in-has}
 use Rattle.ranking.proofs.Cells.{visiting-in, length-visiting}
 use Rattle.ranking.proofs.Scan.{at-place, taken-before}
 use Rattle.question.specs.declared.Question.{Question}
-use Rattle.question.proofs.Taking.{if-so, if-not}
 use Rattle.question.specs.Lines.{stepsTaken, marked, isMarked, marksOf}
+use Rattle.question.proofs.Taking.{if-so, if-not}
 
 -- two tests that pass together are one
 pub one-test : (a b : Bool) → (a ≡ true → b ≡ true) → (b ≡ true → a ≡ true) → a ≡ b

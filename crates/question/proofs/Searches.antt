@@ -1,8 +1,8 @@
 -- What steps and searches of a question come to: one step, n steps from the beginning, the end, and what other windows give the same, each by the search's laws.
 -- Assumes nothing.
 use mathlib.Core.Path.{_≡_, refl, sym, ap, ap₂, _∙_, subst}
-use mathlib.Core.Logic.{_⊎_, inl, inr, ⊎-elim, _↔_}
-use mathlib.Core.Bool.{Bool, true, false, _&&_}
+use mathlib.Core.Logic.{⊎-elim, _↔_}
+use mathlib.Core.Bool.{Bool, true, false}
 use mathlib.Core.List.{List, [], _∷_, _++_, map}
 use Prim.Native.Nat.{ℕ, zero, suc, _+_, min, _≤_, _<_}
 use native.Mathlib.Nat.{le-of-eq}
@@ -10,17 +10,17 @@ use native.Mathlib.Numerals.{add-one}
 use native.Mathlib.Omega.{arith}
 use borrow.Author.Tests.{ltb-true, ltb-false, le-leb}
 use lib.Dec.{eqb, ltb}
-use lib.ListN.{length, take, drop, length-map}
+use lib.ListN.{length, take}
 use lib.Seq.{take-suc}
 use Rattle.ranking.specs.Best.{_∈_, best, only}
 use Rattle.ranking.specs.Cells.{inRange, cell, cells, visiting, placeOf, cellAt}
-use Rattle.ranking.specs.Search.{entries, heldIn, listAfter, steps, found, marks, has}
+use Rattle.ranking.specs.Search.{entries, heldIn, listAfter, steps, marks, has}
 use Rattle.ranking.specs.Standing.{Held, Entry, above, entry, searchOf, Wanted}
 use Rattle.ranking.specs.declared.Weights.{Weights}
 use Rattle.ranking.proofs.Tests.{Tested, passed, failed, tested}
-use Rattle.ranking.proofs.Lists.{Same, _⊆_, Pairwise, lt-or-eq, getD-past, moved, only-in, only-of, pairwise-only}
-use Rattle.ranking.proofs.Best.{best-of, best-falling, length-best-le}
-use Rattle.ranking.proofs.Search.{has-in, in-has, held-part, ends, goes-on, found-is}
+use Rattle.ranking.proofs.Lists.{Same, _⊆_, lt-or-eq, getD-past, only-in, only-of, pairwise-only}
+use Rattle.ranking.proofs.Best.{Falling, best-of, best-falling, length-best-le}
+use Rattle.ranking.proofs.Search.{has-in, in-has, held-part, ends, goes-on}
 use Rattle.ranking.proofs.Cells.{length-visiting}
 use Rattle.ranking.proofs.Scan.{place-at, at-place, cell-at, left-none}
 use Rattle.ranking.proofs.Standing.{above-strict, steps-bounded, local, Alike, demand-3, Exact, length-list}
@@ -30,15 +30,13 @@ use Rattle.window.proofs.Fitness as window
 use Rattle.window.proofs.Reports.{length-held, held-distinct, held-latest}
 use Rattle.window.proofs.Standing.{held-permitted}
 use Rattle.question.specs.declared.Question.{Question}
-use Rattle.question.specs.declared.Searched.{Searched}
-use Rattle.question.specs.declared.Stepped.{Stepped}
 use Rattle.question.specs.Lines.{lines, asked, stepsTaken, marked, isMarked, finished, begun, stepped, takes, searched, searchedIn, inRows, searchedOn}
 use Rattle.question.specs.Calls.{fitQuestion, stepCall}
 use Rattle.question.proofs.Stored.{lines-asked}
 use Rattle.question.proofs.Taking.{if-so}
 use Rattle.question.proofs.Marking.{steps-left, steps-all}
 use Rattle.question.proofs.Steps.{reached, reached-lines, reached-none, reached-more, reached-end}
-use Rattle.question.proofs.Doors.{Ranges, rows-held, step-ended, step-goes, step-held}
+use Rattle.question.proofs.Doors.{rows-held, step-ended, step-goes, step-held}
 use Rattle.question.proofs.Listed.{fit-asked}
 
 -- ---- one step
@@ -72,12 +70,19 @@ steps-at q n h e = ⊎-elim some none (lt-or-eq h)
 -- Step, for every question with a cell left: "the next cell is marked, and the list becomes the best k of its old entries and that cell's held reports, each once".
 pub record Step (q : Question) (hs : List Held) : Type 0 where
   pub list : lines (stepped q hs) ≡ best above (q .k) (lines q ++ map (entry (q .weights)) (only (λ h. eqb (cell (h .loss) (h .shake)) (q .next)) hs))
+  pub each-once : Falling above (lines (stepped q hs))
   pub next-marked : marked (stepped q hs) ≡ marked q ++ (q .next ∷ [])
   pub counted : stepsTaken (stepped q hs) ≡ stepsTaken q + 1
 
 pub one-step : (q : Question) (hs : List Held) → q .k ≤ 16 → q .next < 256 → Step q hs
 unfolding stepped marked
-one-step q hs small left = record { list = listed; next-marked = then-marked; counted = then }
+one-step q hs small left =
+    record {
+      list = listed;
+      each-once = subst (Falling above) (sym listed) (best-falling above above-strict (q .k) l);
+      next-marked = then-marked;
+      counted = then;
+    }
   where
     w : Weights
     w = q .weights

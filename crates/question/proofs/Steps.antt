@@ -1,14 +1,15 @@
 -- Stepping from the beginning: after n steps the list is the best k of the first n cells, and the next cell is the one at place n, by the search's laws for one step.
 -- Assumes nothing.
 use mathlib.Core.Path.{_≡_, refl, sym, ap, ap₂, _∙_, subst}
+use mathlib.Core.Logic.{⊎-elim}
 use mathlib.Core.Bool.{Bool, true, false, not, _&&_, _||_}
 use mathlib.Core.List.{List, [], _∷_, _++_, map}
 use Prim.Native.Nat.{ℕ, suc, _+_, _≤_, _<_}
 use native.Mathlib.Nat.{le-of-eq}
 use native.Mathlib.Numerals.{add-one}
 use native.Mathlib.Omega.{arith}
-use borrow.Author.Tests.{lt-ltb, le-leb, lt-leb}
-use lib.Dec.{eqb, leb}
+use borrow.Author.Tests.{le-leb, lt-leb}
+use lib.Dec.{eqb}
 use lib.ListN.{length, take, drop}
 use Rattle.ranking.specs.Best.{best, onLast, only}
 use Rattle.ranking.specs.Cells.{cell, visiting, placeOf, cellAt}
@@ -21,10 +22,9 @@ use Rattle.ranking.proofs.Search.{list-zero, list-suc, ends, goes-on}
 use Rattle.ranking.proofs.Standing.{above-strict, steps-bounded}
 use Rattle.ranking.proofs.Scan.{place-at, cell-at, left-at, left-none}
 use Rattle.ranking.proofs.Lists.{getD-past, lt-or-eq}
-use mathlib.Core.Logic.{_⊎_, ⊎-elim}
+use Rattle.window.specs.declared.Window.{Window}
 use Rattle.question.specs.declared.Question.{Question}
 use Rattle.question.specs.declared.Searched.{Searched}
-use Rattle.window.specs.declared.Window.{Window}
 use Rattle.question.specs.Lines.{lines, asked, finished, begun, stepped, searched, searchedIn, inRows, stepOn, searchedOn}
 use Rattle.question.proofs.Stored.{lines-asked}
 use Rattle.question.proofs.Taking.{step-is, if-so, if-not}

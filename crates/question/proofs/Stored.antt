@@ -1,10 +1,11 @@
 -- A list as a question stores it: each column by induction on the list, so that a line pushed behind it and the lines read back are what they should be.
 -- Assumes nothing.
-use mathlib.Core.Path.{_≡_, refl, sym, ap, _∙_, subst}
+use mathlib.Core.Path.{_≡_, refl, sym, ap, _∙_}
+use mathlib.Core.Logic.{⊎-elim}
 use mathlib.Core.Bool.{Bool, true, false}
 use mathlib.Core.List.{List, [], _∷_, _++_, map}
 use Prim.Native.Nat.{ℕ, zero, suc, _+_, min, _≤_, _<_}
-use native.Mathlib.Nat.{le-of-suc-le-suc, not-suc-le-zero}
+use native.Mathlib.Nat.{le-of-suc-le-suc, not-suc-le-zero, suc-inj}
 use native.Mathlib.Numerals.{add-one}
 use native.Mathlib.Omega.{arith}
 use borrow.Author.Tests.{lt-ltb, le-ltb, leb-true, leb-false}
@@ -17,7 +18,6 @@ use Rattle.ranking.specs.Standing.{Entry}
 use Rattle.ranking.specs.declared.Weights.{Weights}
 use Rattle.ranking.proofs.Lists.{lt-or-eq, last-at}
 use Rattle.ranking.proofs.Tests.{Tested, passed, failed, tested}
-use mathlib.Core.Logic.{_⊎_, ⊎-elim}
 use Rattle.question.specs.declared.Question.{Question}
 use Rattle.question.specs.Lines.{linesOf, lines, asked}
 use Rattle.question.specs.Inner.{pushed, shown}
@@ -46,10 +46,7 @@ getD-lines (n ∷ ns) (s ∷ ss) (suc i) h g = getD-lines ns ss i (le-of-suc-le-
 length-of : (ns : List ℕ) (ss : List ℤ) → length ns ≡ length ss → length (linesOf ns ss) ≡ length ns
 length-of [] ss e = refl
 length-of (n ∷ ns) [] e = sym e
-length-of (n ∷ ns) (s ∷ ss) e = ap suc (length-of ns ss (less (length ns) (length ss) e))
-  where
-    less : (a b : ℕ) → suc a ≡ suc b → a ≡ b
-    less a b e = omega arith
+length-of (n ∷ ns) (s ∷ ss) e = ap suc (length-of ns ss (suc-inj e))
 
 read-back : (n p : ℕ) (l : List Entry) → length l ≤ n → take (length l) (linesOf (take n (map (λ e. e .number) l ++ replicate p 0)) (take n (map (λ e. e .score) l ++ replicate p (pos 0)))) ≡ l
 read-back n p [] h = refl

@@ -1,10 +1,10 @@
 -- What a scan does to a list: the lines one after the other, and then the rows' reports, are put in their rank and the list is cut, which is the best k of them all.
 -- Assumes nothing.
-use mathlib.Core.Path.{_≡_, refl, sym, ap, ap₂, _∙_, subst}
-use mathlib.Core.Logic.{_⊎_, inl, inr, ⊎-elim}
+use mathlib.Core.Path.{_≡_, sym, ap, ap₂, _∙_, subst}
+use mathlib.Core.Logic.{⊎-elim}
 use mathlib.Core.Bool.{Bool, true, false, cond, _&&_, and-false}
 use mathlib.Core.List.{List, [], _∷_, _++_, map, append-nil, List·Memᴰ·head, List·Memᴰ·cases-cons, Memᴰ·append-left, Memᴰ·append-right, List·Memᴰ·append-cases}
-use Prim.Native.Nat.{ℕ, suc, _+_, min, _≤_, _<_}
+use Prim.Native.Nat.{ℕ, suc, _+_, _≤_, _<_}
 use native.Mathlib.Numerals.{add-one}
 use native.Mathlib.Omega.{arith}
 use borrow.Author.Tests.{lt-leb, le-leb, le-ltb, lt-ltb}
@@ -18,7 +18,7 @@ use Rattle.ranking.specs.Standing.{Held, Entry, above, entry}
 use Rattle.ranking.specs.declared.Weights.{Weights}
 use Rattle.ranking.proofs.Tests.{Tested, passed, failed, tested, and-true}
 use Rattle.ranking.proofs.Lists.{_⊆_, there}
-use Rattle.ranking.proofs.Best.{best-best, best-cons, best-snoc, best-append, best-same, length-best-le}
+use Rattle.ranking.proofs.Best.{best-cons, best-snoc, best-append, best-same, length-best-le}
 use Rattle.ranking.proofs.Standing.{above-strict}
 use Rattle.window.specs.declared.Window.{Window}
 use Rattle.window.specs.Rows.{reportIn, standing}
@@ -63,6 +63,12 @@ joined-asked k w l next e small r =
     ap (λ m. cutToK (asked k w (take 16 (place above e m)) next)) (lines-asked k w l next r)
     ∙ ap (λ m. asked k w (take k m) next) (lines-asked k w (take 16 (place above e l)) next (rw length-take (omega arith)))
     ∙ ap (λ m. asked k w m next) (take-take k 16 (place above e l) small)
+
+-- so the best k of some entries becomes the best k of one more
+pub joined-best : (k : ℕ) (w : Weights) (l : List Entry) (next : ℕ) (e : Entry) → k ≤ 16 → joined (asked k w (best above k l) next) e ≡ asked k w (best above k (e ∷ l)) next
+joined-best k w l next e small =
+    joined-asked k w (best above k l) next e small (omega (arith, length-best-le above above-strict k l))
+    ∙ ap (λ m. asked k w m next) (sym (best-cons above above-strict k e l))
 
 -- ---- the lines
 
@@ -110,10 +116,9 @@ module _ (q : Question) (small : q .k ≤ 16) (w : Window) where
       rows : List Held → Question
       rows hs = listing (lines q ++ map (entry (q .weights)) (only inCell hs))
 
-      middle : best above (q .k) (lines q ++ (e ∷ old)) ≡ take (q .k) (place above e (best above (q .k) (lines q ++ old)))
+      middle : best above (q .k) (lines q ++ (e ∷ old)) ≡ best above (q .k) (e ∷ (lines q ++ old))
       middle =
           best-same above above-strict (q .k) (lines q ++ (e ∷ old)) (e ∷ (lines q ++ old)) (to, from)
-          ∙ best-cons above above-strict (q .k) e (lines q ++ old)
         where
           to : (lines q ++ (e ∷ old)) ⊆ (e ∷ (lines q ++ old))
           to z m =
@@ -135,7 +140,7 @@ module _ (q : Question) (small : q .k ≤ 16) (w : Window) where
           ∙ ap rows (sym (if-not (standing w row) (reportIn w row ∷ standing w row) z))
       go (failed z) (passed t) =
           taking-here (listTaken q w row) (reportIn w row) z t
-          ∙ joined-asked (q .k) (q .weights) (best above (q .k) (lines q ++ old)) (q .next) e small (omega (arith, length-best-le above above-strict (q .k) (lines q ++ old)))
+          ∙ joined-best (q .k) (q .weights) (lines q ++ old) (q .next) e small
           ∙ ap (λ l. asked (q .k) (q .weights) l (q .next)) (sym middle)
           ∙ ap (λ hs. listing (lines q ++ map (entry (q .weights)) hs)) (sym (only-yes inCell (reportIn w row) (standing w row) t))
           ∙ ap rows (sym (if-not (standing w row) (reportIn w row ∷ standing w row) z))

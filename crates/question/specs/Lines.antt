@@ -1,18 +1,17 @@
 -- A question as it is stored, and what its search does to it (document 01, "Window and questions").
-use Prim.Native.Nat.{ℕ, zero, suc, _+_, _-_, min}
-use mathlib.Core.Bool.{Bool, true, false, cond, not, _&&_, _||_}
+use Prim.Native.Nat.{ℕ, zero, suc, _+_}
+use mathlib.Core.Bool.{Bool, cond, not, _&&_, _||_}
 use mathlib.Core.List.{List, [], _∷_, _++_, map}
-use lib.ListN.{length, getD, take, drop, replicate}
+use lib.ListN.{length, take, replicate}
 use lib.Dec.{leb, ltb, eqb}
 use lib.IntN.{ℤ, pos}
-use lib.Signed.{leZ}
 use Rattle.ranking.specs.declared.Weights.{Weights}
 use Rattle.ranking.specs.Best.{best, place, onLast, only}
-use Rattle.ranking.specs.Cells.{inRange, cell, cells, visiting, placeOf, cellAt}
+use Rattle.ranking.specs.Cells.{cell, cells, visiting, placeOf, cellAt}
 use Rattle.ranking.specs.Search.{has, steps, found}
 use Rattle.ranking.specs.Standing.{Held, Entry, above, entry, reaches, searchOf}
 use Rattle.window.specs.declared.Window.{Window}
-use Rattle.window.specs.Rows.{reportOf, heldReports, fitWindow, standing}
+use Rattle.window.specs.Rows.{standing}
 use Rattle.question.specs.declared.Question.{Question}
 use Rattle.question.specs.declared.Searched.{Searched}
 
@@ -50,14 +49,6 @@ stepsTaken q = cond (ltb (q .next) 256) (placeOf (q .weights) (q .next)) 256
 unfoldable pub marked : Question → List ℕ
 marked q = take (stepsTaken q) (visiting (q .weights))
 
--- One entry put in its rank among the lines, "each once"; a list has room for 16.
-abbrev pub withEntry : Question → Entry → Question
-withEntry q e = asked (q .k) (q .weights) (take 16 (place above e (lines q))) (q .next)
-
--- "The list is cut to k."
-abbrev pub cutToK : Question → Question
-cutToK q = asked (q .k) (q .weights) (take (q .k) (lines q)) (q .next)
-
 -- The cell is among them.
 unfoldable pub isMarked : Question → ℕ → Bool
 isMarked q c = has c (marked q)
@@ -65,6 +56,14 @@ isMarked q c = has c (marked q)
 -- Of each cell, whether it is marked.
 unfoldable pub marksOf : Question → List Bool
 marksOf q = map (isMarked q) cells
+
+-- One entry put in its rank among the lines, "each once"; a list has room for 16.
+abbrev pub withEntry : Question → Entry → Question
+withEntry q e = asked (q .k) (q .weights) (take 16 (place above e (lines q))) (q .next)
+
+-- "The list is cut to k."
+abbrev pub cutToK : Question → Question
+cutToK q = asked (q .k) (q .weights) (take (q .k) (lines q)) (q .next)
 
 -- "It ends when no cell is left, or when the list has k entries and the next cell's best possible score is below the last entry's score."
 unfoldable pub finished : Question → Bool
@@ -107,7 +106,4 @@ stepOn q w = cond (leb (q .k) 16 && ltb (q .next) 256) (stepped q (inRows w)) q
 
 -- A search of whatever stands in a window's rows, and its steps; none, where k is over 16.
 unfoldable pub searchedOn : Question → Window → Searched
-searchedOn q w =
-    cond (leb (q .k) 16)
-    (searchedIn q (inRows w))
-    (record { steps = 0; question = q })
+searchedOn q w = cond (leb (q .k) 16) (searchedIn q (inRows w)) (record { steps = 0; question = q })

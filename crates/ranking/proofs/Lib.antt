@@ -10,3 +10,4 @@ pub mod Scan
 pub mod Guard
 pub mod Words
 pub mod Examples
+pub mod Outcomes

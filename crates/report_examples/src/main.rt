@@ -31,11 +31,6 @@ fn example() -> Report {
     }
 }
 
-// The first `n` bytes, or all where there are fewer.
-fn front(s: &[u8], n: usize) -> &[u8] {
-    if n <= s.len() { &s[..n] } else { s }
-}
-
 // P1: its payload as written, and read back.
 fn first_example() {
     let mut space = [0u8; 17];
@@ -116,11 +111,11 @@ fn notes() {
     let mut space = [0u8; 65];
     let all: &mut [u8] = &mut space;
     count_up(all);
-    noted(false, front(all, 0));
-    noted(true, front(all, 0));
-    noted(true, front(all, 1));
-    noted(true, front(all, 64));
-    noted(true, front(all, 65));
+    noted(false, wire::front(all, 0));
+    noted(true, wire::front(all, 0));
+    noted(true, wire::front(all, 1));
+    noted(true, wire::front(all, 64));
+    noted(true, wire::front(all, 65));
     let long = io::large_buffer();
     noted(true, &long);
 }
@@ -146,10 +141,10 @@ fn noted(noted: bool, note: &[u8]) {
     if let Written::Bytes(size) = answer {
         note_name(noted, note);
         text(b" bytes");
-        print::bytes(front(room, size));
+        print::bytes(wire::front(room, size));
         print::end();
         note_name(noted, note);
-        reading(front(room, size));
+        reading(wire::front(room, size));
     }
 }
 
@@ -260,5 +255,5 @@ fn sized(p: &mut [u8], size: usize, length: u16) {
     number(size as u64);
     text(b" length");
     number(length as u64);
-    reading(front(p, size));
+    reading(wire::front(p, size));
 }

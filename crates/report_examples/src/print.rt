@@ -1,37 +1,13 @@
 // Lines on standard output.
-use libc::STDOUT_FILENO;
+pub use printing::bytes;
+pub use printing::end;
+pub use printing::number;
+pub use printing::refused;
+pub use printing::text;
 use report::Payload;
 use report::Reading;
 use report::Report;
 use report::Written;
-
-pub fn text(s: &[u8]) {
-    io::write_all(STDOUT_FILENO, s);
-}
-
-pub fn end() {
-    text(b"\n");
-}
-
-// A space and a number.
-pub fn number(n: u64) {
-    text(b" ");
-    io::print_decimal(STDOUT_FILENO, n);
-}
-
-// Each byte as a space and two hexadecimal digits.
-pub fn bytes(s: &[u8]) {
-    let mut i = 0;
-    while i < s.len() {
-        byte(s[i]);
-        i += 1;
-    }
-}
-
-fn byte(b: u8) {
-    text(b" ");
-    io::print_hex(STDOUT_FILENO, b as u64, 2);
-}
 
 // The rest of a line: the writer's answer.
 pub fn writing(answer: Written) {
@@ -66,9 +42,4 @@ fn accepted(r: Report) {
     number(r.loss as u64);
     number(r.shake as u64);
     number(r.number as u64);
-}
-
-fn refused(n: u8) {
-    text(b" refused");
-    number(n as u64);
 }

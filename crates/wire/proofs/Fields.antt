@@ -83,26 +83,26 @@ written-stands p v q at tag size hp hv hs =
     rw (← hp, ← hv, ← found p v q tag (rw hv hs)) (and-eq-true-iff _ _ .1 (eq-eqb tag tag refl, eq-eqb (length v) (length v) refl))
 
 module _ (s : List ℕ) (at tag size : ℕ) where
-  n : ℕ
-  n = number (part (at + 1) 2 s)
-
-  told : (a b : Bool) → isField (cond a (cond b (Whole (getD s at 0) (at + 3) n) Cut) Cut) tag size ≡ true
+  told : (n : ℕ) (a b : Bool) → isField (cond a (cond b (Whole (getD s at 0) (at + 3) n) Cut) Cut) tag size ≡ true
       → (b ≡ true) × (eqb (getD s at 0) tag ≡ true) × (eqb n size ≡ true)
-  told true true h = let e = and-eq-true-iff (eqb (getD s at 0) tag) (eqb n size) .0 h in (refl, e .0, e .1)
-  told true false h = absurd (false≢true h)
-  told false true h = absurd (false≢true h)
-  told false false h = absurd (false≢true h)
+  told n true true h = let e = and-eq-true-iff (eqb (getD s at 0) tag) (eqb n size) .0 h in (refl, e .0, e .1)
+  told n true false h = absurd (false≢true h)
+  told n false true h = absurd (false≢true h)
+  told n false false h = absurd (false≢true h)
 
-  stands-facts : isField (fieldAt s at) tag size ≡ true → (at + 3 + n ≤ length s) × (getD s at 0 ≡ tag) × (n ≡ size)
-  unfolding fieldAt n
+  -- Where a field stands, its tag and its length do, and its value is within the bytes.
+  pub stands-facts : isField (fieldAt s at) tag size ≡ true
+      → (at + 3 + number (part (at + 1) 2 s) ≤ length s) × (getD s at 0 ≡ tag) × (number (part (at + 1) 2 s) ≡ size)
+  unfolding fieldAt
   stands-facts h =
-      let t = told (leb (at + 3) (length s)) (leb (at + 3 + n) (length s)) h in
+      let n = number (part (at + 1) 2 s) in
+      let t = told n (leb (at + 3) (length s)) (leb (at + 3 + n) (length s)) h in
       (leb-true _ _ (t .0), eqb-true _ _ (t .1), eqb-true _ _ (t .2))
 
 -- Where a field stands, the bytes are those that writing it gives.
 pub standing-is : (s : List ℕ) (at tag size : ℕ) → Bytes s → isField (fieldAt s at) tag size ≡ true
     → (at + 3 + size ≤ length s) × (drop at s ≡ field tag (part (at + 3) size s) ++ drop (at + 3 + size) s)
-unfolding field head n
+unfolding field head
 standing-is s at tag size bs h =
     let f = stands-facts s at tag size h in
     let fits : at + 3 + size ≤ length s = rw (← f .2) (f .0) in

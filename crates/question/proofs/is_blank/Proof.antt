@@ -1,3 +1,5 @@
+-- Both numbers are 0, the signed one by its bits.
+-- Assumes nothing.
 use mathlib.Core.Path.{sym, ap, _∙_}
 use mathlib.Core.Bool.{_&&_}
 use borrow.Author.Tests.{eq-eqb, ne-eqb}
@@ -7,14 +9,10 @@ use Rattle.question.specs.Calls.{equal}
 use Rattle.question.proofs.Fitness.{equal-bits}
 use Rattle.question.proofs.is_blank.Statement.{statement}
 use Rattle.question.proofs.is_blank.Tie as tie
-use Rattle.question.proofs.is_blank.Reads as reads
-use Rattle.question.proofs.is_blank.Lts as lts
 
--- src/lib.rt:483:9
 returns : tie.Need-returns
 returns c = rw (ne-eqb _ _ (c .if1 .taken))
 
--- src/lib.rt:479:1
 returns-2 : tie.Need-returns-2
 returns-2 c =
     let start = c .before in

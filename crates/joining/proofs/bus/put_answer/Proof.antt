@@ -1,57 +1,45 @@
+-- `joining::bus::put_answer` meets its contract, by the three answers.
+-- Assumes nothing.
+use mathlib.Core.Path.{_∙_}
 use borrow.Author.Needs.{needs}
 use Rattle.joining.proofs.bus.put_answer.Statement.{statement}
 use Rattle.joining.proofs.bus.put_answer.Tie as tie
-use Rattle.joining.proofs.bus.put_answer.Reads as reads
-use Rattle.joining.proofs.bus.put_answer.Lts as lts
-use Rattle.joining.proofs.bus.put_nine.Reads as put-nine-reads
 
--- src/bus.rt:86:25
 enum-known-answer : tie.Need-enum-known-answer
 enum-known-answer c = search needs
 
--- src/bus.rt:86:31
 put-nine-requires : tie.Need-put-nine-requires
 put-nine-requires c κs = search needs
 
--- src/bus.rt:87:34
 enum-told : tie.Need-enum-told
 enum-told c = search needs
 
--- src/bus.rt:87:25
 put-nine-requires-2 : tie.Need-put-nine-requires-2
 put-nine-requires-2 c κs = search needs
 
--- src/bus.rt:88:26
 enum-known-answer-2 : tie.Need-enum-known-answer-2
 enum-known-answer-2 c = search needs
 
--- src/bus.rt:88:32
 put-nine-requires-3 : tie.Need-put-nine-requires-3
 put-nine-requires-3 c κs = search needs
 
--- src/bus.rt:81:1
 same-length : tie.Need-same-length
 same-length c = search needs
 
--- src/bus.rt:81:1
 returns : tie.Need-returns
-returns c = ?
+returns c = c .before .before .put-nine .ensures ∙ rw (c .before .before .before .before .before .answer .given .1)
 
--- src/bus.rt:81:1
 same-length-2 : tie.Need-same-length-2
 same-length-2 c = search needs
 
--- src/bus.rt:81:1
 returns-2 : tie.Need-returns-2
-returns-2 c = ?
+returns-2 c = c .before .before .put-nine2 .ensures ∙ rw (c .before .before .before .before .enum-told .given .1)
 
--- src/bus.rt:81:1
 same-length-3 : tie.Need-same-length-3
 same-length-3 c = search needs
 
--- src/bus.rt:81:1
 returns-3 : tie.Need-returns-3
-returns-3 c = ?
+returns-3 c = c .before .before .put-nine3 .ensures ∙ rw (c .before .before .before .before .before .answer2 .given .1)
 
 pub put-answer-spec : {M : Type 1} → statement M
 put-answer-spec =

@@ -1,24 +1,20 @@
+-- An entry that still waits stands last, and one that does not stands already.
+-- Assumes nothing.
 use borrow.Author.Needs.{needs}
 use mir.Facts.{toZ-ofZ}
 use Rattle.question.specs.Inner.{closed}
 use Rattle.question.proofs.Placing.closed.Statement.{statement}
 use Rattle.question.proofs.Placing.closed.Tie as tie
-use Rattle.question.proofs.Placing.closed.Reads as reads
-use Rattle.question.proofs.Placing.closed.Lts as lts
-use Rattle.question.proofs.Question.pushed.Reads as pushed-reads
 
--- src/lib.rt:185:13
 pushed-requires : tie.Need-pushed-requires
 pushed-requires c κs = search needs
 
--- src/lib.rt:185:13
 returns : tie.Need-returns
 unfolding closed
 returns c =
     let start = c .before .before .before in
     rw (c .pushed .ensures, toZ-ofZ (start .fits .score), c .before .if1 .taken)
 
--- src/lib.rt:180:5
 returns-2 : tie.Need-returns-2
 unfolding closed
 returns-2 c = rw (c .if1 .left)

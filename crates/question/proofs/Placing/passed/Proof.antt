@@ -1,40 +1,32 @@
+-- Each branch is a case of the definition: the entry's rank against the line decides.
+-- Assumes nothing.
+use mathlib.Core.Path.{sym, _∙_}
 use borrow.Author.Needs.{needs}
 use borrow.Author.Tests.{not-true, not-false}
 use mir.Facts.{toZ-ofZ}
-use Rattle.question.proofs.Placed.{ranked-kept}
-use mathlib.Core.Path.{sym, _∙_}
 use Rattle.question.specs.Inner.{pushed, passed}
+use Rattle.question.proofs.Placed.{ranked-kept}
 use Rattle.question.proofs.Placing.passed.Statement.{statement}
 use Rattle.question.proofs.Placing.passed.Tie as tie
-use Rattle.question.proofs.Placing.passed.Reads as reads
-use Rattle.question.proofs.Placing.passed.Lts as lts
-use Rattle.question.proofs.Question.pushed.Reads as pushed-reads
-use Rattle.ranking.proofs.ranks_above.Reads as ranks-above-reads
 
--- src/lib.rt:162:27
 pushed-requires : tie.Need-pushed-requires
 pushed-requires c κs = search needs
 
--- src/lib.rt:161:13
 returns : tie.Need-returns
 unfolding passed
 returns c =
     let start = c .before .before .before .before in
     rw (c .pushed .ensures, toZ-ofZ (start .fits .line-score), not-true (start .args .self .waiting) (c .before .if1 .taken))
 
--- src/lib.rt:166:12
 ranks-above-requires : tie.Need-ranks-above-requires
 ranks-above-requires c κs = search needs
 
--- src/lib.rt:167:17
 pushed-requires-2 : tie.Need-pushed-requires-2
 pushed-requires-2 c κs = search needs
 
--- src/lib.rt:169:27
 pushed-requires-3 : tie.Need-pushed-requires-3
 pushed-requires-3 c κs = search needs
 
--- src/lib.rt:168:13
 returns-2 : tie.Need-returns-2
 unfolding passed
 returns-2 c =
@@ -43,15 +35,12 @@ returns-2 c =
     let ahead = sym (c .before .before .before .ranks-above .ensures ∙ ranked-kept (start .args .number) (start .args .line-number) (start .fits .score) (start .fits .line-score)) ∙ c .before .before .if2 .taken in
     rw (c .pushed3 .ensures, c .before .pushed2 .ensures, toZ-ofZ (start .fits .line-score), toZ-ofZ (start .fits .score), waits, ahead)
 
--- src/lib.rt:174:23
 pushed-requires-4 : tie.Need-pushed-requires-4
 pushed-requires-4 c κs = search needs
 
--- src/lib.rt:175:22
 ranks-above-requires-2 : tie.Need-ranks-above-requires-2
 ranks-above-requires-2 c κs = search needs
 
--- src/lib.rt:154:5
 returns-3 : tie.Need-returns-3
 unfolding passed
 returns-3 c =

@@ -1,27 +1,23 @@
+-- The invariant: the lines that went by, and what the entry makes of those that are left, are the list with the entry.
+-- Assumes nothing.
 use mathlib.Core.Path.{_≡_, sym, _∙_, ap, ap₂, subst}
 use Prim.Native.Nat.{_≤_, _-_, _+_}
-use lib.ListN.{take, drop, getD}
+use native.Mathlib.Omega.{arith}
+use borrow.Author.Needs.{needs}
 use lib.IntN.{pos}
+use lib.ListN.{take, drop, getD}
 use mir.Facts.{toZ-ofZ}
+use mir.Syntax.{w32}
+use mir.Val.{toZ, ofZ}
 use Rattle.ranking.specs.Best.{place}
 use Rattle.ranking.specs.Standing.{Entry, above}
 use Rattle.ranking.proofs.Words.{kept}
-use Rattle.question.specs.Inner as inner
-use mir.Syntax.{w32}
-use mir.Val.{toZ, ofZ}
 use Rattle.question.specs.Lines.{linesOf, asked}
+use Rattle.question.specs.Inner as inner
 use Rattle.question.proofs.Stored.{Roomy, roomy, lineAt, drop-line, none-left, shown-lines}
 use Rattle.question.proofs.Placed.{Way, way-start, way-more, way-end}
-use borrow.Author.Needs.{needs}
-use native.Mathlib.Omega.{arith}
 use Rattle.question.proofs.Question.added.Statement.{statement}
 use Rattle.question.proofs.Question.added.Tie as tie
-use Rattle.question.proofs.Question.added.Reads as reads
-use Rattle.question.proofs.Question.added.Lts as lts
-use Rattle.question.proofs.Placing.closed.Reads as closed-reads
-use Rattle.question.proofs.Placing.passed.Reads as passed-reads
-use Rattle.question.proofs.Question.blank.Reads as blank-reads
-use Rattle.question.proofs.Question.shown.Reads as shown-reads
 
 abbrev Inv-loop : tie.InvT-loop
 Inv-loop number score n numbers scores placing₀ i₀ placing i =
@@ -33,19 +29,15 @@ Inv-loop number score n numbers scores placing₀ i₀ placing i =
 abbrev μ-loop : tie.MeasureT-loop
 μ-loop number score n numbers scores placing₀ i₀ placing i = n - i
 
--- src/lib.rt:90:17
 shown-requires : tie.Need-shown-requires Inv-loop μ-loop
 shown-requires c κs = search needs
 
--- src/lib.rt:90:17
 cast-n : tie.Need-cast-n Inv-loop μ-loop
 cast-n c = search needs
 
--- src/lib.rt:94:23
 blank-requires : tie.Need-blank-requires Inv-loop μ-loop
 blank-requires c κs = search needs
 
--- src/lib.rt:98:9
 loop-holds : tie.Need-loop-holds Inv-loop μ-loop
 loop-holds c =
     let start = c .before .before .before .before in
@@ -57,35 +49,27 @@ loop-holds c =
       way-start _ _ _ (q .k) (q .weights) (q .next) (c .blank .ensures),
     )
 
--- src/lib.rt:99:53
 mul-passed : tie.Need-mul-passed Inv-loop μ-loop
 mul-passed c = search needs
 
--- src/lib.rt:99:53
 array-read-passed : tie.Need-array-read-passed Inv-loop μ-loop
 array-read-passed c = search needs
 
--- src/lib.rt:99:65
 mul-passed-2 : tie.Need-mul-passed-2 Inv-loop μ-loop
 mul-passed-2 c = search needs
 
--- src/lib.rt:99:65
 array-copy-out-passed : tie.Need-array-copy-out-passed Inv-loop μ-loop
 array-copy-out-passed c = search needs
 
--- src/lib.rt:99:13
 passed-requires : tie.Need-passed-requires Inv-loop μ-loop
 passed-requires c κs = search needs
 
--- src/lib.rt:100:13
 add-i : tie.Need-add-i Inv-loop μ-loop
 add-i c = search needs
 
--- src/lib.rt:98:9
 loop-less : tie.Need-loop-less Inv-loop μ-loop
 loop-less c = search needs
 
--- src/lib.rt:98:9
 loop-again : tie.Need-loop-again Inv-loop μ-loop
 loop-again c =
     let at = c .before .before .before in
@@ -106,11 +90,9 @@ loop-again c =
           (subst (λ l. Way x L (at .before .blank .result) l (at .loop .placing)) (drop-line (q .numbers) (q .scores) (inv .2) n (inv .1) i (search needs)) (inv .3))),
     )
 
--- src/lib.rt:102:9
 closed-requires : tie.Need-closed-requires Inv-loop μ-loop
 closed-requires c κs = search needs
 
--- src/lib.rt:87:5
 returns : tie.Need-returns Inv-loop μ-loop
 returns c =
     let at = c .before .before in

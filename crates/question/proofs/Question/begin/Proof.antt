@@ -1,30 +1,22 @@
+-- 24 comes of the window, the question or a search that has not ended; else the search begins.
+-- Assumes nothing.
 use mathlib.Core.Path.{sym, ap, _∙_}
 use mathlib.Core.Bool.{_&&_, and-false}
 use borrow.Author.Tests.{not-true, not-false}
+use borrow.Author.Needs.{needs}
 use Rattle.window.specs.Rows.{fitWindow}
 use Rattle.question.specs.Lines.{finished}
 use Rattle.question.specs.Calls.{fitQuestion}
 use Rattle.question.proofs.Doors.{begin-unfit, begin-goes}
-use borrow.Author.Needs.{needs}
 use Rattle.question.proofs.Question.begin.Statement.{statement}
 use Rattle.question.proofs.Question.begin.Tie as tie
-use Rattle.question.proofs.Question.begin.Reads as reads
-use Rattle.question.proofs.Question.begin.Lts as lts
-use Rattle.question.proofs.Question.begun.Reads as begun-reads
-use Rattle.question.proofs.Question.finished.Reads as finished-reads
-use Rattle.question.proofs.Question.fit.Reads as Question-fit-reads
-use Rattle.question.proofs.Question.refused.Reads as refused-reads
-use Rattle.window.proofs.Window.fit.Reads as Window-fit-reads
 
--- src/lib.rt:340:13
 fit-requires : tie.Need-fit-requires
 fit-requires c κs = search needs
 
--- src/lib.rt:341:13
 refused-requires : tie.Need-refused-requires
 refused-requires c κs = search needs
 
--- src/lib.rt:341:13
 returns : tie.Need-returns
 returns c =
     let start = c .before .before .before in
@@ -32,15 +24,12 @@ returns c =
     let q = start .args .self in
     c .refused .ensures ∙ sym (begin-unfit w q (ap (λ b. b && fitQuestion w q && finished q) (sym (c .before .before .fit .ensures) ∙ not-true _ (c .before .if1 .taken))))
 
--- src/lib.rt:343:13
 fit-requires-2 : tie.Need-fit-requires-2
 fit-requires-2 c κs = search needs
 
--- src/lib.rt:344:13
 refused-requires-2 : tie.Need-refused-requires-2
 refused-requires-2 c κs = search needs
 
--- src/lib.rt:344:13
 returns-2 : tie.Need-returns-2
 returns-2 c =
     let start = c .before .before .before .before .before in
@@ -49,15 +38,12 @@ returns-2 c =
     c .refused2 .ensures
     ∙ sym (begin-unfit w q (ap (λ b. fitWindow w && b && finished q) (sym (c .before .before .fit2 .ensures) ∙ not-true _ (c .before .if2 .taken)) ∙ ap (λ b. b && finished q) (and-false (fitWindow w))))
 
--- src/lib.rt:346:13
 finished-requires : tie.Need-finished-requires
 finished-requires c κs = search needs
 
--- src/lib.rt:347:13
 refused-requires-3 : tie.Need-refused-requires-3
 refused-requires-3 c κs = search needs
 
--- src/lib.rt:347:13
 returns-3 : tie.Need-returns-3
 returns-3 c =
     let third = c .before in
@@ -71,11 +57,9 @@ returns-3 c =
     let ended = sym (third .before .finished .ensures) ∙ not-true _ (third .if3 .taken) in
     c .refused3 .ensures ∙ sym (begin-unfit w q (ap (λ b. fitWindow w && fitQuestion w q && b) ended ∙ and-false (fitWindow w && fitQuestion w q)))
 
--- src/lib.rt:351:23
 begun-requires : tie.Need-begun-requires
 begun-requires c κs = search needs
 
--- src/lib.rt:337:5
 returns-4 : tie.Need-returns-4
 returns-4 c =
     let third = c .before in

@@ -1,5 +1,8 @@
+-- The invariant: the first i lines have been pushed.
+-- Assumes nothing.
 use mathlib.Core.Path.{_∙_, ap}
 use Prim.Native.Nat.{_≤_, _-_}
+use borrow.Author.Needs.{needs}
 use lib.IntN.{pos}
 use lib.ListN.{take, getD}
 use mir.Syntax.{w32}
@@ -8,15 +11,8 @@ use Rattle.question.specs.Lines.{linesOf, asked}
 use Rattle.question.specs.Inner.{pushed}
 use Rattle.question.proofs.Stored.{Roomy, roomy, cut-lines}
 use Rattle.question.proofs.Placed.{Has, has-none, has-more}
-use borrow.Author.Needs.{needs}
 use Rattle.question.proofs.Question.cut.Statement.{statement}
 use Rattle.question.proofs.Question.cut.Tie as tie
-use Rattle.question.proofs.Question.cut.Reads as reads
-use Rattle.question.proofs.Question.cut.Lts as lts
-use Rattle.question.proofs.Question.blank.Reads as blank-reads
-use Rattle.question.proofs.Question.pushed.Reads as pushed-reads
-use Rattle.question.proofs.Question.shown.Reads as shown-reads
-use Rattle.question.proofs.fewer.Reads as fewer-reads
 
 abbrev Inv-loop : tie.InvT-loop
 Inv-loop n k m numbers scores kept₀ i₀ kept i =
@@ -25,23 +21,18 @@ Inv-loop n k m numbers scores kept₀ i₀ kept i =
 abbrev μ-loop : tie.MeasureT-loop
 μ-loop n k m numbers scores kept₀ i₀ kept i = m - i
 
--- src/lib.rt:109:13
 shown-requires : tie.Need-shown-requires Inv-loop μ-loop
 shown-requires c κs = search needs
 
--- src/lib.rt:111:17
 fewer-requires : tie.Need-fewer-requires Inv-loop μ-loop
 fewer-requires c κs = search needs
 
--- src/lib.rt:111:17
 cast-m : tie.Need-cast-m Inv-loop μ-loop
 cast-m c = search needs
 
--- src/lib.rt:114:13
 blank-requires : tie.Need-blank-requires Inv-loop μ-loop
 blank-requires c κs = search needs
 
--- src/lib.rt:116:9
 loop-holds : tie.Need-loop-holds Inv-loop μ-loop
 loop-holds c =
     let start = c .before .before .before .before .before in
@@ -54,35 +45,27 @@ loop-holds c =
       has-none (c .blank .result) (q .k) (q .weights) (q .next) (c .blank .ensures),
     )
 
--- src/lib.rt:117:32
 mul-pushed : tie.Need-mul-pushed Inv-loop μ-loop
 mul-pushed c = search needs
 
--- src/lib.rt:117:32
 array-read-pushed : tie.Need-array-read-pushed Inv-loop μ-loop
 array-read-pushed c = search needs
 
--- src/lib.rt:117:44
 mul-pushed-2 : tie.Need-mul-pushed-2 Inv-loop μ-loop
 mul-pushed-2 c = search needs
 
--- src/lib.rt:117:44
 array-copy-out-pushed : tie.Need-array-copy-out-pushed Inv-loop μ-loop
 array-copy-out-pushed c = search needs
 
--- src/lib.rt:117:13
 pushed-requires : tie.Need-pushed-requires Inv-loop μ-loop
 pushed-requires c κs = search needs
 
--- src/lib.rt:118:13
 add-i : tie.Need-add-i Inv-loop μ-loop
 add-i c = search needs
 
--- src/lib.rt:116:9
 loop-less : tie.Need-loop-less Inv-loop μ-loop
 loop-less c = search needs
 
--- src/lib.rt:116:9
 loop-again : tie.Need-loop-again Inv-loop μ-loop
 loop-again c =
     let at = c .before .before .before in
@@ -100,7 +83,6 @@ loop-again c =
           (c .pushed .ensures ∙ ap (λ s. pushed (at .loop .kept) (record { number = getD (q .numbers) i 0; score = s })) back),
     )
 
--- src/lib.rt:106:5
 returns : tie.Need-returns Inv-loop μ-loop
 returns c =
     let at = c .before in

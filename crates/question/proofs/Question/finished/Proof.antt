@@ -1,5 +1,8 @@
+-- Each branch is a case of when a search has ended; the last line is the one at the length less one.
+-- Assumes nothing.
 use mathlib.Core.Path.{sym, ap₂, _∙_}
 use Prim.Native.Nat.{_-_}
+use borrow.Author.Needs.{needs}
 use lib.IntN.{pos}
 use lib.ListN.{getD}
 use lib.Signed.{ltZ}
@@ -7,57 +10,41 @@ use mir.Syntax.{w32}
 use Rattle.ranking.proofs.Words.{kept}
 use Rattle.question.proofs.Stored.{roomy}
 use Rattle.question.proofs.Ending.{finished-none, finished-other, finished-empty, finished-full}
-use borrow.Author.Needs.{needs}
 use Rattle.question.proofs.Question.finished.Statement.{statement}
 use Rattle.question.proofs.Question.finished.Tie as tie
-use Rattle.question.proofs.Question.finished.Reads as reads
-use Rattle.question.proofs.Question.finished.Lts as lts
-use Rattle.question.proofs.Question.shown.Reads as shown-reads
-use Rattle.ranking.proofs.Weights.best.Reads as best-reads
 
--- src/lib.rt:137:13
 returns : tie.Need-returns
 returns c = sym (finished-none (c .before .args .self) (c .if1 .taken))
 
--- src/lib.rt:140:13
 returns-2 : tie.Need-returns-2
 returns-2 c = sym (finished-other (c .before .before .before .args .self) (c .before .before .if1 .left) (c .if2 .taken))
 
--- src/lib.rt:142:17
 shown-requires : tie.Need-shown-requires
 shown-requires c κs = search needs
 
--- src/lib.rt:142:17
 cast-n : tie.Need-cast-n
 cast-n c = search needs
 
--- src/lib.rt:144:13
 returns-3 : tie.Need-returns-3
 returns-3 c =
     let first = c .before .before .before .before in
     sym (finished-empty (first .before .args .self) (first .if1 .left) (sym (c .before .shown .ensures) ∙ c .if3 .taken))
 
--- src/lib.rt:147:20
 sub-last : tie.Need-sub-last
 sub-last c = search needs
 
--- src/lib.rt:148:27
 cast-best : tie.Need-cast-best
 cast-best c = search needs
 
--- src/lib.rt:148:9
 best-requires : tie.Need-best-requires
 best-requires c κs = search needs
 
--- src/lib.rt:148:41
 mul-result : tie.Need-mul-result
 mul-result c = search needs
 
--- src/lib.rt:148:41
 array-copy-out-result : tie.Need-array-copy-out-result
 array-copy-out-result c = search needs
 
--- src/lib.rt:132:5
 returns-4 : tie.Need-returns-4
 returns-4 c =
     let counted = c .before .before .before .before in

@@ -1,32 +1,23 @@
+-- The four tests are the definition's, in its order.
+-- Assumes nothing.
 use mathlib.Core.Path.{sym, _∙_}
-use Rattle.question.proofs.Doors.{unfit-ranges, unfit-lines, unfit-fall, fit-rest}
 use borrow.Author.Needs.{needs}
+use Rattle.question.proofs.Doors.{unfit-ranges, unfit-lines, unfit-fall, fit-rest}
 use Rattle.question.proofs.Question.fit.Statement.{statement}
 use Rattle.question.proofs.Question.fit.Tie as tie
-use Rattle.question.proofs.Question.fit.Reads as reads
-use Rattle.question.proofs.Question.fit.Lts as lts
-use Rattle.question.proofs.Question.falls.Reads as falls-reads
-use Rattle.question.proofs.Question.lines_held.Reads as lines-held-reads
-use Rattle.question.proofs.Question.ranges_fit.Reads as ranges-fit-reads
-use Rattle.question.proofs.Question.rest_blank.Reads as rest-blank-reads
 
--- src/lib.rt:305:12
 ranges-fit-requires : tie.Need-ranges-fit-requires
 ranges-fit-requires c κs = search needs
 
--- src/lib.rt:306:16
 lines-held-requires : tie.Need-lines-held-requires
 lines-held-requires c κs = search needs
 
--- src/lib.rt:307:20
 falls-requires : tie.Need-falls-requires
 falls-requires c κs = search needs
 
--- src/lib.rt:308:21
 rest-blank-requires : tie.Need-rest-blank-requires
 rest-blank-requires c κs = search needs
 
--- src/lib.rt:308:21
 returns : tie.Need-returns
 returns c =
     let third = c .before in
@@ -38,7 +29,6 @@ returns c =
     (fit-rest (start .args .window) (start .args .self) (sym (first .before .ranges-fit .ensures) ∙ first .if1 .taken) (sym (second .before .lines-held .ensures) ∙ second .if2 .taken)
     (sym (third .before .falls .ensures) ∙ third .if3 .taken))
 
--- src/lib.rt:302:5
 returns-2 : tie.Need-returns-2
 returns-2 c =
     let second = c .before .before in
@@ -48,7 +38,6 @@ returns-2 c =
     (unfit-fall (start .args .window) (start .args .self) (sym (first .before .ranges-fit .ensures) ∙ first .if1 .taken) (sym (second .before .lines-held .ensures) ∙ second .if2 .taken)
     (sym (c .before .falls .ensures) ∙ c .if3 .left))
 
--- src/lib.rt:302:5
 returns-3 : tie.Need-returns-3
 returns-3 c =
     let first = c .before .before in
@@ -56,7 +45,6 @@ returns-3 c =
     sym
     (unfit-lines (start .args .window) (start .args .self) (sym (first .before .ranges-fit .ensures) ∙ first .if1 .taken) (sym (c .before .lines-held .ensures) ∙ c .if2 .left))
 
--- src/lib.rt:302:5
 returns-4 : tie.Need-returns-4
 returns-4 c =
     let start = c .before .before in

@@ -1,17 +1,15 @@
+-- The invariant: what is left to test decides the whole.
+-- Assumes nothing.
 use mathlib.Core.Path.{ap}
 use Prim.Native.Nat.{_-_}
 use borrow.Author.Tests.{not-true, not-false}
+use borrow.Author.Needs.{needs}
 use Rattle.question.specs.Lines.{lines}
 use Rattle.question.specs.Calls.{allOf, heldAs}
 use Rattle.question.proofs.Stored.{roomy, shown-lines}
 use Rattle.question.proofs.Fitness.{Walk, walk-on, walk-fails, walk-ends}
-use borrow.Author.Needs.{needs}
 use Rattle.question.proofs.Question.lines_held.Statement.{statement}
 use Rattle.question.proofs.Question.lines_held.Tie as tie
-use Rattle.question.proofs.Question.lines_held.Reads as reads
-use Rattle.question.proofs.Question.lines_held.Lts as lts
-use Rattle.question.proofs.Question.shown.Reads as shown-reads
-use Rattle.question.proofs.held_as.Reads as held-as-reads
 
 abbrev Inv-loop : tie.InvT-loop
 Inv-loop window self n i₀ i =
@@ -20,15 +18,12 @@ Inv-loop window self n i₀ i =
 abbrev μ-loop : tie.MeasureT-loop
 μ-loop window self n i₀ i = n - i
 
--- src/lib.rt:390:17
 shown-requires : tie.Need-shown-requires Inv-loop μ-loop
 shown-requires c κs = search needs
 
--- src/lib.rt:390:17
 cast-n : tie.Need-cast-n Inv-loop μ-loop
 cast-n c = search needs
 
--- src/lib.rt:392:9
 loop-holds : tie.Need-loop-holds Inv-loop μ-loop
 loop-holds c =
     let start = c .before in
@@ -42,49 +37,39 @@ loop-holds c =
       decides = ap (allOf (heldAs (start .args .window) (q .weights))) (shown-lines q room (c .shown .result) (c .shown .ensures));
     }
 
--- src/lib.rt:393:47
 mul-held-as : tie.Need-mul-held-as Inv-loop μ-loop
 mul-held-as c = search needs
 
--- src/lib.rt:393:47
 element-copy-out-held-as : tie.Need-element-copy-out-held-as Inv-loop μ-loop
 element-copy-out-held-as c = search needs
 
--- src/lib.rt:393:64
 mul-held-as-2 : tie.Need-mul-held-as-2 Inv-loop μ-loop
 mul-held-as-2 c = search needs
 
--- src/lib.rt:393:64
 element-copy-out-held-as-2 : tie.Need-element-copy-out-held-as-2 Inv-loop μ-loop
 element-copy-out-held-as-2 c = search needs
 
--- src/lib.rt:393:17
 held-as-requires : tie.Need-held-as-requires Inv-loop μ-loop
 held-as-requires c κs = search needs
 
--- src/lib.rt:394:17
 returns : tie.Need-returns Inv-loop μ-loop
 returns c =
     let turn = c .before .before .before .before .before in
     walk-fails (turn .before .loop .inv) (turn .loop-test .taken) (c .before .before .held-as-arg3 .given) (c .before .held-as .result) (c .before .held-as .ensures)
     (not-true _ (c .if1 .taken))
 
--- src/lib.rt:396:13
 add-i : tie.Need-add-i Inv-loop μ-loop
 add-i c = search needs
 
--- src/lib.rt:392:9
 loop-less : tie.Need-loop-less Inv-loop μ-loop
 loop-less c = search needs
 
--- src/lib.rt:392:9
 loop-again : tie.Need-loop-again Inv-loop μ-loop
 loop-again c =
     let turn = c .before .before .before .before .before in
     walk-on (turn .before .loop .inv) (turn .loop-test .taken) (c .before .before .held-as-arg3 .given) (c .before .held-as .result) (c .before .held-as .ensures)
     (not-false _ (c .if1 .left))
 
--- src/lib.rt:387:5
 returns-2 : tie.Need-returns-2 Inv-loop μ-loop
 returns-2 c = walk-ends (c .before .loop .inv) (c .loop-test .left)
 

@@ -1,16 +1,14 @@
+-- The invariant: the list is the best k of the lines and of the reports of the rows so far.
+-- Assumes nothing.
 use mathlib.Core.Path.{_≡_, sym, ap, _∙_, subst}
 use Prim.Native.Nat.{_≤_, _-_}
 use native.Mathlib.Omega.{arith}
+use borrow.Author.Needs.{needs}
 use Rattle.window.specs.Rows.{reportIn}
 use Rattle.question.specs.Inner.{taking, listTaken}
 use Rattle.question.proofs.Taking.{taken-none, taken-more, taken-same}
-use borrow.Author.Needs.{needs}
 use Rattle.question.proofs.Question.list_taken.Statement.{statement}
 use Rattle.question.proofs.Question.list_taken.Tie as tie
-use Rattle.question.proofs.Question.list_taken.Reads as reads
-use Rattle.question.proofs.Question.list_taken.Lts as lts
-use Rattle.question.proofs.Question.ranked.Reads as ranked-reads
-use Rattle.question.proofs.Question.taking.Reads as taking-reads
 
 abbrev Inv-loop : tie.InvT-loop
 Inv-loop window list₀ row₀ list row = (row ≤ 1024) × (list₀ .k ≤ 16) × (list ≡ listTaken list₀ window row)
@@ -18,11 +16,9 @@ Inv-loop window list₀ row₀ list row = (row ≤ 1024) × (list₀ .k ≤ 16) 
 abbrev μ-loop : tie.MeasureT-loop
 μ-loop window list₀ row₀ list row = 1024 - row
 
--- src/lib.rt:202:13
 ranked-requires : tie.Need-ranked-requires Inv-loop μ-loop
 ranked-requires c κs = search needs
 
--- src/lib.rt:204:9
 loop-holds : tie.Need-loop-holds Inv-loop μ-loop
 loop-holds c =
     let start = c .before in (
@@ -31,43 +27,33 @@ loop-holds c =
       taken-none (start .args .self) (c .ranked .result) (start .pre) (c .ranked .ensures) (start .args .t2),
     )
 
--- src/lib.rt:205:32
 mul-taking : tie.Need-mul-taking Inv-loop μ-loop
 mul-taking c = search needs
 
--- src/lib.rt:205:32
 element-copy-out-taking : tie.Need-element-copy-out-taking Inv-loop μ-loop
 element-copy-out-taking c = search needs
 
--- src/lib.rt:205:53
 mul-taking-2 : tie.Need-mul-taking-2 Inv-loop μ-loop
 mul-taking-2 c = search needs
 
--- src/lib.rt:205:53
 element-copy-out-taking-2 : tie.Need-element-copy-out-taking-2 Inv-loop μ-loop
 element-copy-out-taking-2 c = search needs
 
--- src/lib.rt:205:73
 mul-taking-3 : tie.Need-mul-taking-3 Inv-loop μ-loop
 mul-taking-3 c = search needs
 
--- src/lib.rt:205:73
 element-copy-out-taking-3 : tie.Need-element-copy-out-taking-3 Inv-loop μ-loop
 element-copy-out-taking-3 c = search needs
 
--- src/lib.rt:205:13
 taking-requires : tie.Need-taking-requires Inv-loop μ-loop
 taking-requires c κs = search needs
 
--- src/lib.rt:206:13
 add-row : tie.Need-add-row Inv-loop μ-loop
 add-row c = search needs
 
--- src/lib.rt:204:9
 loop-less : tie.Need-loop-less Inv-loop μ-loop
 loop-less c = search needs
 
--- src/lib.rt:204:9
 loop-again : tie.Need-loop-again Inv-loop μ-loop
 loop-again c =
     let at = c .before .before .before .before .before in
@@ -80,7 +66,6 @@ loop-again c =
           ∙ taken-more (at .before .ranked .result) (inv .1) window (at .loop .row),
     )
 
--- src/lib.rt:198:5
 returns : tie.Need-returns Inv-loop μ-loop
 returns c =
     let at = c .before in

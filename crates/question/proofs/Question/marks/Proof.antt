@@ -1,15 +1,14 @@
+-- The invariant: the cells so far have their marks.
+-- Assumes nothing.
 use mathlib.Core.Path.{_≡_, refl, sym, subst}
 use Prim.Native.Nat.{_+_, _-_, _≤_, _<_}
 use native.Mathlib.Omega.{arith}
+use borrow.Author.Needs.{needs}
 use lib.ListN.{set}
 use Rattle.question.specs.Lines.{isMarked}
 use Rattle.question.proofs.Marking.{Filled, filled-more, filled-all}
-use borrow.Author.Needs.{needs}
 use Rattle.question.proofs.Question.marks.Statement.{statement}
 use Rattle.question.proofs.Question.marks.Tie as tie
-use Rattle.question.proofs.Question.marks.Reads as reads
-use Rattle.question.proofs.Question.marks.Lts as lts
-use Rattle.question.proofs.Question.marked.Reads as marked-reads
 
 abbrev Inv-loop : tie.InvT-loop
 Inv-loop self marks₀ cell₀ marks cell = (cell ≤ 256) × Filled (isMarked self) cell marks
@@ -17,31 +16,24 @@ Inv-loop self marks₀ cell₀ marks cell = (cell ≤ 256) × Filled (isMarked s
 abbrev μ-loop : tie.MeasureT-loop
 μ-loop self marks₀ cell₀ marks cell = 256 - cell
 
--- src/lib.rt:281:9
 loop-holds : tie.Need-loop-holds Inv-loop μ-loop
 loop-holds c = (omega arith, record { whole = refl; first = refl })
 
--- src/lib.rt:282:39
 cast-marked : tie.Need-cast-marked Inv-loop μ-loop
 cast-marked c = search needs
 
--- src/lib.rt:282:27
 marked-requires : tie.Need-marked-requires Inv-loop μ-loop
 marked-requires c κs = search needs
 
--- src/lib.rt:282:13
 array-write-marks : tie.Need-array-write-marks Inv-loop μ-loop
 array-write-marks c = search needs
 
--- src/lib.rt:283:13
 add-cell : tie.Need-add-cell Inv-loop μ-loop
 add-cell c = search needs
 
--- src/lib.rt:281:9
 loop-less : tie.Need-loop-less Inv-loop μ-loop
 loop-less c = search needs
 
--- src/lib.rt:281:9
 loop-again : tie.Need-loop-again Inv-loop μ-loop
 loop-again c =
     let at = c .before .before in
@@ -52,7 +44,6 @@ loop-again c =
           (filled-more (isMarked q) (at .loop .cell) (at .loop .marks) below (at .loop .inv .1)),
     )
 
--- src/lib.rt:276:5
 returns : tie.Need-returns Inv-loop μ-loop
 returns c =
     let at = c .before in

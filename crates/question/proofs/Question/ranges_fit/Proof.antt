@@ -1,38 +1,32 @@
+-- Each test that fails decides, and the last decides where none does.
+-- Assumes nothing.
 use mathlib.Core.Path.{sym, _∙_}
 use Prim.Native.Nat.{min}
 use native.Mathlib.Omega.{arith}
-use Rattle.question.proofs.Fitness.{third-fails, fourth-fails, fifth-decides, min-test}
 use borrow.Author.Tests.{le-leb, lt-leb, not-true, not-false}
-use Rattle.question.specs.Calls.{rangesFit}
 use borrow.Author.Needs.{needs}
+use Rattle.question.specs.Calls.{rangesFit}
+use Rattle.question.proofs.Fitness.{third-fails, fourth-fails, fifth-decides, min-test}
 use Rattle.question.proofs.Question.ranges_fit.Statement.{statement}
 use Rattle.question.proofs.Question.ranges_fit.Tie as tie
-use Rattle.question.proofs.Question.ranges_fit.Reads as reads
-use Rattle.question.proofs.Question.ranges_fit.Lts as lts
-use Rattle.ranking.proofs.Weights.fit.Reads as fit-reads
 
--- src/lib.rt:369:13
 returns : tie.Need-returns
 unfolding rangesFit
 returns c = rw (lt-leb 1 _ (c .if1 .taken))
 
--- src/lib.rt:372:13
 returns-2 : tie.Need-returns-2
 unfolding rangesFit
 returns-2 c = rw (le-leb 1 _ (c .before .if1 .left), lt-leb _ 16 (c .if2 .taken))
 
--- src/lib.rt:374:13
 fit-requires : tie.Need-fit-requires
 fit-requires c κs = search needs
 
--- src/lib.rt:375:13
 returns-3 : tie.Need-returns-3
 unfolding rangesFit
 returns-3 c =
     let second = c .before .before in
     sym (third-fails _ _ (le-leb 1 _ (second .before .if1 .left)) (le-leb _ 16 (second .if2 .left)) (sym (c .before .fit .ensures) ∙ not-true _ (c .if3 .taken)))
 
--- src/lib.rt:378:13
 returns-4 : tie.Need-returns-4
 unfolding rangesFit
 returns-4 c =
@@ -42,7 +36,6 @@ returns-4 c =
     (fourth-fails _ (le-leb 1 _ (second .before .if1 .left)) (le-leb _ 16 (second .if2 .left))
     (sym (third .before .fit .ensures) ∙ not-false _ (third .if3 .left)) (lt-leb _ 256 (c .if4 .taken)))
 
--- src/lib.rt:381:13
 returns-5 : tie.Need-returns-5
 unfolding rangesFit
 returns-5 c =
@@ -55,11 +48,9 @@ returns-5 c =
     (sym (third .before .fit .ensures) ∙ not-false _ (third .if3 .left)) (le-leb _ 256 (c .before .if4 .left))
     ∙ lt-leb (q .len) (min (q .k) held) (omega (arith, c .if5 .taken)))
 
--- src/lib.rt:383:9
 cast-result : tie.Need-cast-result
 cast-result c = search needs
 
--- src/lib.rt:363:5
 returns-6 : tie.Need-returns-6
 unfolding rangesFit
 returns-6 c =

@@ -1,6 +1,9 @@
+-- The invariant: the list is the best k of the lines so far.
+-- Assumes nothing.
 use mathlib.Core.Path.{_≡_, sym, ap, _∙_, subst}
 use Prim.Native.Nat.{_≤_, _-_}
 use native.Mathlib.Omega.{arith}
+use borrow.Author.Needs.{needs}
 use lib.IntN.{pos}
 use lib.ListN.{take, getD}
 use mir.Syntax.{w32}
@@ -12,14 +15,8 @@ use Rattle.question.specs.Inner.{joined}
 use Rattle.question.proofs.Stored.{Roomy, roomy, all-lines}
 use Rattle.question.proofs.Placed.{Has}
 use Rattle.question.proofs.Taking.{ranked-none, ranked-more}
-use borrow.Author.Needs.{needs}
 use Rattle.question.proofs.Question.ranked.Statement.{statement}
 use Rattle.question.proofs.Question.ranked.Tie as tie
-use Rattle.question.proofs.Question.ranked.Reads as reads
-use Rattle.question.proofs.Question.ranked.Lts as lts
-use Rattle.question.proofs.Question.blank.Reads as blank-reads
-use Rattle.question.proofs.Question.joined.Reads as joined-reads
-use Rattle.question.proofs.Question.shown.Reads as shown-reads
 
 abbrev Inv-loop : tie.InvT-loop
 Inv-loop n numbers scores list₀ i₀ list i =
@@ -32,19 +29,15 @@ Inv-loop n numbers scores list₀ i₀ list i =
 abbrev μ-loop : tie.MeasureT-loop
 μ-loop n numbers scores list₀ i₀ list i = n - i
 
--- src/lib.rt:172:17
 shown-requires : tie.Need-shown-requires Inv-loop μ-loop
 shown-requires c κs = search needs
 
--- src/lib.rt:172:17
 cast-n : tie.Need-cast-n Inv-loop μ-loop
 cast-n c = search needs
 
--- src/lib.rt:175:13
 blank-requires : tie.Need-blank-requires Inv-loop μ-loop
 blank-requires c κs = search needs
 
--- src/lib.rt:177:9
 loop-holds : tie.Need-loop-holds Inv-loop μ-loop
 loop-holds c =
     let start = c .before .before .before .before in
@@ -57,35 +50,27 @@ loop-holds c =
       ranked-none (c .blank .result) (q .k) (q .weights) (q .next) (c .blank .ensures),
     )
 
--- src/lib.rt:178:32
 mul-joined : tie.Need-mul-joined Inv-loop μ-loop
 mul-joined c = search needs
 
--- src/lib.rt:178:32
 array-read-joined : tie.Need-array-read-joined Inv-loop μ-loop
 array-read-joined c = search needs
 
--- src/lib.rt:178:44
 mul-joined-2 : tie.Need-mul-joined-2 Inv-loop μ-loop
 mul-joined-2 c = search needs
 
--- src/lib.rt:178:44
 array-copy-out-joined : tie.Need-array-copy-out-joined Inv-loop μ-loop
 array-copy-out-joined c = search needs
 
--- src/lib.rt:178:13
 joined-requires : tie.Need-joined-requires Inv-loop μ-loop
 joined-requires c κs = search needs
 
--- src/lib.rt:179:13
 add-i : tie.Need-add-i Inv-loop μ-loop
 add-i c = search needs
 
--- src/lib.rt:177:9
 loop-less : tie.Need-loop-less Inv-loop μ-loop
 loop-less c = search needs
 
--- src/lib.rt:177:9
 loop-again : tie.Need-loop-again Inv-loop μ-loop
 loop-again c =
     let at = c .before .before .before in
@@ -103,7 +88,6 @@ loop-again c =
           (c .joined .ensures ∙ ap (λ s. joined (at .loop .list) (record { number = getD (q .numbers) i 0; score = s })) back),
     )
 
--- src/lib.rt:168:5
 returns : tie.Need-returns Inv-loop μ-loop
 returns c =
     let at = c .before in

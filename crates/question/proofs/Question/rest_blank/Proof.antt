@@ -1,18 +1,16 @@
+-- The invariant: what is left to test decides the whole.
+-- Assumes nothing.
 use mathlib.Core.Path.{ap}
 use Prim.Native.Nat.{_-_}
-use lib.ListN.{drop}
 use borrow.Author.Tests.{not-true, not-false}
+use borrow.Author.Needs.{needs}
+use lib.ListN.{drop}
 use Rattle.question.specs.Lines.{linesOf}
 use Rattle.question.specs.Calls.{allOf, blank}
 use Rattle.question.proofs.Stored.{roomy}
 use Rattle.question.proofs.Fitness.{Walk, rest-lines, walk-on, walk-fails, walk-ends}
-use borrow.Author.Needs.{needs}
 use Rattle.question.proofs.Question.rest_blank.Statement.{statement}
 use Rattle.question.proofs.Question.rest_blank.Tie as tie
-use Rattle.question.proofs.Question.rest_blank.Reads as reads
-use Rattle.question.proofs.Question.rest_blank.Lts as lts
-use Rattle.question.proofs.Question.shown.Reads as shown-reads
-use Rattle.question.proofs.is_blank.Reads as is-blank-reads
 
 abbrev Inv-loop : tie.InvT-loop
 Inv-loop self i₀ i =
@@ -21,15 +19,12 @@ Inv-loop self i₀ i =
 abbrev μ-loop : tie.MeasureT-loop
 μ-loop self i₀ i = 16 - i
 
--- src/lib.rt:421:21
 shown-requires : tie.Need-shown-requires Inv-loop μ-loop
 shown-requires c κs = search needs
 
--- src/lib.rt:421:21
 cast-i : tie.Need-cast-i Inv-loop μ-loop
 cast-i c = search needs
 
--- src/lib.rt:422:9
 loop-holds : tie.Need-loop-holds Inv-loop μ-loop
 loop-holds c =
     let start = c .before in
@@ -43,49 +38,39 @@ loop-holds c =
       decides = ap (allOf blank) (rest-lines q room (c .shown .result) (c .shown .ensures));
     }
 
--- src/lib.rt:423:26
 mul-is-blank : tie.Need-mul-is-blank Inv-loop μ-loop
 mul-is-blank c = search needs
 
--- src/lib.rt:423:26
 element-copy-out-is-blank : tie.Need-element-copy-out-is-blank Inv-loop μ-loop
 element-copy-out-is-blank c = search needs
 
--- src/lib.rt:423:43
 mul-is-blank-2 : tie.Need-mul-is-blank-2 Inv-loop μ-loop
 mul-is-blank-2 c = search needs
 
--- src/lib.rt:423:43
 element-copy-out-is-blank-2 : tie.Need-element-copy-out-is-blank-2 Inv-loop μ-loop
 element-copy-out-is-blank-2 c = search needs
 
--- src/lib.rt:423:17
 is-blank-requires : tie.Need-is-blank-requires Inv-loop μ-loop
 is-blank-requires c κs = search needs
 
--- src/lib.rt:424:17
 returns : tie.Need-returns Inv-loop μ-loop
 returns c =
     let turn = c .before .before .before .before in
     walk-fails (turn .before .loop .inv) (turn .loop-test .taken) (c .before .before .is-blank-arg2 .given) (c .before .is-blank .result) (c .before .is-blank .ensures)
     (not-true _ (c .if1 .taken))
 
--- src/lib.rt:426:13
 add-i : tie.Need-add-i Inv-loop μ-loop
 add-i c = search needs
 
--- src/lib.rt:422:9
 loop-less : tie.Need-loop-less Inv-loop μ-loop
 loop-less c = search needs
 
--- src/lib.rt:422:9
 loop-again : tie.Need-loop-again Inv-loop μ-loop
 loop-again c =
     let turn = c .before .before .before .before in
     walk-on (turn .before .loop .inv) (turn .loop-test .taken) (c .before .before .is-blank-arg2 .given) (c .before .is-blank .result) (c .before .is-blank .ensures)
     (not-false _ (c .if1 .left))
 
--- src/lib.rt:418:5
 returns-2 : tie.Need-returns-2 Inv-loop μ-loop
 returns-2 c = walk-ends (c .before .loop .inv) (c .loop-test .left)
 

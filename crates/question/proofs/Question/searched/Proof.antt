@@ -1,18 +1,15 @@
+-- The invariant: the question is what so many steps come to, and no more than the search takes; it stops exactly at its end.
+-- Assumes nothing.
 use mathlib.Core.Path.{_≡_, sym, _∙_, subst}
 use mathlib.Core.Bool.{false}
 use Prim.Native.Nat.{_+_, _-_, _<_}
-use borrow.Author.Tests.{not-true, not-false}
-use Rattle.question.specs.Lines.{finished}
 use native.Mathlib.Omega.{arith}
-use Rattle.question.proofs.Steps.{Searching, searching-start, searching-few, searching-more, searching-end, searching-wide}
+use borrow.Author.Tests.{not-true, not-false}
 use borrow.Author.Needs.{needs}
+use Rattle.question.specs.Lines.{finished}
+use Rattle.question.proofs.Steps.{Searching, searching-start, searching-few, searching-more, searching-end, searching-wide}
 use Rattle.question.proofs.Question.searched.Statement.{statement}
 use Rattle.question.proofs.Question.searched.Tie as tie
-use Rattle.question.proofs.Question.searched.Reads as reads
-use Rattle.question.proofs.Question.searched.Lts as lts
-use Rattle.question.proofs.Question.begun.Reads as begun-reads
-use Rattle.question.proofs.Question.finished.Reads as finished-reads
-use Rattle.question.proofs.Question.stepped.Reads as stepped-reads
 
 abbrev Inv-loop : tie.InvT-loop
 Inv-loop window steps₀ question₀ steps question = Searching window question₀ steps question
@@ -29,37 +26,29 @@ module _ (c : tie.After-stepped Inv-loop μ-loop) where
       let at = c .before .before .before in
       searching-few (at .before .before .before .before .args .window) (at .before .begun .result) (at .loop .steps) (at .loop .question) (at .loop .inv) unfinished
 
--- src/lib.rt:239:13
 returns : tie.Need-returns Inv-loop μ-loop
 returns c = sym (searching-wide (c .before .before .args .self) (c .before .before .args .window) (c .if1 .taken))
 
--- src/lib.rt:245:13
 begun-requires : tie.Need-begun-requires Inv-loop μ-loop
 begun-requires c κs = search needs
 
--- src/lib.rt:246:9
 loop-holds : tie.Need-loop-holds Inv-loop μ-loop
 loop-holds c =
     let start = c .before .before .before in
     searching-start (start .args .window) (start .args .self) (c .begun .result) (c .before .if1 .left) (c .begun .ensures)
 
--- src/lib.rt:246:16
 finished-requires : tie.Need-finished-requires Inv-loop μ-loop
 finished-requires c κs = search needs
 
--- src/lib.rt:247:13
 stepped-requires : tie.Need-stepped-requires Inv-loop μ-loop
 stepped-requires c κs = search needs
 
--- src/lib.rt:248:13
 add-steps : tie.Need-add-steps Inv-loop μ-loop
 add-steps c = omega (arith, few c)
 
--- src/lib.rt:246:9
 loop-less : tie.Need-loop-less Inv-loop μ-loop
 loop-less c = omega (arith, few c)
 
--- src/lib.rt:246:9
 loop-again : tie.Need-loop-again Inv-loop μ-loop
 loop-again c =
     let at = c .before .before .before in
@@ -67,7 +56,6 @@ loop-again c =
     subst (Searching w (at .before .begun .result) (at .loop .steps + 1)) (sym (c .stepped .ensures))
     (searching-more w (at .before .begun .result) (at .loop .steps) (at .loop .question) (at .loop .inv) (unfinished c))
 
--- src/lib.rt:235:5
 returns-2 : tie.Need-returns-2 Inv-loop μ-loop
 returns-2 c =
     let at = c .before .before in

@@ -1,25 +1,20 @@
+-- As many steps were taken as cells stand before the next one.
+-- Assumes nothing.
 use mathlib.Core.Path.{sym, _∙_}
-use Rattle.question.proofs.Marking.{steps-left, steps-all}
 use borrow.Author.Needs.{needs}
+use Rattle.question.proofs.Marking.{steps-left, steps-all}
 use Rattle.question.proofs.Question.steps.Statement.{statement}
 use Rattle.question.proofs.Question.steps.Tie as tie
-use Rattle.question.proofs.Question.steps.Reads as reads
-use Rattle.question.proofs.Question.steps.Lts as lts
-use Rattle.ranking.proofs.Weights.rank.Reads as rank-reads
 
--- src/lib.rt:259:38
 cast-rank : tie.Need-cast-rank
 cast-rank c = search needs
 
--- src/lib.rt:259:13
 rank-requires : tie.Need-rank-requires
 rank-requires c κs = search needs
 
--- src/lib.rt:259:13
 returns : tie.Need-returns
 returns c = c .rank .ensures ∙ sym (steps-left (c .before .before .args .self) (c .before .if1 .taken))
 
--- src/lib.rt:254:5
 returns-2 : tie.Need-returns-2
 returns-2 c = sym (steps-all (c .before .args .self) (c .if1 .left))
 

@@ -1,39 +1,32 @@
+-- Each branch is a case of the definition.
+-- Assumes nothing.
 use mathlib.Core.Path.{sym, ap, _∙_}
 use Prim.Native.Nat.{ℕ, _%_}
 use borrow.Author.Tests.{eq-eqb, ne-eqb}
+use borrow.Author.Needs.{needs}
 use mir.Syntax.{w32}
 use Rattle.ranking.specs.Cells.{cell}
 use Rattle.ranking.specs.Standing.{Held}
 use Rattle.ranking.proofs.Words.{kept}
 use Rattle.question.specs.Inner.{joined}
 use Rattle.question.proofs.Taking.{taking-none, taking-other, taking-here}
-use borrow.Author.Needs.{needs}
 use Rattle.question.proofs.Question.taking.Statement.{statement}
 use Rattle.question.proofs.Question.taking.Tie as tie
-use Rattle.question.proofs.Question.taking.Reads as reads
-use Rattle.question.proofs.Question.taking.Lts as lts
-use Rattle.question.proofs.Question.joined.Reads as joined-reads
-use Rattle.ranking.proofs.Grid.cell.Reads as cell-reads
-use Rattle.ranking.proofs.Weights.score.Reads as score-reads
 
 abbrev report : ℕ → ℕ → ℕ → Held
 report number loss shake = record { number = number; loss = loss % 4096; shake = shake % 4096 }
 
--- src/lib.rt:189:13
 returns : tie.Need-returns
 returns c =
     let a = c .before .args in
     sym (taking-none (a .self) (report (a .number) (a .loss) (a .shake)) (eq-eqb (a .number) 0 (c .if1 .taken)))
 
--- src/lib.rt:191:12
 cell-requires : tie.Need-cell-requires
 cell-requires c κs = search needs
 
--- src/lib.rt:191:12
 cast-if2 : tie.Need-cast-if2
 cast-if2 c = search needs
 
--- src/lib.rt:192:13
 returns-2 : tie.Need-returns-2
 returns-2 c =
     let first = c .before .before .before in
@@ -43,15 +36,12 @@ returns-2 c =
     (taking-other (a .self) r (ne-eqb (a .number) 0 (first .if1 .left))
     (ne-eqb (cell (r .loss) (r .shake)) (a .self .next) (λ e. c .if2 .taken (c .before .before .cell .ensures ∙ e))))
 
--- src/lib.rt:194:29
 score-requires : tie.Need-score-requires
 score-requires c κs = search needs
 
--- src/lib.rt:194:9
 joined-requires : tie.Need-joined-requires
 joined-requires c κs = search needs
 
--- src/lib.rt:185:5
 returns-3 : tie.Need-returns-3
 returns-3 c =
     let first = c .before .before .before .before .before in

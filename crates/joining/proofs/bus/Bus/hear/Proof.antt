@@ -1,118 +1,118 @@
+-- `joining::bus::Bus::hear` meets its contract: after i turns the sessions and the stored answers are those of the first i frames.
+-- Assumes nothing.
+use Rattle.joining.proofs.Driving.{turn-heard, turn-unheard}
+use lib.Seq.{sets, length-sets}
+use lib.ListN.{length, take, drop}
+use denote.Ref.{now}
+use Prim.Native.Nat.{ℕ, _≤_, _+_, _-_, _*_}
+use borrow.Author.Needs.{needs}
+use mathlib.Core.Logic.{⊎-elim}
+use mathlib.Core.Path.{_≡_, refl, _∙_, ap}
+use native.Mathlib.Omega.{arith}
+use Rattle.joining.specs.Run.{sessionsAt, answersAt}
+use Rattle.joining.specs.Bench.{framesIn}
+use Rattle.joining.specs.Driver.{allBytes}
 use Rattle.joining.proofs.bus.Bus.hear.Statement.{statement}
 use Rattle.joining.proofs.bus.Bus.hear.Tie as tie
-use Rattle.joining.proofs.bus.Bus.hear.Reads as reads
-use Rattle.joining.proofs.bus.Bus.hear.Lts as lts
-use Rattle.joining.proofs.Session.frame.Reads as frame-reads
-use Rattle.joining.proofs.bus.least.Reads as least-reads
-use Rattle.joining.proofs.bus.put_answer.Reads as put-answer-reads
-use Rattle.joining.proofs.frame_refusal.Reads as frame-refusal-reads
-use Rattle.wire.proofs.read32.Reads as read32-reads
 
 abbrev Inv-loop : tie.InvT-loop
-Inv-loop frames answers₀ sessions₀ n i₀ answers sessions i = ?
+Inv-loop frames answers₀ sessions₀ n i₀ answers sessions i = (i ≤ n) × (length answers ≡ length answers₀) × (sessions ≡ sessionsAt sessions₀ (framesIn i frames)) × (answers ≡ sets answers₀ 0 (allBytes (answersAt sessions₀ (framesIn i frames))))
 
 abbrev μ-loop : tie.MeasureT-loop
-μ-loop frames answers₀ sessions₀ n i₀ answers sessions i = ?
+μ-loop frames answers₀ sessions₀ n i₀ answers sessions i = n - i
 
--- src/bus.rt:47:13
 least-requires : tie.Need-least-requires Inv-loop μ-loop
-least-requires c κs = ?
+least-requires c κs = search needs
 
--- src/bus.rt:49:9
 loop-holds : tie.Need-loop-holds Inv-loop μ-loop
-loop-holds c = ?
+unfolding sessionsAt framesIn answersAt allBytes
+loop-holds c = (omega arith, refl, refl, refl)
 
--- src/bus.rt:50:22
 mul-at : tie.Need-mul-at Inv-loop μ-loop
-mul-at c = ?
+mul-at c = omega (arith, c .before .before .least .ensures)
 
--- src/bus.rt:51:17
 read32-requires : tie.Need-read32-requires Inv-loop μ-loop
-read32-requires c κs = ?
+read32-requires c κs = search needs
 
--- src/bus.rt:52:32
 add-data : tie.Need-add-data Inv-loop μ-loop
-add-data c = ?
+add-data c = omega (arith, c .before .before .before .least .ensures)
 
--- src/bus.rt:52:40
 add-data-2 : tie.Need-add-data-2 Inv-loop μ-loop
-add-data-2 c = ?
+add-data-2 c = omega (arith, c .before .before .before .least .ensures)
 
--- src/bus.rt:52:24
 sub-data : tie.Need-sub-data Inv-loop μ-loop
-sub-data c = ?
+sub-data c = omega arith
 
--- src/bus.rt:52:24
 part-data-start : tie.Need-part-data-start Inv-loop μ-loop
-part-data-start c = ?
+part-data-start c = omega arith
 
--- src/bus.rt:52:24
 part-data-end : tie.Need-part-data-end Inv-loop μ-loop
-part-data-end c = ?
+part-data-end c = omega (arith, c .before .before .before .least .ensures)
 
--- src/bus.rt:53:21
 cast-k : tie.Need-cast-k Inv-loop μ-loop
-cast-k c = ?
+cast-k c = omega arith
 
--- src/bus.rt:55:31
 mul-session : tie.Need-mul-session Inv-loop μ-loop
-mul-session c = ?
+mul-session c = omega arith
 
--- src/bus.rt:55:31
 array-copy-out-session : tie.Need-array-copy-out-session Inv-loop μ-loop
-array-copy-out-session c = ?
+array-copy-out-session c = omega arith
 
--- src/bus.rt:56:21
-frame-requires : tie.Need-frame-requires Inv-loop μ-loop
-frame-requires c κs = ?
+lend-requires : tie.Need-lend-requires Inv-loop μ-loop
+lend-requires c κs = search needs
 
--- src/bus.rt:58:17
 mul-sessions : tie.Need-mul-sessions Inv-loop μ-loop
-mul-sessions c = ?
+mul-sessions c = omega arith
 
--- src/bus.rt:58:17
 array-set-from-sessions : tie.Need-array-set-from-sessions Inv-loop μ-loop
-array-set-from-sessions c = ?
+array-set-from-sessions c = omega arith
 
--- src/bus.rt:60:37
 mul-put-answer : tie.Need-mul-put-answer Inv-loop μ-loop
-mul-put-answer c = ?
+mul-put-answer c = omega (arith, c .before .before .before .before .before .before .before .before .before .least .ensures)
 
--- src/bus.rt:60:17
 put-answer-requires : tie.Need-put-answer-requires Inv-loop μ-loop
-put-answer-requires c κs = ?
+put-answer-requires c κs = omega (arith, c .before .before .before .before .before .before .before .before .before .least .ensures)
 
--- src/bus.rt:62:46
 frame-refusal-requires : tie.Need-frame-refusal-requires Inv-loop μ-loop
-frame-refusal-requires c κs = ?
+frame-refusal-requires c κs = search needs
 
--- src/bus.rt:63:37
 mul-put-answer-2 : tie.Need-mul-put-answer-2 Inv-loop μ-loop
-mul-put-answer-2 c = ?
+mul-put-answer-2 c = omega (arith, c .before .before .before .before .before .before .before .least .ensures)
 
--- src/bus.rt:63:17
 put-answer-requires-2 : tie.Need-put-answer-requires-2 Inv-loop μ-loop
-put-answer-requires-2 c κs = ?
+put-answer-requires-2 c κs = omega (arith, c .before .before .before .before .before .before .before .least .ensures)
 
--- src/bus.rt:65:13
 add-i : tie.Need-add-i Inv-loop μ-loop
-add-i c = ?
+add-i c = omega (arith, c .before .before .before .before .before .least .ensures)
 
--- src/bus.rt:49:9
 loop-less : tie.Need-loop-less Inv-loop μ-loop
-loop-less c = ?
+loop-less c = omega arith
 
--- src/bus.rt:49:9
 loop-again : tie.Need-loop-again Inv-loop μ-loop
-loop-again c = ?
+loop-again c =
+    let a = c .before .before .before .before .before .before .before .before .before .args in
+    let l = c .before .before .before .before .loop in
+    let frames = now (a .frames) in
+    let eight : 12 * l .i + 12 - (12 * l .i + 4) ≡ 8 = omega arith in
+    let data-is = ap (λ (n : ℕ). take n (drop (12 * l .i + 4) frames)) eight in
+    let id-is = c .before .before .read32 .ensures in
+    ⊎-elim
+    (λ w.
+    let t = turn-heard frames (now (a .answers)) (a .self .sessions) (l .i) (l .inv .2) (l .inv .3) id-is data-is (w .0 .taken) (w .2 .ensures) (w .9) (w .8 ∙ w .5 .ensures) in
+    (omega arith, rw (t .1, length-sets), t .0, t .1))
+    (λ w.
+    let t = turn-unheard frames (now (a .answers)) (a .self .sessions) (l .i) (l .inv .2) (l .inv .3) id-is data-is (w .0 .left) (w .1 .ensures) (w .7) (w .6 ∙ w .3 .ensures) in
+    (omega arith, rw (t .1, length-sets), t .0, t .1))
+    (c .if1 .came)
 
--- src/bus.rt:41:5
 same-length : tie.Need-same-length Inv-loop μ-loop
-same-length c = ?
+same-length c = c .before .loop .inv .1
 
--- src/bus.rt:41:5
 returns : tie.Need-returns Inv-loop μ-loop
-returns c = ?
+returns c =
+    let l = c .before .loop in
+    let end : l .i ≡ c .before .before .least .result = omega arith in
+    (c .before .before .least .ensures, (rw (← end) (l .inv .2), rw (← end) (l .inv .3)))
 
 pub hear-spec : {M : Type 1} → statement M
 hear-spec =
@@ -132,7 +132,7 @@ hear-spec =
     cast-k
     mul-session
     array-copy-out-session
-    frame-requires
+    lend-requires
     mul-sessions
     array-set-from-sessions
     mul-put-answer

@@ -1,16 +1,14 @@
--- `report_examples::front` is safe: the part ends within the slice, as the test says.
+-- `joining_examples::frames::front` is safe: the part ends within the bytes, as the test says.
 -- Assumes nothing.
 use mathlib.Core.Path.{sym}
+use native.Mathlib.Omega.{arith}
 use lib.Seq.{length-take-le}
-use denote.Ref.{now}
 use borrow.Author.Needs.{needs}
-use Rattle.report_examples.proofs.front.Statement.{statement}
-use Rattle.report_examples.proofs.front.Tie as tie
+use Rattle.joining_examples.proofs.frames.front.Statement.{statement}
+use Rattle.joining_examples.proofs.frames.front.Tie as tie
 
 slice-aggregate-result : tie.Need-slice-aggregate-result
-slice-aggregate-result c =
-    let a = c .before .before .args in
-    sym (length-take-le (a .n) (now (a .s)) (c .before .if1 .taken))
+slice-aggregate-result c = sym (length-take-le (c .before .before .args .n) _ (omega arith))
 
 returns : tie.Need-returns
 returns c = search needs

@@ -1,9 +1,9 @@
--- `report_examples::print::bytes` is safe and ends: the test keeps the index below the length, and what is left of the length falls.
+-- `printing::bytes` is safe and ends: the test keeps the index below the length, and what is left of the length falls.
 -- Assumes nothing.
 use Prim.Native.Nat.{_-_}
 use native.Mathlib.Omega.{arith}
-use Rattle.report_examples.proofs.print.bytes.Statement.{statement}
-use Rattle.report_examples.proofs.print.bytes.Tie as tie
+use Rattle.printing.proofs.bytes.Statement.{statement}
+use Rattle.printing.proofs.bytes.Tie as tie
 use lib.ListN.{length}
 
 abbrev Inv-loop : tie.InvT-loop

@@ -1,0 +1,143 @@
+-- The payload of a finished report stands in its session's bytes: opening set them all to 255, and no packet stores past the size, so the
+-- place of the note's tag tells where the payload ends.
+-- Assumes nothing.
+use mathlib.Core.Path.{_≡_, refl, sym, _∙_, ap}
+use mathlib.Core.Bool.{true}
+use mathlib.Core.Logic.{⊎-elim}
+use mathlib.Core.List.{List, [], _∷_}
+use Prim.Native.Nat.{ℕ, suc, _+_, _-_, _≤_, _<_}
+use native.Mathlib.Omega.{arith}
+use borrow.Author.Tests.{eq-eqb, ne-eqb}
+use lib.ListN.{length, getD, take, drop, set, length-take, length-replicate, getD-replicate}
+use lib.Seq.{sets, getD-set-other, length-sets, getD-take, length-take-le}
+use Rattle.wire.specs.Bytes.{number, part, fieldAt, isField}
+use Rattle.wire.proofs.Numbers.{number-two}
+use Rattle.wire.proofs.Fields.{stands-facts}
+use Rattle.report.specs.declared.Report.{Report}
+use Rattle.report.specs.declared.Reading.{Reading}
+use Rattle.report.specs.declared.Reading.the-variants as reading
+use Rattle.report.specs.Payload.{readPayload}
+use Rattle.report.proofs.Places.{Shown, order-shows}
+use Rattle.report.proofs.Reader.{accepted, order-of}
+use Rattle.joining.specs.declared.Session.{Session}
+use Rattle.joining.specs.declared.Answer.the-variants.{Refused, Kept, Complete}
+use Rattle.joining.specs.declared.Taken.{Taken}
+use Rattle.joining.specs.Frame.{Frame}
+use Rattle.joining.specs.Joining.{fit, place, stored, yields, sizeHeld, payloadHeld, freshSession}
+use Rattle.joining.specs.Run.{soloStep, soloSession, freshSessions, sessionOf, sessionsAt, ownFrames}
+use Rattle.joining.proofs.Fitness.{Open, open-numbers, fit-other}
+use Rattle.joining.proofs.Cases.{Case, passed, shut, stray, good, next, last, cases}
+use Rattle.joining.proofs.Mixing.{mixing}
+use Rattle.joining.proofs.Reached.{step-fit, fresh-fit, fresh-of}
+
+-- Past an open session's size its bytes are 255, as opening left them.
+pub record Clean (s : Session) : Type 0 where
+  pub long : length (s .bytes) ≡ 84
+  pub past : (s .size ≡ 0 → ⊥) → (i : ℕ) → s .size ≤ i → i < 84 → getD (s .bytes) i 0 ≡ 255
+
+sets-before : (l : List ℕ) (i : ℕ) (v : List ℕ) (j : ℕ) → i + length v ≤ j → getD (sets l i v) j 0 ≡ getD l j 0
+sets-before l i [] j h = refl
+sets-before l i (a ∷ v) j h =
+    sets-before (set l i a) (suc i) v j (omega arith) ∙ getD-set-other l i j a 0 (λ e. omega arith)
+
+-- A packet stores nothing past the size.
+stored-past : (s : Session) (d : List ℕ) → Open s → (j : ℕ) → s .size ≤ j → getD (stored s d) j 0 ≡ getD (s .bytes) j 0
+stored-past s d o j h =
+    sets-before (s .bytes) (place s) (take (s .size - place s) (drop 1 d)) j
+    (omega (arith, length-take (s .size - place s) (drop 1 d), o .count, o .first, o .last))
+
+pub step-clean : (s : Session) (f : Frame) → fit s ≡ true → Clean s → Clean (soloStep s f .session)
+step-clean s f fits c = go (cases s f fits)
+  where
+    go : Case s f → Clean (soloStep s f .session)
+    go (passed n l u p e) = rw e c
+    go (shut n p e) = rw e (record { long = c .long; past = λ h. absurd (h refl) })
+    go (stray p z e) = rw e c
+    go (good p k a e) = rw e (record { long = length-replicate {A = ℕ} 84 255; past = λ h i l u. getD-replicate 84 i 255 0 u })
+    go (next p o n l e) =
+        let open-s = open-numbers s (sym (fit-other s o) ∙ fits) in
+        rw e
+        (record {
+          long = length-sets (s .bytes) (place s) (take (s .size - place s) (drop 1 (f .data-bytes))) ∙ c .long;
+          past = λ h i l u. stored-past s (f .data-bytes) open-s i l ∙ c .past o i l u;
+        })
+    go (last p o n l e) =
+        rw e
+        (record {
+          long = length-sets (s .bytes) (place s) (take (s .size - place s) (drop 1 (f .data-bytes))) ∙ c .long;
+          past = λ h. absurd (h refl);
+        })
+
+pub solo-clean : (s : Session) (fs : List Frame) → fit s ≡ true → Clean s → Clean (soloSession s fs)
+unfolding soloSession
+solo-clean s [] fits c = c
+solo-clean s (f ∷ fs) fits c = solo-clean (soloStep s f .session) fs (step-fit s f fits) (step-clean s f fits c)
+
+fresh-clean : Clean freshSession
+fresh-clean = record { long = length-replicate {A = ℕ} 84 255; past = λ h. absurd (h refl) }
+
+-- So are all that 254 fresh sessions come to.
+pub reached-clean : (fs : List Frame) (k : ℕ) → k < 254 → Clean (sessionOf k (sessionsAt freshSessions fs))
+unfolding sessionsAt
+reached-clean fs k h =
+    rw (mixing k h freshSessions fs (length-replicate 254 freshSession) .0, fresh-of k h)
+    (solo-clean freshSession (ownFrames k fs) fresh-fit fresh-clean)
+
+-- Of 84 bytes whose front shows a payload and that go on with 255, the payload's size is found.
+module _ (b : List ℕ) (size : ℕ) (long : length b ≡ 84) (within : size ≤ 84) (past : (i : ℕ) → size ≤ i → i < 84 → getD b i 0 ≡ 255) where
+  of-front : length (take size b) ≡ size
+  of-front = length-take-le size b (omega arith)
+
+  plain-found : length (take size b) ≡ 17 → sizeHeld b ≡ size
+  plain-found e =
+      let seventeen : size ≡ 17 = sym of-front ∙ e in
+      let none : getD b 17 0 ≡ 4 → ⊥ = λ z. omega (arith, past 17 (omega arith) (omega arith)) in
+      rw (ne-eqb (getD b 17 0) 4 none) (sym seventeen)
+
+  noted-found : 20 ≤ length (take size b) → isField (fieldAt (take size b) 17) 4 (length (take size b) - 20) ≡ true → sizeHeld b ≡ size
+  noted-found low f =
+      let p = take size b in
+      let stands = stands-facts p 17 4 (length p - 20) f in
+      let front : length p ≡ size = of-front in
+      let tag : getD b 17 0 ≡ 4 = sym (getD-take size b 17 0 (omega arith)) ∙ stands .1 in
+      let first : getD p 18 0 ≡ getD b 18 0 = getD-take size b 18 0 (omega arith) in
+      let second : getD p 19 0 ≡ getD b 19 0 = getD-take size b 19 0 (omega arith) in
+      let says : number (part 18 2 b) ≡ length p - 20 = omega (arith, number-two p 18, number-two b 18, stands .2) in
+      rw (eq-eqb (getD b 17 0) 4 tag) (omega arith)
+
+  size-found : Shown (take size b) → sizeHeld b ≡ size
+  size-found s = ⊎-elim plain-found (λ w. noted-found (w .0) (w .2)) (s .rest)
+
+read-of : (a : Reading) (r : Report) → yields a ≡ Complete r → a ≡ reading.Accepted r
+read-of (reading.Accepted q) r e = cc
+read-of (reading.Refused n) r e = absurd (let z : _≡_ {A = ℕ} 0 1 = cc in omega arith)
+
+-- Where a frame completes a report, the session's bytes hold the payload that it was read from, so its note is that report's.
+pub held-payload : (s : Session) (f : Frame) (r : Report) → fit s ≡ true → Clean s → soloStep s f .answer ≡ Complete r
+    → (payloadHeld (soloStep s f .session .bytes) ≡ take (s .size) (stored s (f .data-bytes))) × (readPayload (payloadHeld (soloStep s f .session .bytes)) ≡ reading.Accepted r)
+unfolding payloadHeld
+held-payload s f r fits c h = go (cases s f fits)
+  where
+    refusal : {n : ℕ} → soloStep s f .answer ≡ Refused n → ⊥
+    refusal e = let z : _≡_ {A = ℕ} 0 1 = cc in omega arith
+
+    kept : soloStep s f .answer ≡ Kept → ⊥
+    kept e = let z : _≡_ {A = ℕ} 0 1 = cc in omega arith
+
+    go : Case s f
+        → (payloadHeld (soloStep s f .session .bytes) ≡ take (s .size) (stored s (f .data-bytes))) × (readPayload (payloadHeld (soloStep s f .session .bytes)) ≡ reading.Accepted r)
+    go (passed n l u p e) = absurd (refusal (ap (λ (t : Taken). t .answer) e))
+    go (shut n p e) = absurd (refusal (ap (λ (t : Taken). t .answer) e))
+    go (stray p z e) = absurd (refusal (ap (λ (t : Taken). t .answer) e))
+    go (good p k a e) = absurd (kept (ap (λ (t : Taken). t .answer) e))
+    go (next p o n l e) = absurd (kept (ap (λ (t : Taken). t .answer) e))
+    go (last p o n l e) =
+        let b = stored s (f .data-bytes) in
+        let open-s = open-numbers s (sym (fit-other s o) ∙ fits) in
+        let read : readPayload (take (s .size) b) ≡ reading.Accepted r =
+        read-of (readPayload (take (s .size) b)) r (sym (ap (λ (t : Taken). t .answer) e) ∙ h) in
+        let shown = order-shows (take (s .size) b) (order-of (take (s .size) b) (accepted (take (s .size) b) read .0)) in
+        let long : length b ≡ 84 = length-sets (s .bytes) (place s) (take (s .size - place s) (drop 1 (f .data-bytes))) ∙ c .long in
+        let size : sizeHeld b ≡ s .size =
+        size-found b (s .size) long (open-s .high) (λ i l u. stored-past s (f .data-bytes) open-s i l ∙ c .past o i l u) shown in
+        (rw (e, size), rw (e, size) read)

@@ -1,0 +1,2 @@
+-- The log program's lines: what the functions of `text` are held to.
+pub mod Text

@@ -1,0 +1,66 @@
+-- The lines that the log program prints (document 01, "Bench sender and log program").
+use Prim.Native.Nat.{ℕ, zero, suc, _+_, _-_, _*_, _/_, _%_, _^_, min}
+use mathlib.Core.List.{List, [], _∷_, _++_}
+use mathlib.Core.Bool.{cond}
+use lib.ListN.{length}
+use lib.Dec.{ltb}
+use lib.IntN.{ℤ, pos, negsuc}
+
+-- The digits of n in ASCII, at most k of them before the last.
+unfoldable pub spelled : ℕ → ℕ → List ℕ
+spelled zero n = (48 + n) ∷ []
+spelled (suc k) n = cond (ltb n 10) ((48 + n) ∷ []) (spelled k (n / 10) ++ (48 + n % 10) ∷ [])
+
+-- "Numbers are decimal without leading zeros": no number n has more than n digits before its last.
+unfoldable pub decimal : ℕ → List ℕ
+decimal n = spelled n n
+
+-- "A minus before a negative one."
+unfoldable pub signed : ℤ → List ℕ
+signed (pos n) = decimal n
+signed (negsuc n) = 45 ∷ decimal (suc n)
+
+-- A space and a number.
+unfoldable pub word : ℕ → List ℕ
+word n = 32 ∷ decimal n
+
+-- "`S item slot steps`"; "each line ends in byte 10".
+unfoldable pub sLine : ℕ → ℕ → ℕ → List ℕ
+sLine item slot steps = 83 ∷ [] ++ word item ++ word slot ++ word steps ++ 10 ∷ []
+
+-- "`R item code`."
+unfoldable pub rLine : ℕ → ℕ → List ℕ
+rLine item code = 82 ∷ [] ++ word item ++ word code ++ 10 ∷ []
+
+-- A report on a question's list.
+pub record Entry : Type 0 where
+  pub number : ℕ
+  pub score : ℤ
+
+-- "` number:score`."
+unfoldable pub entry : Entry → List ℕ
+entry e = word (e .number) ++ 58 ∷ [] ++ signed (e .score)
+
+-- Entries in a row.
+unfoldable pub entries : List Entry → List ℕ
+entries [] = []
+entries (e ∷ es) = entry e ++ entries es
+
+-- "`Q slot n` followed by n times ` number:score`."
+unfoldable pub qLine : ℕ → List Entry → List ℕ
+qLine slot es = 81 ∷ [] ++ word slot ++ word (length es) ++ entries es ++ 10 ∷ []
+
+-- The entries that numbers and scores beside each other stand for.
+unfoldable pub listed : List ℕ → List ℤ → List Entry
+listed [] ss = []
+listed (n ∷ ns) [] = []
+listed (n ∷ ns) (s ∷ ss) = record { number = n; score = s } ∷ listed ns ss
+
+-- The place behind a text that starts at `at`; where a `usize` is too small for it, the largest one.
+unfoldable pub behind : ℕ → List ℕ → ℕ
+behind at text = min (at + length text) (2 ^ 64 - 1)
+
+-- The other way, for the promise on `decimal`: the number that ASCII digits stand for, where those before them stand for n.
+unfoldable pub readOn : ℕ → List ℕ → ℕ
+readOn n [] = n
+readOn n (d ∷ ds) = readOn (10 * n + (d - 48)) ds

@@ -1,0 +1,2 @@
+-- The worked examples under one claim.
+pub mod Table
