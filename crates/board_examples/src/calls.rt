@@ -166,11 +166,5 @@ fn signed(z: i32) {
     let mut space = [0u8; 12];
     let room: &mut [u8] = &mut space;
     let stop = put_signed(room, 0, z);
-    first(room, stop);
-}
-
-fn first(s: &[u8], stop: usize) {
-    if stop <= s.len() {
-        text(&s[..stop]);
-    }
+    text(wire::front(room, stop));
 }

@@ -25,17 +25,22 @@ fn run(size: u16, reports: u16, seed: u32, kind: u8) {
     number(seed as u64);
     number(kind as u64);
     end();
-    let mut board = asked(Board::fresh(size).board);
+    let board = asked(Board::fresh(size).board);
+    lists(after_all(board, reports, seed, kind));
+}
+
+fn after_all(board: Board, reports: u16, seed: u32, kind: u8) -> Board {
+    let mut next = board;
     let mut at = seed;
     let mut i: u16 = 0;
     while i < reports {
         let loss = turned(at);
         let shake = turned(loss);
-        board = turn(board, i, value(loss, kind), value(shake, kind));
+        next = turn(next, i, value(loss, kind), value(shake, kind));
         at = shake;
         i += 1;
     }
-    lists(board);
+    next
 }
 
 // One report, now and then with a question replaced and the lists shown.
@@ -52,8 +57,8 @@ fn turn(board: Board, i: u16, loss: u16, shake: u16) -> Board {
 
 fn entered(board: Board, loss: u16, shake: u16) -> Board {
     let answer = board.enter(loss, shake);
-    let steps = total(answer.steps);
-    if answer.refusal != 0 || steps != 0 {
+    let steps = answer.steps;
+    if answer.refusal != 0 || total(steps) != 0 {
         text(b"enter");
         number(loss as u64);
         number(shake as u64);
@@ -67,11 +72,11 @@ fn entered(board: Board, loss: u16, shake: u16) -> Board {
 }
 
 // The steps of all searches together.
-fn total(steps: [u16; 32]) -> u32 {
-    let mut sum: u32 = 0;
+fn total(steps: [u16; 32]) -> u16 {
+    let mut sum: u16 = 0;
     let mut i: usize = 0;
     while i < 32 {
-        sum = std::num::wrapping_add_u32(sum, steps[i] as u32);
+        sum = std::num::wrapping_add_u16(sum, steps[i]);
         i += 1;
     }
     sum

@@ -210,7 +210,14 @@ fn lines(board: Board, question: Question) {
     line(b"first line 8:7500", board, question, 0, 8, 7500);
     line(b"first line 11:7500", board, question, 0, 11, 7500);
     line(b"first line 6:7501", board, question, 0, 6, 7501);
-    line(b"first line 6:2147483647", board, question, 0, 6, 2147483647);
+    line(
+        b"first line 6:2147483647",
+        board,
+        question,
+        0,
+        6,
+        2147483647,
+    );
     line(b"last line 5:2999", board, question, 3, 5, 2999);
     line(b"last line 5:-3000", board, question, 3, 5, -3000);
     line(b"last line 4:3000", board, question, 3, 4, 3000);
