@@ -137,12 +137,12 @@ module _ (w : Window) (fit : fitWindow w ≡ true) (whole : window.Whole w) (los
           let first = ap (λ l. top k ws (newReport w loss shake ∷ l)) split ∙ top-same k ws (newReport w loss shake ∷ o ∷ rest) (o ∷ newReport w loss shake ∷ rest) (same-swap (newReport w loss shake) o rest) in
           let number : w .entered + 1 - w .size ≡ w .entered - w .held + 1 = omega (arith, ranges .ring .were-entered) in
           let named : entry ws o ∈ best above k (entry ws o ∷ map (entry ws) (newReport w loss shake ∷ rest)) → ⊥ = λ m.
-          clash
-          (ap (lists (asked k ws (top k ws (newReport w loss shake ∷ heldReports w)) next)) (if-not 0 (w .entered + 1 - w .size) t ∙ number)
-          ∙ lists-member (asked k ws (top k ws (newReport w loss shake ∷ heldReports w)) next) (entry ws o)
-          (subst (λ l. entry ws o ∈ l) (sym first ∙ sym (lines-asked k ws (top k ws (newReport w loss shake ∷ heldReports w)) next (omega (arith, length-best-le above above-strict k (map (entry ws) (newReport w loss shake ∷ heldReports w)))))) m)
-          (omega arith))
-          unnamed in
+            clash
+            (ap (lists (asked k ws (top k ws (newReport w loss shake ∷ heldReports w)) next)) (if-not 0 (w .entered + 1 - w .size) t ∙ number)
+            ∙ lists-member (asked k ws (top k ws (newReport w loss shake ∷ heldReports w)) next) (entry ws o)
+            (subst (λ l. entry ws o ∈ l) (sym first ∙ sym (lines-asked k ws (top k ws (newReport w loss shake ∷ heldReports w)) next (omega (arith, length-best-le above above-strict k (map (entry ws) (newReport w loss shake ∷ heldReports w)))))) m)
+            (omega arith))
+            unnamed in
           first
           ∙ best-leave above above-strict k (entry ws o) (map (entry ws) (newReport w loss shake ∷ rest)) named
           ∙ top-same k ws (newReport w loss shake ∷ rest) (rest ++ (newReport w loss shake ∷ [])) (same-end (newReport w loss shake) rest)

@@ -145,8 +145,8 @@ module _ {n : ℕ} {past : List Values} (b : Board) (kept : Kept n past b) where
         since = since-added n past w v (kept .since) (may .loss-fits) (may .shake-fits) (omega (arith, may .room, kept .since .all-entered));
         many = length-map (b .slots) (λ q. entering w (v .loss) (v .shake) q .question) ∙ kept .many;
         each = λ z m.
-            let r = Memᴰ·of-map (λ q. entering w (v .loss) (v .shake) q .question) (b .slots) m in
-            subst (Slot (added w (v .loss) (v .shake))) (r .2) (go (r .0) (all-in (slotFit w) (b .slots) slots-fit (r .0) (r .1)) (kept .each (r .0) (r .1)));
+          let r = Memᴰ·of-map (λ q. entering w (v .loss) (v .shake) q .question) (b .slots) m in
+          subst (Slot (added w (v .loss) (v .shake))) (r .2) (go (r .0) (all-in (slotFit w) (b .slots) slots-fit (r .0) (r .1)) (kept .each (r .0) (r .1)));
       }
     where
       may-enter : Enterable (b .window .entered) (v .loss) (v .shake)
