@@ -8,13 +8,11 @@ use printing::text;
 use ranking::Weights;
 
 pub fn all() {
-    run(1, 40, 1, 0);
-    run(2, 60, 2, 3);
-    run(10, 200, 3, 0);
-    run(16, 150, 4, 2);
-    run(50, 300, 5, 3);
-    run(50, 130, 6, 4);
-    run(1024, 1400, 7, 0);
+    run(1, 20, 1, 0);
+    run(2, 24, 2, 3);
+    run(10, 60, 3, 0);
+    run(16, 50, 4, 2);
+    run(50, 90, 5, 3);
 }
 
 // A board of that size, with its 32 questions and after so many reports of a kind.
