@@ -1,6 +1,9 @@
 // Boards with every slot in use, and reports from a seed: of the entries those that search print a line.
 use crate::calls::after_read;
+use crate::calls::read;
 use crate::calls::searches;
+use crate::calls::set;
+use crate::calls::started;
 use board::Board;
 use printing::end;
 use printing::number;
@@ -13,6 +16,7 @@ pub fn all() {
     run(10, 60, 3, 0);
     run(16, 50, 4, 2);
     run(50, 90, 5, 3);
+    ring();
 }
 
 // A board of that size, with its 32 questions and after so many reports of a kind.
@@ -24,26 +28,35 @@ fn run(size: u16, reports: u16, seed: u32, kind: u8) {
     number(kind as u64);
     end();
     let board = asked(Board::fresh(size).board);
-    lists(after_all(board, reports, seed, kind));
+    lists(after_all(board, reports, seed, kind, false));
 }
 
-fn after_all(board: Board, reports: u16, seed: u32, kind: u8) -> Board {
+// N 1,024 and one question, until the first six rows have changed.
+fn ring() {
+    let board = set(started(1024), 0, 3, 1, 1);
+    read(after_all(board, 1030, 63, 0, true), 0);
+}
+
+fn after_all(board: Board, reports: u16, seed: u32, kind: u8, alone: bool) -> Board {
     let mut next = board;
     let mut at = seed;
     let mut i: u16 = 0;
     while i < reports {
         let loss = turned(at);
         let shake = turned(loss);
-        next = turn(next, i, value(loss, kind), value(shake, kind));
+        next = turn(next, i, value(loss, kind), value(shake, kind), alone);
         at = shake;
         i += 1;
     }
     next
 }
 
-// One report, now and then with a question replaced and the lists shown.
-fn turn(board: Board, i: u16, loss: u16, shake: u16) -> Board {
+// One report, alone or now and then with a question replaced and the lists shown.
+fn turn(board: Board, i: u16, loss: u16, shake: u16, alone: bool) -> Board {
     let mut next = entered(board, loss, shake);
+    if alone {
+        return next;
+    }
     if i % 7 == 3 {
         next = replaced(next, (i % 32) as u8, i);
     }

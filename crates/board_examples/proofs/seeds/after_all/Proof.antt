@@ -6,10 +6,10 @@ use Rattle.board_examples.proofs.seeds.after_all.Statement.{statement}
 use Rattle.board_examples.proofs.seeds.after_all.Tie as tie
 
 abbrev Inv-loop : tie.InvT-loop
-Inv-loop reports seed kind next₀ at₀ i₀ next at i = Unit {0}
+Inv-loop reports seed kind alone next₀ at₀ i₀ next at i = Unit {0}
 
 abbrev μ-loop : tie.MeasureT-loop
-μ-loop reports seed kind next₀ at₀ i₀ next at i = reports - i
+μ-loop reports seed kind alone next₀ at₀ i₀ next at i = reports - i
 
 loop-holds : tie.Need-loop-holds Inv-loop μ-loop
 loop-holds c = tt
