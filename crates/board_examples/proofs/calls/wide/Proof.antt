@@ -1,0 +1,15 @@
+-- `board_examples::calls::wide` is safe: a number of 16 bits fits 32.
+-- Assumes nothing.
+use native.Mathlib.Omega.{arith}
+use mir.Facts.{toZ-ofZ}
+use Rattle.board_examples.proofs.calls.wide.Statement.{statement}
+use Rattle.board_examples.proofs.calls.wide.Tie as tie
+
+cast-result : tie.Need-cast-result
+cast-result c = rw (toZ-ofZ (c .fits .weight)) (record { sfits = omega (arith, c .fits .weight .sfits) })
+
+returns : tie.Need-returns
+returns c = tt
+
+pub wide-spec : {M : Type 1} → statement M
+wide-spec = tie.close (tie.spec cast-result returns)
