@@ -3,3 +3,4 @@ pub mod Calls
 pub mod Searches
 pub mod Frames
 pub mod Cutting
+pub mod Feeding

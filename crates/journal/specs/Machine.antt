@@ -3,7 +3,7 @@ use Prim.Native.Nat.{ℕ, _+_, _≤_, _<_, min}
 use mathlib.Core.Path.{_≡_}
 use mathlib.Core.Bool.{Bool, true, false, cond}
 use mathlib.Core.List.{List, [], _∷_, _++_}
-use lib.ListN.{length, getD, set, take, replicate}
+use lib.ListN.{length, getD, set, take, drop, replicate}
 use lib.Seq.{sets}
 use lib.Dec.{leb, eqb}
 use Rattle.wire.specs.Bytes.{number, part}
@@ -29,9 +29,13 @@ sizeIn w = number (part 1 2 (w .bytes))
 unfoldable pub isWhole : Waiting → Bool
 isWhole w = leb (3 + sizeIn w) (w .have)
 
--- Its value; none where it is too long for every known item, as its length is wrong either way.
+-- Where a value of that size ends; at its start where it is too long for every known item.
+unfoldable pub valueEnd : ℕ → ℕ
+valueEnd size = cond (leb size 12) (3 + size) 3
+
+-- Its value; none where it is too long, as its length is wrong either way.
 unfoldable pub valueIn : Waiting → List ℕ
-valueIn w = cond (leb (sizeIn w) 12) (part 3 (sizeIn w) (w .bytes)) []
+valueIn w = drop 3 (take (valueEnd (sizeIn w)) (w .bytes))
 
 -- The text of bytes that came, the log that they leave, and what then waits.
 pub record Came : Type 0 where

@@ -1,11 +1,11 @@
 // A log that comes in pieces of any size: what has come of the next item waits, and whole items are done as they come.
 ghost use mathlib.Core.Path.{_≡_};
 ghost use Prim.Native.Nat.{_+_, min};
-ghost use lib.ListN.{getD};
+ghost use lib.ListN.{getD, drop};
 ghost use lib.Seq.{sets};
 ghost use Rattle.text.specs.Text.{behind};
 ghost use Rattle.journal.specs.Log.{Stores, itemDone};
-ghost use Rattle.journal.specs.Machine.{nothing, withByte, isWhole, valueIn, hasRoom, Feeds, endLine};
+ghost use Rattle.journal.specs.Machine.{nothing, withByte, isWhole, valueEnd, valueIn, hasRoom, Feeds, endLine};
 use crate::Done;
 use crate::Log;
 
@@ -28,7 +28,7 @@ impl Waiting {
     pub const LONGEST: u32 = 65538;
 
     // The longest value of a known item.
-    pub const VALUE: usize = 12;
+    pub const VALUE: u16 = 12;
 
     // Nothing waits.
     pub fn nothing() -> Waiting
@@ -63,11 +63,8 @@ impl Waiting {
     {
         let bytes = self.bytes;
         let tag = wire::byte(&bytes, 0);
-        let size = wire::read16(&bytes, 1) as usize;
-        if size <= Waiting::VALUE {
-            return log.item(tag, &bytes[3..3 + size], out, at);
-        }
-        log.item(tag, &bytes[3..3], out, at)
+        let end = value_end(wire::read16(&bytes, 1));
+        log.item(tag, behind_head(wire::front(&bytes, end)), out, at)
     }
 }
 
@@ -123,6 +120,27 @@ impl Log {
         }
         text::put_r(out, at, crate::next_item(self.items), Log::CUT)
     }
+}
+
+// Where the value ends of an item with a value of that size; at its start where that is too long.
+fn value_end(size: u16) -> usize
+    ensures { λ r. ⌜ r ≡ valueEnd size ⌝ }
+{
+    if size <= Waiting::VALUE {
+        3 + (size as usize)
+    } else {
+        3
+    }
+}
+
+// What stands behind a field's head.
+fn behind_head(s: &[u8]) -> &[u8]
+    ensures { λ r. ⌜ now r ≡ drop 3 (now (s .entry)) ⌝ }
+{
+    if s.len() < 3 {
+        return &s[s.len()..];
+    }
+    &s[3..]
 }
 
 fn one_more(have: u32) -> u32

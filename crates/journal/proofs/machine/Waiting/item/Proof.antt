@@ -1,13 +1,14 @@
--- `journal::machine::Waiting::item` meets its contract: TODO.
+-- `journal::machine::Waiting::item` meets its contract: the value is what stands behind the head.
 -- Assumes nothing.
+use mathlib.Core.Path.{ap, ap₂, _∙_}
+use Prim.Native.Nat.{ℕ}
+use lib.ListN.{take, drop}
+use Rattle.journal.specs.Log.{itemDone}
+use Rattle.journal.specs.Machine.{valueEnd, valueIn}
+use Rattle.journal.proofs.Calls.{outcome-is}
 use borrow.Author.Needs.{needs}
 use Rattle.journal.proofs.machine.Waiting.item.Statement.{statement}
 use Rattle.journal.proofs.machine.Waiting.item.Tie as tie
-use Rattle.journal.proofs.machine.Waiting.item.Reads as reads
-use Rattle.journal.proofs.machine.Waiting.item.Lts as lts
-use Rattle.journal.proofs.Log.item.Reads as item-reads
-use Rattle.wire.proofs.byte.Reads as byte-reads
-use Rattle.wire.proofs.read16.Reads as read16-reads
 
 slice-aggregate-byte : tie.Need-slice-aggregate-byte
 slice-aggregate-byte c = search needs
@@ -21,20 +22,17 @@ slice-aggregate-read16 c = search needs
 read16-requires : tie.Need-read16-requires
 read16-requires c κs = search needs
 
-cast-size : tie.Need-cast-size
-cast-size c = search needs
+value-end-requires : tie.Need-value-end-requires
+value-end-requires c κs = search needs
 
-add-item : tie.Need-add-item
-add-item c = search needs
+slice-aggregate-front : tie.Need-slice-aggregate-front
+slice-aggregate-front c = search needs
 
-sub-item : tie.Need-sub-item
-sub-item c = search needs
+front-requires : tie.Need-front-requires
+front-requires c κs = search needs
 
-part-item-start : tie.Need-part-item-start
-part-item-start c = search needs
-
-part-item-end : tie.Need-part-item-end
-part-item-end c = ?
+behind-head-requires : tie.Need-behind-head-requires
+behind-head-requires c κs = search needs
 
 item-requires : tie.Need-item-requires
 item-requires c κs = search needs
@@ -43,25 +41,12 @@ same-length : tie.Need-same-length
 same-length c = search needs
 
 returns : tie.Need-returns
-returns c = ?
-
-sub-item-2 : tie.Need-sub-item-2
-sub-item-2 c = search needs
-
-part-item-start-2 : tie.Need-part-item-start-2
-part-item-start-2 c = search needs
-
-part-item-end-2 : tie.Need-part-item-end-2
-part-item-end-2 c = ?
-
-item-requires-2 : tie.Need-item-requires-2
-item-requires-2 c κs = search needs
-
-same-length-2 : tie.Need-same-length-2
-same-length-2 c = search needs
-
-returns-2 : tie.Need-returns-2
-returns-2 c = ?
+unfolding valueIn
+returns c =
+    let a = c .before .before .before .before .before .before .before .before .before .before .before .before .before .before .args in
+    let end = c .before .before .before .before .before .before .before .value-end .ensures ∙ ap valueEnd (c .before .before .before .before .before .before .before .before .read16 .ensures) in
+    let value = c .before .before .before .before .behind-head .ensures ∙ ap (drop 3) (c .before .before .before .before .before .front .ensures ∙ ap (λ (n : ℕ). take n (a .self .bytes)) end) in
+    outcome-is (ap₂ (itemDone (a .log)) (c .before .before .before .before .before .before .before .before .before .before .byte .ensures) value) (c .before .before .item .ensures)
 
 pub item-spec : {M : Type 1} → statement M
 item-spec =
@@ -71,17 +56,10 @@ item-spec =
     byte-requires
     slice-aggregate-read16
     read16-requires
-    cast-size
-    add-item
-    sub-item
-    part-item-start
-    part-item-end
+    value-end-requires
+    slice-aggregate-front
+    front-requires
+    behind-head-requires
     item-requires
     same-length
-    returns
-    sub-item-2
-    part-item-start-2
-    part-item-end-2
-    item-requires-2
-    same-length-2
-    returns-2)
+    returns)

@@ -1,11 +1,12 @@
--- `journal::machine::Waiting::whole` meets its contract: TODO.
+-- `journal::machine::Waiting::whole` meets its contract: the head says how many bytes there are.
 -- Assumes nothing.
+use mathlib.Core.Path.{ap}
+use Prim.Native.Nat.{ℕ, _+_}
+use lib.Dec.{leb}
+use Rattle.journal.specs.Machine.{isWhole}
 use borrow.Author.Needs.{needs}
 use Rattle.journal.proofs.machine.Waiting.whole.Statement.{statement}
 use Rattle.journal.proofs.machine.Waiting.whole.Tie as tie
-use Rattle.journal.proofs.machine.Waiting.whole.Reads as reads
-use Rattle.journal.proofs.machine.Waiting.whole.Lts as lts
-use Rattle.wire.proofs.read16.Reads as read16-reads
 
 slice-aggregate-read16 : tie.Need-slice-aggregate-read16
 slice-aggregate-read16 c = search needs
@@ -20,7 +21,8 @@ add-result : tie.Need-add-result
 add-result c = search needs
 
 returns : tie.Need-returns
-returns c = ?
+unfolding isWhole
+returns c = ap (λ (n : ℕ). leb (3 + n) (c .before .before .before .before .args .self .have)) (c .before .read16 .ensures)
 
 pub whole-spec : {M : Type 1} → statement M
 whole-spec =

@@ -1,12 +1,9 @@
--- `journal::machine::Waiting::with_byte` meets its contract: TODO.
+-- `journal::machine::Waiting::with_byte` meets its contract: the byte is stored in its place, and counted.
 -- Assumes nothing.
+use Rattle.journal.specs.Machine.{withByte}
 use borrow.Author.Needs.{needs}
 use Rattle.journal.proofs.machine.Waiting.with_byte.Statement.{statement}
 use Rattle.journal.proofs.machine.Waiting.with_byte.Tie as tie
-use Rattle.journal.proofs.machine.Waiting.with_byte.Reads as reads
-use Rattle.journal.proofs.machine.Waiting.with_byte.Lts as lts
-use Rattle.journal.proofs.machine.one_more.Reads as one-more-reads
-use Rattle.wire.proofs.put.Reads as put-reads
 
 slice-aggregate-put : tie.Need-slice-aggregate-put
 slice-aggregate-put c = search needs
@@ -21,7 +18,8 @@ one-more-requires : tie.Need-one-more-requires
 one-more-requires c κs = search needs
 
 returns : tie.Need-returns
-returns c = ?
+unfolding withByte
+returns c = λ i. record { bytes = c .before .before .put .ensures i; have = c .one-more .ensures i }
 
 pub with-byte-spec : {M : Type 1} → statement M
 with-byte-spec =
