@@ -4,3 +4,4 @@ pub mod Searches
 pub mod Frames
 pub mod Cutting
 pub mod Feeding
+pub mod Waits
