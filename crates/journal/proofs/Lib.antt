@@ -4,3 +4,5 @@ pub mod Searches
 pub mod Frames
 pub mod Cutting
 pub mod Outcomes
+pub mod Feeding
+pub mod Waits

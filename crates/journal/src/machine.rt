@@ -1,0 +1,164 @@
+// A log that comes in pieces of any size: what has come of the next item waits, and whole items are done as they come.
+ghost use mathlib.Core.Path.{_≡_};
+ghost use Prim.Native.Nat.{_+_, min};
+ghost use lib.ListN.{getD, drop};
+ghost use lib.Seq.{sets};
+ghost use Rattle.text.specs.Text.{behind};
+ghost use Rattle.journal.specs.Log.{Stores, itemDone};
+ghost use Rattle.journal.specs.Machine.{nothing, withByte, isWhole, valueEnd, valueIn, hasRoom, Feeds, endLine};
+use crate::Done;
+use crate::Log;
+
+// What has come of an item that is not whole yet: its first 15 bytes, and how many there were. No longer item is known.
+pub struct Waiting {
+    pub bytes: [u8; 15],
+    pub have: u32,
+}
+
+// The log and what waits, behind the bytes that were taken; and how many bytes of text were written.
+pub struct Fed {
+    pub log: Log,
+    pub waiting: Waiting,
+    pub taken: usize,
+    pub written: usize,
+}
+
+impl Waiting {
+    // The bytes of the longest item.
+    pub const LONGEST: u32 = 65538;
+
+    // The longest value of a known item.
+    pub const VALUE: u16 = 12;
+
+    // Nothing waits.
+    pub fn nothing() -> Waiting
+        ensures { λ r. ⌜ r ≡ nothing ⌝ }
+    {
+        let bytes = [0u8; 15];
+        Waiting { bytes, have: 0 }
+    }
+
+    // One byte more.
+    fn with_byte(self, b: u8) -> Waiting
+        ensures { λ r. ⌜ r ≡ withByte self b ⌝ }
+    {
+        let have = self.have;
+        let mut bytes = self.bytes;
+        wire::put(&mut bytes, have as usize, b);
+        let more = one_more(have);
+        Waiting { bytes, have: more }
+    }
+
+    // Whether the item has come whole.
+    fn whole(self) -> bool
+        ensures { λ r. ⌜ r ≡ isWhole self ⌝ }
+    {
+        let bytes = self.bytes;
+        3 + (wire::read16(&bytes, 1) as u32) <= self.have
+    }
+
+    // Does the item that has come. One that is too long is done with no value: its length is wrong either way.
+    fn item(self, log: Log, out: &mut [u8], at: usize) -> Done
+        ensures { λ r. ⌜ Stores (itemDone log (getD (self .bytes) 0 0) (valueIn self)) (now (out .entry)) at (r .log) (r .at) (now (out .exit)) ⌝ }
+    {
+        let bytes = self.bytes;
+        let tag = wire::byte(&bytes, 0);
+        let end = value_end(wire::read16(&bytes, 1));
+        log.item(tag, behind_head(wire::front(&bytes, end)), out, at)
+    }
+}
+
+impl Log {
+    // The most that one item prints: a line for the search of each slot.
+    pub const MOST: usize = 1056;
+
+    // Takes a piece of a log behind what waits, as long as `out` has room for whatever the next item prints, and stores the
+    // text from the start of `out`.
+    pub fn feed(self, waiting: Waiting, piece: &[u8], out: &mut [u8]) -> Fed
+        ensures { λ r. ⌜ Feeds self waiting (now (piece .entry)) (now (out .entry)) r (now (out .exit)) ⌝ }
+    {
+        let mut log = self;
+        let mut next = waiting;
+        let mut at: usize = 0;
+        let mut i: usize = 0;
+        while i < piece.len() {
+            if !has_room(out.len(), at) {
+                return Fed {
+                    log,
+                    waiting: next,
+                    taken: i,
+                    written: at,
+                };
+            }
+            let come = next.with_byte(piece[i]);
+            if come.whole() {
+                let done = come.item(log, out, at);
+                let left = done.log;
+                log = left;
+                at = done.at;
+                next = Waiting::nothing();
+            } else {
+                next = come;
+            }
+            i += 1;
+        }
+        Fed {
+            log,
+            waiting: next,
+            taken: i,
+            written: at,
+        }
+    }
+
+    // What is printed where the log ends: the line of an item that it ends inside.
+    pub fn finish(self, waiting: Waiting, out: &mut [u8], at: usize) -> usize
+        ensures { λ r. ⌜ r ≡ behind at (endLine self waiting) ⌝ }
+        ensures { λ _. ⌜ now (out .exit) ≡ sets (now (out .entry)) at (endLine self waiting) ⌝ }
+    {
+        if waiting.have == 0 {
+            return at;
+        }
+        text::put_r(out, at, crate::next_item(self.items), Log::CUT)
+    }
+}
+
+// Where the value ends of an item with a value of that size; at its start where that is too long.
+fn value_end(size: u16) -> usize
+    ensures { λ r. ⌜ r ≡ valueEnd size ⌝ }
+{
+    if size <= Waiting::VALUE {
+        3 + (size as usize)
+    } else {
+        3
+    }
+}
+
+// What stands behind a field's head.
+fn behind_head(s: &[u8]) -> &[u8]
+    ensures { λ r. ⌜ now r ≡ drop 3 (now (s .entry)) ⌝ }
+{
+    if s.len() < 3 {
+        return &s[s.len()..];
+    }
+    &s[3..]
+}
+
+fn one_more(have: u32) -> u32
+    ensures { λ r. ⌜ r ≡ min (have + 1) 65538 ⌝ }
+{
+    if have < Waiting::LONGEST {
+        have + 1
+    } else {
+        Waiting::LONGEST
+    }
+}
+
+// Whether a room has space for what one item prints, from `at` on.
+fn has_room(room: usize, at: usize) -> bool
+    ensures { λ r. ⌜ r ≡ hasRoom room at ⌝ }
+{
+    if room < Log::MOST {
+        return false;
+    }
+    at <= room - Log::MOST
+}
