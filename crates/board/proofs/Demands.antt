@@ -33,7 +33,7 @@ use Rattle.question.proofs.Steps.{reached as stepped-to}
 use Rattle.question.proofs.Taking.{if-so, if-not}
 use Rattle.question.proofs.Listed.{all-is}
 use Rattle.question.proofs.Searches.{Found, search-finds, searched-held, whole-search}
-use Rattle.board.specs.Work.{noQuestion, slotAt, setRefusal, setWork, slotRefusal, removeWork, enterWork, hasPlace, listed, lists, outgoing, newReport, refreshed, entering, isSearched, enterRefusal}
+use Rattle.board.specs.Work.{noQuestion, slotAt, setRefusal, setWork, slotRefusal, removeWork, enterWork, hasPlace, takes, listed, lists, outgoing, newReport, refreshed, entering, isSearched, enterRefusal}
 use Rattle.board.specs.Calls.{isEmpty, slotFit, fitBoard, setCall, removeCall, enterCall}
 use Rattle.board.specs.Reached.{Reached}
 use Rattle.board.specs.declared.Board.{Board}
@@ -182,7 +182,7 @@ module _ (q : Question) (h : Held) where
     pub same-next : p .next ≡ q .next
 
   pub listed-keeps : Same-but-list (listed q h)
-  unfolding listed
+  unfolding listed takes
   listed-keeps = go (tested (isMarked q (cell (h .loss) (h .shake)) && hasPlace q (score (q .weights) (h .loss) (h .shake))))
     where
       go : Tested (isMarked q (cell (h .loss) (h .shake)) && hasPlace q (score (q .weights) (h .loss) (h .shake))) → Same-but-list (listed q h)

@@ -1,7 +1,7 @@
 -- What one question does with a report that enters: the tests of the definitions, read off the stored lines.
 -- Assumes nothing.
 use mathlib.Core.Path.{_≡_, refl, sym, ap, _∙_}
-use mathlib.Core.Bool.{true, false}
+use mathlib.Core.Bool.{true, false, and-true, and-false}
 use mathlib.Core.List.{List, [], _∷_, map}
 use Prim.Native.Nat.{ℕ, zero, suc, _+_, min, _≤_, _<_}
 use native.Mathlib.Numerals.{add-one}
@@ -18,7 +18,7 @@ use Rattle.question.specs.declared.Question.{Question}
 use Rattle.question.specs.Lines.{linesOf, lines, withEntry, cutToK, isMarked}
 use Rattle.question.specs.Inner.{shown}
 use Rattle.question.proofs.Stored.{Roomy, last-line, no-lines, take-min}
-use Rattle.board.specs.Work.{hasPlace, listed, lists}
+use Rattle.board.specs.Work.{hasPlace, takes, listed, lists}
 
 module _ (q : Question) (s : ℤ) where
   pub place-short : q .len < q .k → hasPlace q s ≡ true
@@ -34,18 +34,35 @@ module _ (q : Question) (s : ℤ) where
     unfolding hasPlace
     place-last r i e = rw (le-ltb (q .len) (q .k) full) (last-line q r i e (λ x. leZ (x .score) s))
 
+module _ (q : Question) (loss shake : ℕ) where
+  pub takes-both : hasPlace q (score (q .weights) loss shake) ≡ true → isMarked q (cell loss shake) ≡ takes q loss shake
+  unfolding takes
+  takes-both p = sym (rw p (and-true (isMarked q (cell loss shake))))
+
+  pub takes-no-place : hasPlace q (score (q .weights) loss shake) ≡ false → takes q loss shake ≡ false
+  unfolding takes
+  takes-no-place p = rw p (and-false (isMarked q (cell loss shake)))
+
 module _ (q : Question) (h : Held) where
   pub listed-taken : isMarked q (cell (h .loss) (h .shake)) ≡ true → hasPlace q (score (q .weights) (h .loss) (h .shake)) ≡ true → listed q h ≡ cutToK (withEntry q (entry (q .weights) h))
-  unfolding listed
+  unfolding listed takes
   listed-taken m p = rw (m, p)
 
   pub listed-unmarked : isMarked q (cell (h .loss) (h .shake)) ≡ false → listed q h ≡ q
-  unfolding listed
+  unfolding listed takes
   listed-unmarked m = rw m
 
   pub listed-no-place : isMarked q (cell (h .loss) (h .shake)) ≡ true → hasPlace q (score (q .weights) (h .loss) (h .shake)) ≡ false → listed q h ≡ q
-  unfolding listed
+  unfolding listed takes
   listed-no-place m p = rw (m, p)
+
+  pub listed-taking : takes q (h .loss) (h .shake) ≡ true → listed q h ≡ cutToK (withEntry q (entry (q .weights) h))
+  unfolding listed
+  listed-taking t = rw t
+
+  pub listed-not : takes q (h .loss) (h .shake) ≡ false → listed q h ≡ q
+  unfolding listed
+  listed-not t = rw t
 
 -- ---- which report a list names
 

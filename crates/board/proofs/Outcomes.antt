@@ -22,6 +22,14 @@ use Rattle.board.proofs.Board.read_known.Kinds as read-known-kinds
 use Rattle.board.proofs.Board.read_known.Reads as read-known-reads
 use Rattle.board.proofs.Board.enter_known.Kinds as enter-known-kinds
 use Rattle.board.proofs.Board.enter_known.Reads as enter-known-reads
+use Rattle.board.proofs.Arrival.of.Kinds as arrival-kinds
+use Rattle.board.proofs.Arrival.of.Reads as arrival-reads
+use Rattle.board.proofs.stirred.Kinds as stirred-kinds
+use Rattle.board.proofs.stirred.Reads as stirred-reads
+use Rattle.board.proofs.listed.Kinds as listed-kinds
+use Rattle.board.proofs.listed.Reads as listed-reads
+use Rattle.board.proofs.lists.Kinds as lists-kinds
+use Rattle.board.proofs.lists.Reads as lists-reads
 
 fresh-once : OneAnswer 0 fresh-kinds.ps fresh-kinds.r fresh-reads.Post
 fresh-once κs a x y s t p q = p ∙ sym q
@@ -52,3 +60,15 @@ read-known-once κs a x y s t p q = p ∙ sym q
 
 enter-known-once : OneAnswer 0 enter-known-kinds.ps enter-known-kinds.r enter-known-reads.Post
 enter-known-once κs a x y s t p q = p ∙ sym q
+
+arrival-once : OneAnswer 0 arrival-kinds.ps arrival-kinds.r arrival-reads.Post
+arrival-once κs a x y s t p q = p ∙ sym q
+
+stirred-once : OneAnswer 0 stirred-kinds.ps stirred-kinds.r stirred-reads.Post
+stirred-once κs a x y s t p q = p ∙ sym q
+
+listed-once : OneAnswer 0 listed-kinds.ps listed-kinds.r listed-reads.Post
+listed-once κs a x y s t p q = p ∙ sym q
+
+lists-once : OneAnswer 0 lists-kinds.ps lists-kinds.r lists-reads.Post
+lists-once κs a x y s t p q = p ∙ sym q

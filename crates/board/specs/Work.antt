@@ -22,6 +22,7 @@ use Rattle.board.specs.declared.Placed.{Placed}
 use Rattle.board.specs.declared.Removed.{Removed}
 use Rattle.board.specs.declared.Shown.{Shown}
 use Rattle.board.specs.declared.Entered.{Entered}
+use Rattle.board.specs.declared.Arrival.{Arrival}
 
 -- What stands past the last slot.
 abbrev pub noQuestion : Question
@@ -77,12 +78,13 @@ readWork b slot =
 unfoldable pub hasPlace : Question → ℤ → Bool
 hasPlace q s = ltb (q .len) (q .k) || onLast (λ e. leZ (e .score) s) (lines q)
 
--- "For each question with a mark on its cell, it is put on the list if" it has a place there; "the list is cut to k."
+-- "Each question with a mark on its cell", whose list has a place for these values.
+unfoldable pub takes : Question → (loss shake : ℕ) → Bool
+takes q loss shake = isMarked q (cell loss shake) && hasPlace q (score (q .weights) loss shake)
+
+-- "It is put on the list if" the question takes it; "the list is cut to k."
 unfoldable pub listed : Question → Held → Question
-listed q h =
-    cond (isMarked q (cell (h .loss) (h .shake)) && hasPlace q (score (q .weights) (h .loss) (h .shake)))
-    (cutToK (withEntry q (entry (q .weights) h)))
-    q
+listed q h = cond (takes q (h .loss) (h .shake)) (cutToK (withEntry q (entry (q .weights) h))) q
 
 -- "If more than N are held, the oldest leaves": its number, where one report is added; 0 for none.
 unfoldable pub leaving : (size entered held : ℕ) → ℕ
@@ -115,6 +117,13 @@ isSearched w loss shake q = lists (listed q (newReport w loss shake)) (outgoing 
 -- "12: loss or shake over 4095. 11: 1,000,000 already entered."
 unfoldable pub enterRefusal : (entered loss shake : ℕ) → ℕ
 enterRefusal entered loss shake = cond (leb loss 4095 && leb shake 4095) (cond (ltb entered 1000000) 0 11) 12
+
+-- What a report's entry comes to, before any question is looked at.
+unfoldable pub arrival : (size entered held loss shake : ℕ) → Arrival
+arrival size entered held loss shake =
+    cond (eqb (enterRefusal entered loss shake) 0)
+    (record { refusal = 0; number = entered + 1; oldest = leaving size entered held })
+    (record { refusal = enterRefusal entered loss shake; number = 0; oldest = 0 })
 
 -- "The answer is the report number, the set of questions searched, and the steps of each."
 unfoldable pub enterWork : Board → ℕ → ℕ → Entered

@@ -1,12 +1,12 @@
 // The window with its 32 slots: standing questions that each have a list.
 ghost use mathlib.Core.Path.{_≡_};
-ghost use mathlib.Core.Bool.{false, _&&_};
+ghost use mathlib.Core.Bool.{false, _&&_, _||_};
 ghost use Prim.Native.Nat.{min, _%_, _<_};
 ghost use lib.IntN.{pos};
 ghost use lib.ListN.{replicate};
 ghost use Rattle.question.specs.Lines.{linesOf, finished};
 ghost use Rattle.question.specs.Calls.{allOf, equal, blank, fitQuestion};
-ghost use Rattle.board.specs.Work.{freshBoard, setRefusal, setWork, slotRefusal, removeWork, readWork, hasPlace, listed, leaving, lists, enterRefusal, enterWork, withSlot};
+ghost use Rattle.board.specs.Work.{freshBoard, setRefusal, setWork, slotRefusal, removeWork, readWork, hasPlace, takes, listed, leaving, arrival, lists, enterRefusal, enterWork, withSlot};
 ghost use Rattle.board.specs.Calls.{isEmpty, slotFit, fitBoard, setCall, removeCall, readCall, enterCall};
 use question::Question;
 use question::Searched;
@@ -53,6 +53,13 @@ pub struct Entered {
     pub searched: [bool; 32],
     pub steps: [u16; 32],
     pub board: Board,
+}
+
+// What a report's entry comes to: the refusal's number, or 0; then its number, and that of the report that leaves, 0 for none.
+pub struct Arrival {
+    pub refusal: u8,
+    pub number: u32,
+    pub oldest: u32,
 }
 
 impl Board {
@@ -394,18 +401,57 @@ fn leaving(size: u16, entered: u32, held: u16) -> u32
     entered - n + 1
 }
 
-// The question with a report more, if it has a mark on the report's cell and its list takes it. Of the values the low 12
-// bits count.
-fn listed(question: Question, number: u32, loss: u16, shake: u16) -> Question
-    ensures { λ r. ⌜ r ≡ listed question (record { number = number; loss = loss % 4096; shake = shake % 4096 }) ⌝ }
-{
-    let score = question.weights.score(loss, shake);
-    if question.marked(Grid::cell(loss, shake)) {
-        if has_place(question, score) {
-            return question.added(number, score).cut();
+impl Arrival {
+    // What a report's entry into a window of that size comes to, with that many entered and held.
+    pub fn of(size: u16, entered: u32, held: u16, loss: u16, shake: u16) -> Arrival
+        ensures { λ r. ⌜ r ≡ arrival size entered held loss shake ⌝ }
+    {
+        let refusal = enter_refusal(entered, loss, shake);
+        if refusal != 0 {
+            return Arrival {
+                refusal,
+                number: 0,
+                oldest: 0,
+            };
+        }
+        Arrival {
+            refusal: 0,
+            number: entered + 1,
+            oldest: leaving(size, entered, held),
         }
     }
+}
+
+// Whether a report's entry changes the question or has it searched: its list takes the report, or has the one that leaves.
+pub fn stirred(question: Question, oldest: u32, loss: u16, shake: u16) -> bool
+    ensures { λ r. ⌜ r ≡ (takes question (loss % 4096) (shake % 4096) || lists question oldest) ⌝ }
+{
+    if takes(question, loss, shake) {
+        return true;
+    }
+    lists(question, oldest)
+}
+
+// The question with a report more, if its list takes it. Of the values the low 12 bits count.
+pub fn listed(question: Question, number: u32, loss: u16, shake: u16) -> Question
+    ensures { λ r. ⌜ r ≡ listed question (record { number = number; loss = loss % 4096; shake = shake % 4096 }) ⌝ }
+{
+    if takes(question, loss, shake) {
+        return question
+            .added(number, question.weights.score(loss, shake))
+            .cut();
+    }
     question
+}
+
+// The question has a mark on the report's cell, and its list a place for the score.
+fn takes(question: Question, loss: u16, shake: u16) -> bool
+    ensures { λ r. ⌜ r ≡ takes question (loss % 4096) (shake % 4096) ⌝ }
+{
+    if has_place(question, question.weights.score(loss, shake)) {
+        return question.marked(Grid::cell(loss, shake));
+    }
+    false
 }
 
 // The list has fewer than k entries, or the score is at least its last entry's.
@@ -437,7 +483,7 @@ fn lines_in(len: u8) -> usize
 }
 
 // The question lists the report of that number.
-fn lists(question: Question, number: u32) -> bool
+pub fn lists(question: Question, number: u32) -> bool
     ensures { λ r. ⌜ r ≡ lists question number ⌝ }
 {
     if number == 0 {

@@ -20,12 +20,12 @@ use Rattle.journal.specs.Log.{itemDone}
 use Rattle.journal.specs.Machine.{Came, nothing, withByte, isWhole, valueIn, came, run, ran, hasRoom, Feeds}
 
 -- What came, and a byte more.
-abbrev step : Came → ℕ → Came
+abbrev pub step : Came → ℕ → Came
 step c b =
     let d = came (c .log) (c .waiting) b in
     record { text = c .text ++ d .text; log = d .log; waiting = d .waiting }
 
-run-more : (bs : List ℕ) (log : Log) (w : Waiting) (b : ℕ) → run log w (bs ++ b ∷ []) ≡ step (run log w bs) b
+pub run-more : (bs : List ℕ) (log : Log) (w : Waiting) (b : ℕ) → run log w (bs ++ b ∷ []) ≡ step (run log w bs) b
 unfolding run
 run-more [] log w b =
     λ i. record { text = append-nil (came log w b .text) i; log = came log w b .log; waiting = came log w b .waiting }
@@ -39,6 +39,17 @@ run-more (a ∷ bs) log w b =
       log = came (r .log) (r .waiting) b .log;
       waiting = came (r .log) (r .waiting) b .waiting;
     })
+
+pub run-append : (bs cs : List ℕ) (log : Log) (w : Waiting)
+    → run log w (bs ++ cs) ≡ record { text = run log w bs .text ++ run (run log w bs .log) (run log w bs .waiting) cs .text; log = run (run log w bs .log) (run log w bs .waiting) cs .log; waiting = run (run log w bs .log) (run log w bs .waiting) cs .waiting }
+unfolding run
+run-append [] cs log w = refl
+run-append (a ∷ bs) cs log w =
+    let c = came log w a in
+    let r = run (c .log) (c .waiting) bs in
+    let d = run (r .log) (r .waiting) cs in
+    (λ i. record { text = c .text ++ run-append bs cs (c .log) (c .waiting) i .text; log = run-append bs cs (c .log) (c .waiting) i .log; waiting = run-append bs cs (c .log) (c .waiting) i .waiting })
+    ∙ (λ i. record { text = sym (append-assoc (c .text) (r .text) (d .text)) i; log = d .log; waiting = d .waiting })
 
 -- The first i bytes of a piece have come.
 pub record Ran (log : Log) (w : Waiting) (piece room : List ℕ) (i : ℕ) (log₁ : Log) (w₁ : Waiting) (at : ℕ) (left : List ℕ) : Type 0 where

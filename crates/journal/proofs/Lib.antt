@@ -6,3 +6,5 @@ pub mod Cutting
 pub mod Outcomes
 pub mod Feeding
 pub mod Waits
+pub mod Coming
+pub mod InPlace

@@ -1,18 +1,40 @@
 // A log that comes in pieces of any size: what has come of the next item waits, and whole items are done as they come.
 ghost use mathlib.Core.Path.{_≡_};
-ghost use Prim.Native.Nat.{_+_, min};
-ghost use lib.ListN.{getD, drop};
+ghost use mathlib.Core.Bool.{cond, _&&_};
+ghost use mathlib.Core.List.{[]};
+ghost use Prim.Native.Nat.{_+_, _%_, min, _≤_};
+ghost use lib.Dec.{ltb};
+ghost use lib.ListN.{length, getD, drop};
 ghost use lib.Seq.{sets};
-ghost use Rattle.text.specs.Text.{behind};
+ghost use Rattle.wire.specs.Bytes.{number, part};
+ghost use Rattle.text.specs.Text.{behind, rLine};
 ghost use Rattle.journal.specs.Log.{Stores, itemDone};
 ghost use Rattle.journal.specs.Machine.{nothing, withByte, isWhole, valueEnd, valueIn, hasRoom, Feeds, endLine};
+ghost use Rattle.journal.specs.Inner.{itemComes, shownText, brought};
 use crate::Done;
 use crate::Log;
+use board::Arrival;
+use board::Board;
+use joining::Answer;
+use joining::Bus;
+use question::Question;
+use window::Window;
 
 // What has come of an item that is not whole yet: its first 15 bytes, and how many there were. No longer item is known.
 pub struct Waiting {
     pub bytes: [u8; 15],
     pub have: u32,
+}
+
+// What a frame brought: the line of a refusal, or a report with its number, and the number of the report that leaves, 0 for
+// none.
+struct Brought {
+    refused: bool,
+    code: u8,
+    number: u32,
+    oldest: u32,
+    loss: u16,
+    shake: u16,
 }
 
 // The log and what waits, behind the bytes that were taken; and how many bytes of text were written.
@@ -77,31 +99,104 @@ impl Log {
     pub fn feed(self, waiting: Waiting, piece: &[u8], out: &mut [u8]) -> Fed
         ensures { λ r. ⌜ Feeds self waiting (now (piece .entry)) (now (out .entry)) r (now (out .exit)) ⌝ }
     {
-        let mut log = self;
+        let mut items = self.items;
+        let board = self.board;
+        let mut window = board.window;
+        let mut slots = board.slots;
+        let mut sessions = self.sessions;
         let mut next = waiting;
         let mut at: usize = 0;
         let mut i: usize = 0;
-        while i < piece.len() {
-            if !has_room(out.len(), at) {
-                return Fed {
-                    log,
-                    waiting: next,
-                    taken: i,
-                    written: at,
+        while goes_on(piece.len(), i, out.len(), at) {
+            if !frame_comes(next.have, window.size, piece, i) {
+                if show_comes(next.have, window.size, piece, i) {
+                    items = crate::next_item(items);
+                    let shown = wire::byte(piece, i + 3);
+                    let s = shown as usize;
+                    let list = slots[s];
+                    at = put_shown(out, at, items, shown, list);
+                    next = Waiting::nothing();
+                    i += 4;
+                    continue;
+                }
+                let come = next.with_byte(piece[i]);
+                next = come;
+                i += 1;
+                if !come.whole() {
+                    continue;
+                }
+                let b = Board { window, slots };
+                let log = Log {
+                    items,
+                    board: b,
+                    sessions,
                 };
-            }
-            let come = next.with_byte(piece[i]);
-            if come.whole() {
                 let done = come.item(log, out, at);
                 let left = done.log;
-                log = left;
+                let left_board = left.board;
+                let left_window = left_board.window;
+                let left_slots = left_board.slots;
+                let left_sessions = left.sessions;
+                items = left.items;
+                window = left_window;
+                slots = left_slots;
+                sessions = left_sessions;
                 at = done.at;
                 next = Waiting::nothing();
-            } else {
-                next = come;
+                continue;
             }
-            i += 1;
+            items = crate::next_item(items);
+            let id = wire::read32(piece, i + 3);
+            let data = &piece[i + 7..i + 15];
+            let k = (id % 256) as usize;
+            let session = sessions[k];
+            let taken = session.lend(id, data);
+            let advanced = taken.session;
+            sessions[k] = advanced;
+            let answer = taken.answer;
+            let brought = brings(answer, window.size, window.entered, window.held);
+            at = put_refusal(out, at, items, brought.refused, brought.code);
+            next = Waiting::nothing();
+            i += 15;
+            let number = brought.number;
+            if number == 0 {
+                continue;
+            }
+            let loss = brought.loss;
+            let shake = brought.shake;
+            let oldest = brought.oldest;
+            let place = Window::place(window.size, window.entered, window.held);
+            let row = place.row as usize;
+            window.losses[row] = loss;
+            window.shakes[row] = shake;
+            window.numbers[row] = number;
+            window.entered = number;
+            window.held = place.held;
+            let mut slot: usize = 0;
+            while slot < 32 {
+                let here = slot;
+                slot += 1;
+                let question = slots[here];
+                if !board::stirred(question, oldest, loss, shake) {
+                    continue;
+                }
+                let with = board::listed(question, number, loss, shake);
+                if !board::lists(with, oldest) {
+                    slots[here] = with;
+                    continue;
+                }
+                let found = with.searched(window);
+                let searched = found.question;
+                slots[here] = searched;
+                at = text::put_s(out, at, items, here as u8, found.steps);
+            }
         }
+        let board = Board { window, slots };
+        let log = Log {
+            items,
+            board,
+            sessions,
+        };
         Fed {
             log,
             waiting: next,
@@ -161,4 +256,118 @@ fn has_room(room: usize, at: usize) -> bool
         return false;
     }
     at <= room - Log::MOST
+}
+
+// Whether a piece of that length has a byte more, and a room of that length space for what one item prints.
+fn goes_on(len: usize, i: usize, room: usize, at: usize) -> bool
+    ensures { λ r. ⌜ r ≡ (ltb i len && hasRoom room at) ⌝ }
+{
+    if i < len {
+        return has_room(room, at);
+    }
+    false
+}
+
+// Whether nothing waits, there is a window, and the next bytes are a whole item of that tag and length.
+fn item_comes(have: u32, rows: u16, piece: &[u8], i: usize, tag: u8, size: u16) -> bool
+    requires { ⌜ (i ≤ length (now piece)) × (size ≤ 12) ⌝ }
+    ensures { λ r. ⌜ r ≡ itemComes have rows (now (piece .entry)) i tag size ⌝ }
+{
+    if have != 0 {
+        return false;
+    }
+    if rows < Window::SMALLEST {
+        return false;
+    }
+    if Window::LARGEST < rows {
+        return false;
+    }
+    if piece.len() - i < 3 + (size as usize) {
+        return false;
+    }
+    if wire::byte(piece, i) != tag {
+        return false;
+    }
+    wire::read16(piece, i + 1) == size
+}
+
+// Whether the next item is a frame of a sender that has a session.
+fn frame_comes(have: u32, rows: u16, piece: &[u8], i: usize) -> bool
+    requires { ⌜ i ≤ length (now piece) ⌝ }
+    ensures { λ r. ⌜ r ≡ (itemComes have rows (now (piece .entry)) i 18 12 && ltb (number (part (i + 3) 4 (now (piece .entry))) % 256) 254) ⌝ }
+{
+    if item_comes(have, rows, piece, i, Log::FRAME, Waiting::VALUE) {
+        return ((wire::read32(piece, i + 3) % 256) as usize) < Bus::SENDERS;
+    }
+    false
+}
+
+// Whether the next item shows a slot that there is.
+fn show_comes(have: u32, rows: u16, piece: &[u8], i: usize) -> bool
+    requires { ⌜ i ≤ length (now piece) ⌝ }
+    ensures { λ r. ⌜ r ≡ (itemComes have rows (now (piece .entry)) i 20 1 && ltb (getD (now (piece .entry)) (i + 3) 0) 32) ⌝ }
+{
+    if item_comes(have, rows, piece, i, Log::SHOW, 1) {
+        return wire::byte(piece, i + 3) < Board::SLOTS;
+    }
+    false
+}
+
+// Prints the list of a slot, or that the slot is empty.
+fn put_shown(out: &mut [u8], at: usize, item: u64, slot: u8, question: Question) -> usize
+    ensures { λ r. ⌜ r ≡ behind at (shownText item slot question) ⌝ }
+    ensures { λ _. ⌜ now (out .exit) ≡ sets (now (out .entry)) at (shownText item slot question) ⌝ }
+{
+    if question.k == 0 {
+        return text::put_r(out, at, item, Board::EMPTY);
+    }
+    let numbers = question.numbers;
+    let scores = question.scores;
+    text::put_q(out, at, slot, numbers, scores, question.len as usize)
+}
+
+// What an answer brings to a window of that size, with that many entered and held.
+fn brings(answer: Answer, size: u16, entered: u32, held: u16) -> Brought
+    ensures { λ r. ⌜ r ≡ brought answer size entered held ⌝ }
+{
+    match answer {
+        Answer::Refused(n) => not_brought(true, n),
+        Answer::Kept => not_brought(false, 0),
+        Answer::Complete(r) => {
+            let arrival = Arrival::of(size, entered, held, r.loss, r.shake);
+            Brought {
+                refused: arrival.refusal != 0,
+                code: arrival.refusal,
+                number: arrival.number,
+                oldest: arrival.oldest,
+                loss: r.loss,
+                shake: r.shake,
+            }
+        }
+    }
+}
+
+fn not_brought(refused: bool, code: u8) -> Brought
+    ensures { λ r. ⌜ r ≡ record { refused = refused; code = code; number = 0; oldest = 0; loss = 0; shake = 0 } ⌝ }
+{
+    Brought {
+        refused,
+        code,
+        number: 0,
+        oldest: 0,
+        loss: 0,
+        shake: 0,
+    }
+}
+
+// Prints the line of a refusal, if there is one.
+fn put_refusal(out: &mut [u8], at: usize, item: u64, refused: bool, code: u8) -> usize
+    ensures { λ r. ⌜ r ≡ behind at (cond refused (rLine item code) []) ⌝ }
+    ensures { λ _. ⌜ now (out .exit) ≡ sets (now (out .entry)) at (cond refused (rLine item code) []) ⌝ }
+{
+    if refused {
+        text::put_r(out, at, item, code)
+    } else {
+        at
+    }
 }

@@ -6,6 +6,8 @@ use Rattle.window.proofs.Window.fresh.Kinds as fresh-kinds
 use Rattle.window.proofs.Window.fresh.Reads as fresh-reads
 use Rattle.window.proofs.Window.fit.Kinds as fit-kinds
 use Rattle.window.proofs.Window.fit.Reads as fit-reads
+use Rattle.window.proofs.Window.place.Kinds as place-kinds
+use Rattle.window.proofs.Window.place.Reads as place-reads
 use Rattle.window.proofs.Window.with.Kinds as with-kinds
 use Rattle.window.proofs.Window.with.Reads as with-reads
 
@@ -14,6 +16,9 @@ fresh-once κs a x y s t p q = p ∙ sym q
 
 fit-once : OneAnswer 0 fit-kinds.ps fit-kinds.r fit-reads.Post
 fit-once κs a x y s t p q = p ∙ sym q
+
+place-once : OneAnswer 0 place-kinds.ps place-kinds.r place-reads.Post
+place-once κs a x y s t p q = p ∙ sym q
 
 with-once : OneAnswer 0 with-kinds.ps with-kinds.r with-reads.Post
 with-once κs a x y s t p q = p ∙ sym q

@@ -7,6 +7,7 @@ use lib.Dec.{leb, ltb, eqb}
 use Rattle.ranking.specs.Standing.{Held}
 use Rattle.window.specs.declared.Window.{Window}
 use Rattle.window.specs.declared.Fresh.{Fresh}
+use Rattle.window.specs.declared.Place.{Place}
 
 -- "A window has a size N, 1 to 1,024."
 abbrev pub sized : ℕ → Bool
@@ -72,6 +73,10 @@ countsFit size entered held = sized size && leb entered 1000000 && leb held size
 -- Fit: every stored number is in its range, and "the held numbers are the latest ones without a gap".
 unfoldable pub fitWindow : Window → Bool
 fitWindow w = countsFit (w .size) (w .entered) (w .held) && rowsFit w 1024
+
+-- Where the next report goes: its row, and how many are held with it.
+unfoldable pub placeFor : (size entered held : ℕ) → Place
+placeFor size entered held = cond (sized size) (record { row = rowOf size (entered + 1); held = min size (held + 1) }) (record { row = 0; held = 0 })
 
 -- The window with the next report in its row; where N are held, that row was the oldest's.
 abbrev pub grown : Window → ℕ → ℕ → Window

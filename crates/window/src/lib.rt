@@ -2,7 +2,7 @@
 ghost use mathlib.Core.Path.{_≡_};
 ghost use mathlib.Core.Bool.{true};
 ghost use Prim.Native.Nat.{min, _+_, _-_, _%_, _<_, _≤_};
-ghost use Rattle.window.specs.Rows.{freshWindow, fitWindow, added, sized, empty, rowOf, due, holds, rowsFit, countsFit};
+ghost use Rattle.window.specs.Rows.{freshWindow, fitWindow, added, sized, empty, rowOf, placeFor, due, holds, rowsFit, countsFit};
 use ranking::Grid;
 
 // Report m lies in row (m - 1) mod `size`; `entered` is the last number, and the latest `held` of them are held. A row
@@ -20,6 +20,12 @@ pub struct Window {
 pub struct Fresh {
     pub refusal: u8,
     pub window: Window,
+}
+
+// Where the next report goes: its row, and how many are held with it.
+pub struct Place {
+    pub row: u16,
+    pub held: u16,
 }
 
 impl Window {
@@ -59,6 +65,19 @@ impl Window {
             return rows_fit(self);
         }
         false
+    }
+
+    // Where the next report goes in a window of that size with that many entered and held; 0 where there is no such window.
+    pub fn place(size: u16, entered: u32, held: u16) -> Place
+        ensures { λ r. ⌜ r ≡ placeFor size entered held ⌝ }
+    {
+        if sized(size) {
+            return Place {
+                row: (entered % (size as u32)) as u16,
+                held: capped(held, size),
+            };
+        }
+        Place { row: 0, held: 0 }
     }
 
     // The window with one report more; where N are held, the oldest gives it its row. A window that can take none is

@@ -58,7 +58,7 @@ loop-again c =
     let h : length (now (a .out)) < 2 ^ 64 = search needs in
     let bs : length (a .t4) ≡ 32 = search needs in
     let ns : length (a .t5) ≡ 32 = search needs in
-    (omega arith, search needs, said (lines-more (a .item) (a .t4) (a .t5) false (l .i) (omega arith) (omega arith)) (then h (l .inv .2) (put (c .before .before .put-search .ensures))))
+    (omega arith, search needs, said (lines-more (a .item) (a .t4) (a .t5) false 0 (l .i) (omega arith) (omega arith)) (then h (l .inv .2) (put (c .before .before .put-search .ensures))))
 
 same-length : tie.Need-same-length Inv-loop μ-loop
 same-length c = c .before .loop .inv .1
