@@ -6,3 +6,4 @@ pub mod Cutting
 pub mod Outcomes
 pub mod Feeding
 pub mod Waits
+pub mod Writing
