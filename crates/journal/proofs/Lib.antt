@@ -7,3 +7,4 @@ pub mod Outcomes
 pub mod Feeding
 pub mod Waits
 pub mod Writing
+pub mod Once
