@@ -8,3 +8,6 @@ pub mod Feeding
 pub mod Waits
 pub mod Writing
 pub mod Once
+pub mod Printed
+pub mod Own
+pub mod Reached

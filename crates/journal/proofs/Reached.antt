@@ -1,0 +1,93 @@
+-- What is promised of every log that items lead to: its sessions are fit, and so is its board once there is a window, so that no call answers 24; every question in use lists the
+-- best k; and no item prints more than `Log::MOST` bytes. Each is read off what the log keeps its own.
+-- Assumes nothing.
+use mathlib.Core.Path.{_≡_, ap, _∙_}
+use mathlib.Core.Logic.{_⊎_, inl, inr}
+use mathlib.Core.Bool.{true}
+use mathlib.Core.List.{List, map}
+use Prim.Native.Nat.{ℕ, _^_, _≤_, _<_}
+use native.Mathlib.Omega.{arith}
+use borrow.Author.Tests.{eqb-true}
+use lib.ListN.{length}
+use Rattle.ranking.specs.Best.{best}
+use Rattle.ranking.specs.Standing.{above, entry}
+use Rattle.ranking.specs.declared.Weights.{Weights}
+use Rattle.window.specs.Rows.{heldReports}
+use Rattle.question.specs.Lines.{lines}
+use Rattle.board.specs.Work.{slotAt, freshBoard, setWork, removeWork, readWork, enterWork}
+use Rattle.board.specs.Calls.{fitBoard, setCall, removeCall, readCall, enterCall}
+use Rattle.board.specs.declared.Board.{Board}
+use Rattle.board.proofs.Known.{set-known, remove-known, read-known, enter-known}
+use Rattle.board.proofs.Demands.{demand-2}
+use Rattle.joining.specs.Joining.{fit}
+use Rattle.joining.specs.Run.{sessionOf}
+use Rattle.joining.specs.declared.Session.{Session}
+use Rattle.joining.proofs.Reached.{reached-fit}
+use Rattle.text.specs.Text.{rLine}
+use Rattle.journal.specs.declared.Log.{Log}
+use Rattle.journal.specs.Log.{itemDone, nextItem}
+use Rattle.journal.specs.Reached.{Reached, fresh, item}
+use Rattle.journal.proofs.Printed.{at-most, never-24}
+use Rattle.journal.proofs.Own.{Own, Boarded, none, window, fresh-own, item-does, fresh-empty, no-window, slot-ended}
+
+pub own : {log : Log} → Reached log → Own log
+own fresh = fresh-own
+own (item {log} r tag v) = item-does log (own r) tag v .own
+
+-- ---- text
+
+-- An item's number fits a `u64`, so its lines are short.
+next-small : (n : ℕ) → nextItem n < 2 ^ 64
+unfolding nextItem
+next-small n = omega arith
+
+pub short-text : (log : Log) → Own log → (tag : ℕ) (v : List ℕ) → length (itemDone log tag v .text) ≤ 1056
+short-text log o tag v = at-most (nextItem (log .items)) (next-small (log .items)) (item-does log o tag v .prints)
+
+module _ {log : Log} (reached : Reached log) where
+  -- `Log::MOST`: what any next item prints.
+  pub item-short : (tag : ℕ) (v : List ℕ) → length (itemDone log tag v .text) ≤ 1056
+  item-short tag v = short-text log (own reached) tag v
+
+  -- ---- refusal 24
+
+  -- "24: unfit state handed in": no item is refused that.
+  pub no-24 : (tag : ℕ) (v : List ℕ) (n : ℕ) → itemDone log tag v .text ≡ rLine n 24 → ⊥
+  no-24 tag v n e = never-24 (item-does log (own reached) tag v .prints) n e
+
+  pub session-fit : (k : ℕ) → k < 254 → fit (sessionOf k (log .sessions)) ≡ true
+  session-fit k h = ap (λ (ss : List Session). fit (sessionOf k ss)) (own reached .heard) ∙ reached-fit (own reached .frames) k h
+
+  -- There is no window yet, or the board is fit.
+  pub board-fit : (log .board ≡ freshBoard 0 .board) ⊎ (fitBoard (log .board) ≡ true)
+  board-fit = go (own reached .board-is)
+    where
+      go : Boarded (log .board) → (log .board ≡ freshBoard 0 .board) ⊎ (fitBoard (log .board) ≡ true)
+      go (none e) = inl e
+      go (window r f) = inr f
+
+  -- The public calls answer what the items do, so that an item's refusals are the calls' own.
+  pub record Answered : Type 0 where
+    pub set : (slot k : ℕ) (weights : Weights) → setCall (log .board) slot k weights ≡ setWork (log .board) slot k weights
+    pub remove : (slot : ℕ) → removeCall (log .board) slot ≡ removeWork (log .board) slot
+    pub read : (slot : ℕ) → readCall (log .board) slot ≡ readWork (log .board) slot
+    pub enter : (loss shake : ℕ) → enterCall (log .board) loss shake ≡ enterWork (log .board) loss shake
+
+  pub same-answers : (log .board .window .size ≡ 0 → ⊥) → Answered
+  same-answers there = go (own reached .board-is)
+    where
+      go : Boarded (log .board) → Answered
+      go (none e) = absurd (there (ap (λ (b : Board). b .window .size) e ∙ eqb-true (freshBoard 0 .board .window .size) 0 no-window))
+      go (window r f) =
+          record { set = set-known (log .board) f; remove = remove-known (log .board) f; read = read-known (log .board) f; enter = enter-known (log .board) f }
+
+  -- ---- demand 2
+
+  -- After every item, every question in use has as its list the first min(k, held) of the held reports in the ranking.
+  pub log-demand-2 : (slot : ℕ) → slot < 32 → (slotAt (log .board) slot .k ≡ 0 → ⊥)
+      → lines (slotAt (log .board) slot) ≡ best above (slotAt (log .board) slot .k) (map (entry (slotAt (log .board) slot .weights)) (heldReports (log .board .window)))
+  log-demand-2 slot h used = go (own reached .board-is)
+    where
+      go : Boarded (log .board) → lines (slotAt (log .board) slot) ≡ best above (slotAt (log .board) slot .k) (map (entry (slotAt (log .board) slot .weights)) (heldReports (log .board .window)))
+      go (none e) = absurd (used (ap (λ (b : Board). slotAt b slot .k) e ∙ ap (λ q. q .k) (fresh-empty 0 slot h)))
+      go (window r f) = demand-2 r slot h (slot-ended log (own reached) r f slot h used)
