@@ -11,3 +11,4 @@ pub mod Once
 pub mod Printed
 pub mod Own
 pub mod Reached
+pub mod Program

@@ -91,7 +91,7 @@ own-board own is = record { board-is = is; frames = own .frames; heard = own .he
 
 -- ---- by cases
 
-either : {A : Type 0} (P : A → Type 0) (b : Bool) {x y : A} → (b ≡ true → P x) → (b ≡ false → P y) → P (cond b x y)
+pub either : {A : Type 0} (P : A → Type 0) (b : Bool) {x y : A} → (b ≡ true → P x) → (b ≡ false → P y) → P (cond b x y)
 either P true f g = f refl
 either P false f g = g refl
 

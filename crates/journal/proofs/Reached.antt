@@ -37,17 +37,14 @@ own (item {log} r tag v) = item-does log (own r) tag v .own
 -- ---- text
 
 -- An item's number fits a `u64`, so its lines are short.
-next-small : (n : ℕ) → nextItem n < 2 ^ 64
+pub next-small : (n : ℕ) → nextItem n < 2 ^ 64
 unfolding nextItem
 next-small n = omega arith
-
-pub short-text : (log : Log) → Own log → (tag : ℕ) (v : List ℕ) → length (itemDone log tag v .text) ≤ 1056
-short-text log o tag v = at-most (nextItem (log .items)) (next-small (log .items)) (item-does log o tag v .prints)
 
 module _ {log : Log} (reached : Reached log) where
   -- `Log::MOST`: what any next item prints.
   pub item-short : (tag : ℕ) (v : List ℕ) → length (itemDone log tag v .text) ≤ 1056
-  item-short tag v = short-text log (own reached) tag v
+  item-short tag v = at-most (nextItem (log .items)) (next-small (log .items)) (item-does log (own reached) tag v .prints)
 
   -- ---- refusal 24
 

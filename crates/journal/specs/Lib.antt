@@ -2,3 +2,4 @@
 pub mod Log
 pub mod Machine
 pub mod Reached
+pub mod Program
