@@ -10,7 +10,7 @@ use native.Mathlib.Numerals.{add-one}
 use native.Mathlib.Omega.{arith}
 use borrow.Author.Tests.{le-leb, leb-true}
 use lib.Dec.{ltb, leb, eqb}
-use lib.ListN.{length, getD, take, drop, length-append, take-append-drop}
+use lib.ListN.{length, getD, take, drop, replicate, length-append, length-replicate, take-append-drop}
 use lib.Seq.{sets, take-append-seam}
 use Rattle.ranking.proofs.Tests.{clash}
 use Rattle.wire.proofs.Numbers.{Bytes}
@@ -111,3 +111,40 @@ all-printed o (feeds {log} {w} {r} piece later room small f rest) =
 -- The claim: from a fresh log, whatever pieces the bytes come in and whatever rooms are lent, what is printed is the text of the whole log.
 pub program-prints : {bytes printed : List ℕ} → Bytes bytes → Program freshLog nothing bytes printed → printed ≡ logText bytes
 program-prints {bytes} h p = all-printed fresh p ∙ writes bytes h
+
+-- ---- every log can be handed over so
+
+one-byte : (log : Log) (w : Waiting) (b : ℕ) (room : List ℕ) → 1056 ≤ length room
+    → (r : Fed) × (r .taken ≡ 1) × Feeds log w (b ∷ []) room r (sets room 0 (run log w (b ∷ []) .text))
+unfolding hasRoom behind run
+one-byte log w b room most =
+    let c = run log w (b ∷ []) in (
+      record { log = c .log; waiting = c .waiting; taken = 1; written = behind 0 (c .text) },
+      refl,
+      record {
+        within = omega arith;
+        leaves = refl;
+        waits = refl;
+        place = refl;
+        stored = refl;
+        roomy = λ j h.
+            let nought : j ≡ 0 = omega arith in
+            ap (λ (n : ℕ). leb (behind 0 (ran log w (b ∷ []) n .text) + 1056) (length room)) nought ∙ le-leb 1056 (length room) most;
+        full = λ h. absurd (omega arith);
+      },
+    )
+
+-- For one, a byte at a time with rooms of `Log::MOST` bytes.
+pub some-program : (bytes : List ℕ) (log : Log) (w : Waiting) → (printed : List ℕ) × Program log w bytes printed
+some-program [] log w =
+    let room : List ℕ = replicate 1056 0 in
+    let long : length room ≡ 1056 = length-replicate {A = ℕ} 1056 0 in
+    (take (behind 0 (endLine log w)) (sets room 0 (endLine log w)), finishes room (omega arith) (omega arith) refl refl)
+some-program (b ∷ bs) log w =
+    let room : List ℕ = replicate 1056 0 in
+    let long : length room ≡ 1056 = length-replicate {A = ℕ} 1056 0 in
+    let f = one-byte log w b room (omega arith) in
+    let r : Fed = f .0 in
+    let rest = some-program bs (r .log) (r .waiting) in
+    let left : drop (r .taken) (b ∷ []) ++ bs ≡ bs = ap (λ (n : ℕ). drop n (b ∷ []) ++ bs) (f .1) in
+    (take (r .written) (sets room 0 (run log w (b ∷ []) .text)) ++ rest .0, feeds (b ∷ []) bs room (omega arith) (f .2) (subst (λ (l : List ℕ). Program (r .log) (r .waiting) l (rest .0)) (sym left) (rest .1)))
