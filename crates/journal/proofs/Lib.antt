@@ -9,6 +9,8 @@ pub mod Waits
 pub mod Writing
 pub mod Once
 pub mod Printed
+pub mod Answers
+pub mod Shown
 pub mod Own
 pub mod Reached
 pub mod Program

@@ -1,105 +1,97 @@
--- What a log holds is its own: its board has no window yet, or was reached by the board's calls and is fit, and its sessions were reached by frames. Every item
--- keeps that, and prints what such a state can print.
+-- What a log holds is its own: its board has no window yet, or was reached by the board's calls and is fit, and its sessions were reached by its frames, whose reports are those that
+-- entered. Every item keeps that, and prints what such a state can print.
 -- Assumes nothing.
 use mathlib.Core.Path.{_≡_, refl, sym, ap, _∙_, subst}
-use mathlib.Core.Logic.{inl}
-use mathlib.Core.Bool.{Bool, true, false, not, cond, _&&_}
-use mathlib.Core.List.{List, [], _∷_, _++_, map, Memᴰ·of-map, List·Memᴰ·not-nil}
-use Prim.Native.Nat.{ℕ, zero, suc, _+_, _^_, _≤_, _<_}
+use mathlib.Core.Logic.{inl, ⊎-elim}
+use mathlib.Core.Bool.{Bool, true, false, cond, _&&_}
+use mathlib.Core.List.{List, [], _∷_, _++_}
+use Prim.Native.Nat.{ℕ, _≤_, _<_}
 use native.Mathlib.Omega.{arith}
-use borrow.Author.Tests.{eqb-true, eqb-false, eq-eqb, ltb-true, ltb-false, leb-true, lt-ltb}
+use borrow.Author.Tests.{eqb-true, eqb-false, lt-ltb}
 use lib.Dec.{eqb, ltb, leb}
-use lib.IntN.{ℤ, pos, negsuc}
-use lib.Signed.{mag}
-use lib.ListN.{length, getD, take, replicate, length-map, length-take, getD-replicate}
-use mir.Syntax.{w16}
-use mir.Val.{SFits}
-use Rattle.ranking.specs.Best.{_∈_}
+use lib.ListN.{length, getD, take, length-map, length-take, getD-replicate}
 use Rattle.ranking.specs.Cells.{inRange}
-use Rattle.ranking.specs.Standing.{Held, above, entry}
-use Rattle.ranking.specs.Standing as ranked
 use Rattle.ranking.specs.declared.Weights.{Weights}
-use Rattle.ranking.proofs.Tests.{Tested, passed, failed, tested, clash, and-both}
-use Rattle.ranking.proofs.Lists.{here, there, getD-in}
-use Rattle.ranking.proofs.Best.{best-of, length-best-le}
-use Rattle.ranking.proofs.Cells.{score-fits}
-use Rattle.ranking.proofs.Standing.{above-strict, steps-bounded}
-use Rattle.window.specs.declared.Window.{Window}
+use Rattle.ranking.proofs.Tests.{Tested, passed, failed, tested, and-both}
+use Rattle.ranking.proofs.Lists.{there, getD-in}
 use Rattle.window.specs.declared.Fresh.{Fresh}
-use Rattle.window.specs.Rows.{sized, freshWindow, heldReports, fitWindow, added}
+use Rattle.window.specs.Rows.{sized, freshWindow, fitWindow}
 use Rattle.window.specs.History.{Values}
 use Rattle.window.proofs.Fitness.{fit-facts}
-use Rattle.window.proofs.Reports.{held-latest}
-use Rattle.window.proofs.Standing.{held-permitted}
 use Rattle.question.specs.declared.Question.{Question}
-use Rattle.question.specs.declared.Searched.{Searched}
-use Rattle.question.specs.Lines.{asked, emptySlot, finished, inRows, searchedOn}
+use Rattle.question.specs.Lines.{asked, emptySlot, finished}
 use Rattle.question.specs.Calls.{allOf}
 use Rattle.question.proofs.Taking.{if-so, if-not}
 use Rattle.question.proofs.Listed.{all-in}
-use Rattle.board.specs.Work.{noQuestion, slotAt, freshBoard, setRefusal, setWork, slotRefusal, removeWork, readWork, enterRefusal, enterWork, listed, lists, newReport, outgoing, refreshed, entering, isSearched}
+use Rattle.board.specs.Work.{noQuestion, slotAt, freshBoard, setRefusal, setWork, slotRefusal, removeWork, readWork, enterRefusal, enterWork, entering, isSearched}
 use Rattle.board.specs.Calls.{fitBoard, slotFit}
 use Rattle.board.specs.Reached as board
 use Rattle.board.specs.declared.Board.{Board}
+use Rattle.board.specs.declared.NewBoard.{NewBoard}
 use Rattle.board.specs.declared.Placed.{Placed}
 use Rattle.board.specs.declared.Removed.{Removed}
 use Rattle.board.specs.declared.Shown.{Shown}
 use Rattle.board.specs.declared.Entered.{Entered}
 use Rattle.board.proofs.Refusals.{settable, slot-there}
-use Rattle.board.proofs.Slot.{Slot, top, stands-ended}
+use Rattle.board.proofs.Slot.{Slot, stands-ended}
 use Rattle.board.proofs.Slot as state
 use Rattle.board.proofs.Kept.{kept, slot-of, not-searching}
 use Rattle.board.proofs.Demands.{reached-fit}
 use Rattle.board.proofs.Fit.{fit-set, fit-remove, fit-enter}
 use Rattle.board.proofs.Known.{set-known, remove-known, enter-known}
-use Rattle.report.specs.Payload.{isPayload, readPayload}
-use Rattle.report.specs.declared.Reading.{Reading}
-use Rattle.joining.specs.Frame.{Frame, senderOf, malformed, foreign, frameRefusal, isAnnouncement}
-use Rattle.joining.specs.Joining.{fit, sound, carries, stored, announce, packet, sizeIn, take-frame, yields}
-use Rattle.joining.specs.Joining as joins
+use Rattle.joining.specs.Frame.{Frame}
+use Rattle.joining.specs.Joining.{fit}
 use Rattle.wire.specs.Bytes.{number, part}
-use Rattle.joining.specs.Run.{freshSessions, sessionOf, sessionsAfter, answerTo, sessionsAt}
+use Rattle.joining.specs.Run.{freshSessions, sessionsAfter, answerTo, sessionsAt}
 use Rattle.joining.specs.declared.Session.{Session}
-use Rattle.joining.specs.declared.Taken.{Taken}
 use Rattle.joining.specs.declared.Answer.{Answer}
 use Rattle.joining.specs.declared.Answer.the-variants.{Refused, Kept, Complete}
 use Rattle.joining.proofs.Driving.{sessions-more}
-use Rattle.joining.proofs.Reached as session
 use Rattle.text.specs.Text.{sLine, qLine}
 use Rattle.text.specs.Text as text
 use Rattle.text.proofs.Lengths.{listed-in-range}
 use Rattle.journal.specs.declared.Log.{Log}
-use Rattle.journal.specs.Log.{Outcome, freshLog, counted, nextItem, withBoard, withSessions, quiet, refused, unless, known, itemRefusal, windowItem, weightsIn, setItem, removeItem, showItem, sLines, enterItem, answered, frameIn, frameItem, byTag, itemDone}
+use Rattle.journal.specs.Log.{Outcome, freshLog, counted, nextItem, withBoard, withSessions, quiet, unless, known, itemRefusal, windowItem, weightsIn, setItem, removeItem, showItem, sLines, enterItem, answered, frameIn, frameItem, byTag, itemDone}
 use Rattle.journal.proofs.Printed.{Prints, nothing, refusal, search, searches, list}
+use mathlib.Core.List.{append-nil}
+use borrow.Author.Tests.{le-leb, le-ltb, ne-eqb}
+use lib.ListN.{length-append}
+use Rattle.text.proofs.Decimal.{below-or}
+use Rattle.report.specs.declared.Report.{Report}
+use lib.ListN.{take}
+use lib.Seq.{take-nil, take-append-le, take-all, length-take-le}
+use Rattle.joining.specs.Run.{answersAt}
+use Rattle.joining.proofs.Driving.{answers-more}
+use Rattle.board.specs.Calls.{enterCall}
+use Rattle.journal.specs.Reached.{frameOf, completed, enteredBy}
+use Rattle.journal.proofs.Answers.{either, Fine, answer-fine}
+use Rattle.journal.proofs.Shown.{Small, slot-small, searched-few, entering-few, map-few}
 
-pub data Boarded (b : Board) : Type 0 where
-  none : b ≡ freshBoard 0 .board → Boarded b
-  window : {n : ℕ} {past : List Values} → board.Reached n past b → fitBoard b ≡ true → Boarded b
+-- The board that frames lead to.
+pub data Boarded (fs : List Frame) (b : Board) : Type 0 where
+  none : fs ≡ [] → b ≡ freshBoard 0 .board → Boarded fs b
+  window : {n : ℕ} {past : List Values} → board.Reached n past b → fitBoard b ≡ true → past ≡ enteredBy fs → Boarded fs b
 
-pub record Own (log : Log) : Type 0 where
-  pub board-is : Boarded (log .board)
-  pub frames : List Frame
-  pub heard : log .sessions ≡ sessionsAt freshSessions frames
+pub record Own (fs : List Frame) (log : Log) : Type 0 where
+  pub board-is : Boarded fs (log .board)
+  pub heard : log .sessions ≡ sessionsAt freshSessions fs
 
 -- An item's outcome: the log stays its own, and the text is one of those that an item prints.
-pub record Does (item : ℕ) (o : Outcome) : Type 0 where
-  pub own : Own (o .log)
+pub record Does (fs : List Frame) (item : ℕ) (o : Outcome) : Type 0 where
+  pub own : Own fs (o .log)
   pub prints : Prints item (o .text)
 
-own-board : {log : Log} → Own log → {b : Board} → Boarded b → Own (withBoard log b)
-own-board own is = record { board-is = is; frames = own .frames; heard = own .heard }
+-- The two cases of a call.
+module _ {fs : List Frame} (log : Log) (n : ℕ) where
+  refuses : (done : Outcome) → Own fs log → n ≤ 23 → eqb n 0 ≡ false → Does fs (log .items) (unless log n done)
+  unfolding unless
+  refuses done own few t =
+      let some = eqb-false n 0 t in
+      subst (Does fs (log .items)) (sym (if-not _ _ t)) (record { own = own; prints = refusal n (omega arith) few refl })
 
--- ---- by cases
-
-pub either : {A : Type 0} (P : A → Type 0) (b : Bool) {x y : A} → (b ≡ true → P x) → (b ≡ false → P y) → P (cond b x y)
-either P true f g = f refl
-either P false f g = g refl
-
-unless-does : (log : Log) → Own log → (n : ℕ) → n ≤ 23 → (done : Outcome) → (n ≡ 0 → Does (log .items) done) → Does (log .items) (unless log n done)
-unfolding unless
-unless-does log own n few done f =
-    either (Does (log .items)) (eqb n 0) (λ t. f (eqb-true n 0 t))
-    (λ t. let some = eqb-false n 0 t in record { own = own; prints = refusal n (omega arith) few refl })
+  does : {done : Outcome} → eqb n 0 ≡ true → Does fs (log .items) done → Does fs (log .items) (unless log n done)
+  unfolding unless
+  does t d = subst (Does fs (log .items)) (sym (if-so _ _ t)) d
 
 -- ---- the window
 
@@ -115,28 +107,26 @@ pub fresh-empty : (n slot : ℕ) → slot < 32 → slotAt (freshBoard n .board) 
 unfolding freshBoard
 fresh-empty n slot h = getD-replicate 32 slot emptySlot noQuestion h
 
-window-does : (log : Log) → Own log → (v : List ℕ) → Does (log .items) (windowItem log v)
+-- Before any frame there are no reports.
+pub none-yet : enteredBy [] ≡ []
+unfolding enteredBy answersAt
+none-yet = take-nil 1000000
+
+window-does : {fs : List Frame} (log : Log) → Own fs log → fs ≡ [] → (v : List ℕ) → Does fs (log .items) (windowItem log v)
 unfolding windowItem
-window-does log own v =
-    unless-does log own _ (fresh-code _) _
-    (λ e. record { own = own-board own (window (board.fresh e) (reached-fit (board.fresh e) (λ slot h. inl (fresh-empty _ slot h)))); prints = nothing refl })
+window-does {fs} log own first v = go (tested (eqb (made .refusal) 0))
+  where
+    made : NewBoard
+    made = freshBoard (number (part 0 2 v))
+
+    left : made .refusal ≡ 0 → Boarded fs (made .board)
+    left e = window (board.fresh e) (reached-fit (board.fresh e) (λ slot h. inl (fresh-empty _ slot h))) (sym (ap enteredBy first ∙ none-yet))
+
+    go : Tested (eqb (made .refusal) 0) → Does fs (log .items) (windowItem log v)
+    go (passed t) = does log (made .refusal) t (record { own = record { board-is = left (eqb-true _ 0 t); heard = own .heard }; prints = nothing refl })
+    go (failed t) = refuses log (made .refusal) _ own (fresh-code _) t
 
 -- ---- the board's calls
-
-searched-few : (q : Question) (w : Window) → searchedOn q w .steps ≤ 256
-unfolding searchedOn
-searched-few q w = either (λ (r : Searched). r .steps ≤ 256) (leb (q .k) 16) {y = record { steps = 0; question = q }} (λ t. steps-bounded (q .weights) (q .k) (inRows w)) (λ t. omega arith)
-
-entering-few : (w : Window) (loss shake : ℕ) (q : Question) → entering w loss shake q .steps ≤ 256
-unfolding entering refreshed
-entering-few w loss shake q =
-    let p = listed q (newReport w loss shake) in
-    either (λ (r : Searched). r .steps ≤ 256) (lists p (outgoing w)) {y = record { steps = 0; question = p }} (λ t. searched-few p (added w loss shake)) (λ t. omega arith)
-
-map-few : {A : Type 0} (f : A → ℕ) → ((x : A) → f x ≤ 256) → (l : List A) (i : ℕ) → getD (map f l) i 0 ≤ 256
-map-few f h [] i = omega arith
-map-few f h (x ∷ l) zero = h x
-map-few f h (x ∷ l) (suc i) = map-few f h l i
 
 set-code : (b : Board) (slot k : ℕ) (ws : Weights) → setRefusal b slot k ws ≤ 23
 unfolding setRefusal
@@ -153,147 +143,60 @@ enter-code : (entered loss shake : ℕ) → enterRefusal entered loss shake ≤ 
 unfolding enterRefusal
 enter-code entered loss shake = code (leb loss 4095 && leb shake 4095) 12 (omega arith) (code (ltb entered 1000000) 11 {x = 0} (omega arith) (omega arith))
 
--- ---- a list that is shown
+-- ---- the reports that frames bring
 
--- The numbers and scores of a question, as they are stored, fit their lines.
-record Small (q : Question) : Type 0 where
-  few : q .len ≤ 16
-  numbers : (i : ℕ) → getD (q .numbers) i 0 < 2 ^ 32
-  scores : (i : ℕ) → mag (getD (q .scores) i (pos 0)) < 2 ^ 31
+completed-more : (l : List Answer) (a : Answer) → completed (l ++ a ∷ []) ≡ completed l ++ completed (a ∷ [])
+completed-more [] a = refl
+completed-more (Refused n ∷ l) a = completed-more l a
+completed-more (Kept ∷ l) a = completed-more l a
+completed-more (Complete r ∷ l) a = ap (λ (vs : List Values). record { loss = r .loss; shake = r .shake } ∷ vs) (completed-more l a)
 
--- What holds of each element, and of what fills up the list, holds at every place.
-padded : {A B : Type 0} (P : B → Type 0) (f : A → B) (d : B) → P d → (n : ℕ) (l : List A) (m : ℕ) → ((x : A) → x ∈ l → P (f x)) → (i : ℕ) → P (getD (take n (map f l ++ replicate m d)) i d)
-padded P f d p zero l m h i = p
-padded P f d p (suc n) [] zero h i = p
-padded P f d p (suc n) [] (suc m) h zero = p
-padded P f d p (suc n) [] (suc m) h (suc i) = padded P f d p n [] m h i
-padded P f d p (suc n) (x ∷ l) m h zero = h x here
-padded P f d p (suc n) (x ∷ l) m h (suc i) = padded P f d p n l m (λ y k. h y (there k)) i
+take-more : {A : Type 0} (n : ℕ) (l : List A) (x : A) → take n (l ++ x ∷ []) ≡ cond (ltb (length (take n l)) n) (take n l ++ x ∷ []) (take n l)
+take-more n l x =
+    ⊎-elim
+    (λ (less : length l < n).
+    let all = take-all n l (omega arith) in
+    take-all n (l ++ x ∷ []) (rw length-append (omega arith)) ∙ ap (λ r. r ++ x ∷ []) (sym all) ∙ sym (if-so _ _ (lt-ltb (length (take n l)) n (rw all less))))
+    (λ (full : n ≤ length l).
+    take-append-le n l (x ∷ []) full ∙ sym (if-not _ _ (le-ltb (length (take n l)) n (omega (arith, length-take-le n l full)))))
+    (below-or (length l) n (ltb (length l) n) refl)
 
-asked-small : (k : ℕ) (ws : Weights) (l : List ranked.Entry) (next : ℕ) → length l ≤ 16
-    → ((e : ranked.Entry) → e ∈ l → (e .number < 2 ^ 32) × (mag (e .score) < 2 ^ 31)) → Small (asked k ws l next)
-asked-small k ws l next short h =
-    record {
-      few = short;
-      numbers = padded (λ (n : ℕ). n < 2 ^ 32) (λ e. e .number) 0 (omega arith) 16 l 16 (λ e m. h e m .0);
-      scores = padded (λ (z : ℤ). mag z < 2 ^ 31) (λ e. e .score) (pos 0) (omega arith) 16 l 16 (λ e m. h e m .1);
-    }
+module _ (fs : List Frame) (f : Frame) where
+  answer : Answer
+  answer = answerTo (sessionsAt freshSessions fs) f
 
-weight-fits : (z : ℤ) → inRange z ≡ true → SFits w16 z
-weight-fits (pos n) t = record { sfits = omega (arith, leb-true n 1000 (and-both true (leb n 1000) t .1)) }
-weight-fits (negsuc n) t = record { sfits = omega (arith, leb-true n 999 (and-both (leb n 999) true t .0)) }
+  with-answer : (a : Answer) → answer ≡ a → enteredBy (fs ++ f ∷ []) ≡ take 1000000 (completed (answersAt freshSessions fs) ++ completed (a ∷ []))
+  unfolding enteredBy answer
+  with-answer a e =
+      ap (λ l. take 1000000 (completed l)) (answers-more freshSessions fs f) ∙ ap (take 1000000) (completed-more (answersAt freshSessions fs) (answerTo (sessionsAt freshSessions fs) f))
+      ∙ ap (λ x. take 1000000 (completed (answersAt freshSessions fs) ++ completed (x ∷ []))) e
 
-slot-small : (w : Window) → fitWindow w ≡ true → (q : Question) → slotFit w q ≡ true → Slot w q → Small q
-slot-small w fits q t (state.empty e) = subst Small (sym e) (asked-small 0 _ [] 0 (omega arith) (λ x m. absurd (List·Memᴰ·not-nil m)))
-slot-small w fits q t (state.searches x) = absurd (not-searching w fits q t x)
-slot-small w fits q t (state.stands s) =
-    subst Small (sym (s .is))
-    (asked-small (s .k) (s .ws) (top (s .k) (s .ws) (heldReports w)) (s .next)
-    (omega (arith, s .asks .small, length-best-le above above-strict (s .k) (map (entry (s .ws)) (heldReports w)))) small)
+  nothing-more : (a : Answer) → answer ≡ a → completed (a ∷ []) ≡ [] → enteredBy (fs ++ f ∷ []) ≡ enteredBy fs
+  unfolding enteredBy
+  nothing-more a e z = with-answer a e ∙ ap (take 1000000) (ap (λ l. completed (answersAt freshSessions fs) ++ l) z ∙ append-nil (completed (answersAt freshSessions fs)))
+
+  one-more : (r : Report) → answer ≡ Complete r
+      → enteredBy (fs ++ f ∷ []) ≡ cond (ltb (length (enteredBy fs)) 1000000) (enteredBy fs ++ (record { loss = r .loss; shake = r .shake }) ∷ []) (enteredBy fs)
+  unfolding enteredBy
+  one-more r e = with-answer (Complete r) e ∙ take-more 1000000 (completed (answersAt freshSessions fs)) (record { loss = r .loss; shake = r .shake })
+
+enter-refusal : (b : Board) (loss shake : ℕ) → enterWork b loss shake .refusal ≡ enterRefusal (b .window .entered) loss shake
+unfolding enterWork
+enter-refusal b loss shake =
+    either (λ (r : Entered). r .refusal ≡ enterRefusal (b .window .entered) loss shake) (eqb (enterRefusal (b .window .entered) loss shake) 0)
+    (λ t. sym (eqb-true _ 0 t)) (λ t. refl)
+
+-- A report with permitted values enters where fewer than 1,000,000 have.
+enters-when : (entered loss shake : ℕ) → loss ≤ 4095 → shake ≤ 4095 → eqb (enterRefusal entered loss shake) 0 ≡ ltb entered 1000000
+unfolding enterRefusal
+enters-when entered loss shake h k = rw (le-leb loss 4095 h, le-leb shake 4095 k) (go (ltb entered 1000000))
   where
-    small : (e : ranked.Entry) → e ∈ top (s .k) (s .ws) (heldReports w) → (e .number < 2 ^ 32) × (mag (e .score) < 2 ^ 31)
-    small e m =
-        let ranges = fit-facts w fits .ranges in
-        let r = Memᴰ·of-map (entry (s .ws)) (heldReports w) (best-of above above-strict (s .k) (map (entry (s .ws)) (heldReports w)) e m) in
-        let h : Held = r .0 in
-        let may = held-permitted w fits h (r .1) in
-        let number = held-latest w ranges h (r .1) .1 in
-        let fits32 = score-fits (s .ws) (h .loss) (h .shake) (weight-fits _ (s .asks .loss-range)) (weight-fits _ (s .asks .shake-range)) (may .loss-fits) (may .shake-fits) in
-        subst (λ (x : ranked.Entry). (x .number < 2 ^ 32) × (mag (x .score) < 2 ^ 31)) (r .2) (omega (arith, number, ranges .at-most), fits32 .sfits)
+    go : (t : Bool) → eqb (cond t 0 11) 0 ≡ t
+    go true = refl
+    go false = refl
 
--- ---- a frame's answer
-
-abbrev Coded : Answer → Type 0
-Coded (Refused n) = (1 ≤ n) × (n ≤ 23)
-Coded Kept = Unit
-Coded (Complete r) = Unit
-
--- Refusals 1, 2 and 3 by their tests.
-abbrev first : Bool → Bool → Bool → ℕ
-first x y z = cond x 1 (cond y 2 (cond z 3 0))
-
-refusal-coded : (id : ℕ) (d : List ℕ) → (frameRefusal id d ≡ 0 → ⊥) → Coded (Refused (frameRefusal id d))
-unfolding frameRefusal
-refusal-coded id d some = go (malformed id d) (foreign id) (ltb 253 (senderOf id)) some
-  where
-    go : (x y z : Bool) → (first x y z ≡ 0 → ⊥) → Coded (Refused (first x y z))
-    go true y z h = (omega arith, omega arith)
-    go false true z h = (omega arith, omega arith)
-    go false false true h = (omega arith, omega arith)
-    go false false false h = absurd (h refl)
-
--- A fit session answers no 24.
-solo-coded : (s : Session) → fit s ≡ true → (id : ℕ) (d : List ℕ) → Coded (take-frame s id d .answer)
-unfolding take-frame announce packet readPayload
-solo-coded s fits id d = go (eqb (frameRefusal id d) 0) refl
-  where
-    A : Taken → Type 0
-    A r = Coded (r .answer)
-
-    heard : A (cond (isAnnouncement id) (announce s d) (packet s d))
-    heard =
-        either A (isAnnouncement id)
-        (λ t.
-        either A (not (eqb (getD d 0 0) 32)) (λ e. (omega arith, omega arith))
-        (λ e.
-        either A (not (sound d)) (λ f. (omega arith, omega arith))
-        (λ f.
-        either A (not (eqb (number (part 5 3 d)) 65300)) (λ g. (omega arith, omega arith))
-        (λ g. either A (not (carries (sizeIn d))) (λ h. (omega arith, omega arith)) (λ h. tt)))))
-        (λ t.
-        either A (eqb (s .size) 0) (λ e. (omega arith, omega arith))
-        (λ e.
-        either A (not (eqb (getD d 0 0) (s .next))) (λ f. (omega arith, omega arith))
-        (λ f.
-        either A (ltb (s .next) (s .count)) (λ g. tt)
-        (λ g. either (λ (r : Reading). Coded (yields r)) (isPayload (take (s .size) (stored s d))) (λ h. tt) (λ h. (omega arith, omega arith))))))
-
-    go : (t : Bool) → eqb (frameRefusal id d) 0 ≡ t → A (cond (not t) (joins.refused (frameRefusal id d) s) (cond (not (fit s)) (joins.refused 24 s) (cond (isAnnouncement id) (announce s d) (packet s d))))
-    go false e = refusal-coded id d (eqb-false (frameRefusal id d) 0 e)
-    go true e = subst A (sym (if-not _ _ (ap not fits))) heard
-
-unheard-refused : (id : ℕ) (d : List ℕ) → 254 ≤ senderOf id → frameRefusal id d ≡ 0 → ⊥
-unfolding frameRefusal
-unheard-refused id d h = go (malformed id d) (foreign id) (ltb 253 (senderOf id)) (lt-ltb 253 (senderOf id) h)
-  where
-    go : (x y z : Bool) → z ≡ true → first x y z ≡ 0 → ⊥
-    go true y z e f = omega arith
-    go false true z e f = omega arith
-    go false false true e f = omega arith
-    go false false false e f = clash {b = false} e refl
-
-answer-coded : (log : Log) → Own log → (f : Frame) → Coded (answerTo (log .sessions) f)
-answer-coded log own f =
-    either Coded (ltb (senderOf (f .identifier)) 254)
-    (λ t.
-    let k = senderOf (f .identifier) in
-    solo-coded (sessionOf k (log .sessions)) (ap (λ (ss : List Session). fit (sessionOf k ss)) (own .heard) ∙ session.reached-fit (own .frames) k (ltb-true k 254 t)) (f .identifier) (f .data-bytes))
-    (λ t. refusal-coded (f .identifier) (f .data-bytes) (unheard-refused (f .identifier) (f .data-bytes) (ltb-false (senderOf (f .identifier)) 254 t)))
-
-own-sessions : (log : Log) → Own log → (f : Frame) → Own (withSessions log (sessionsAfter (log .sessions) f))
-own-sessions log own f =
-    record {
-      board-is = own .board-is;
-      frames = own .frames ++ f ∷ [];
-      heard = ap (λ (ss : List Session). sessionsAfter ss f) (own .heard) ∙ sym (sessions-more freshSessions (own .frames) f);
-    }
-
--- Of a log with a window, whose board is fit.
-module _ (log : Log) (own : Own log) {n : ℕ} {past : List Values} (reached : board.Reached n past (log .board)) (fits : fitBoard (log .board) ≡ true) where
-  abbrev b : Board
-  b = log .board
-
-  set-board : (slot k : ℕ) (ws : Weights) → Boarded (setWork b slot k ws .board)
-  set-board slot k ws = subst (λ (r : Placed). Boarded (r .board)) (set-known b fits slot k ws) (window (board.set reached slot k ws) (fit-set b (kept reached) fits slot k ws))
-
-  remove-board : (slot : ℕ) → Boarded (removeWork b slot .board)
-  remove-board slot = subst (λ (r : Removed). Boarded (r .board)) (remove-known b fits slot) (window (board.remove reached slot) (fit-remove b (kept reached) fits slot))
-
-  enter-board : (loss shake : ℕ) → Boarded (enterWork b loss shake .board)
-  enter-board loss shake =
-      subst (λ (r : Entered). Boarded (r .board)) (enter-known b fits loss shake)
-      (window (board.enter reached (record { loss = loss; shake = shake })) (fit-enter b (kept reached) fits loss shake))
-
+-- A fit board.
+module _ (b : Board) {n : ℕ} {past : List Values} (reached : board.Reached n past b) (fits : fitBoard b ≡ true) where
   slot-fit : (slot : ℕ) → slot < 32 → slotFit (b .window) (slotAt b slot) ≡ true
   unfolding fitBoard
   slot-fit slot h =
@@ -309,9 +212,41 @@ module _ (log : Log) (own : Own log) {n : ℕ} {past : List Values} (reached : b
       go (state.stands s) = stands-ended (b .window) (kept reached .since .fit) (slotAt b slot) s
       go (state.searches s) = absurd (not-searching (b .window) (kept reached .since .fit) (slotAt b slot) (slot-fit slot h) s)
 
-  set-does : (v : List ℕ) → Does (log .items) (setItem log v)
+  pub slots-small : (slot : ℕ) → slot < 32 → Small (slotAt b slot)
+  slots-small slot h = slot-small (b .window) (kept reached .since .fit) (slotAt b slot) (slot-fit slot h) (slot-of b (kept reached) slot h)
+
+  -- Setting and removing enter nothing.
+  module _ (fs : List Frame) (same : past ≡ enteredBy fs) where
+    set-board : (slot k : ℕ) (ws : Weights) → Boarded fs (setWork b slot k ws .board)
+    set-board slot k ws = subst (λ (r : Placed). Boarded fs (r .board)) (set-known b fits slot k ws) (window (board.set reached slot k ws) (fit-set b (kept reached) fits slot k ws) same)
+
+    remove-board : (slot : ℕ) → Boarded fs (removeWork b slot .board)
+    remove-board slot = subst (λ (r : Removed). Boarded fs (r .board)) (remove-known b fits slot) (window (board.remove reached slot) (fit-remove b (kept reached) fits slot) same)
+
+    -- A completed report enters as the frames' next one.
+    enter-board : (f : Frame) (r : Report) → answer fs f ≡ Complete r → r .loss ≤ 4095 → r .shake ≤ 4095 → Boarded (fs ++ f ∷ []) (enterWork b (r .loss) (r .shake) .board)
+    enter-board f r e h k =
+        let v : Values = record { loss = r .loss; shake = r .shake } in
+        let known = enter-known b fits (r .loss) (r .shake) in
+        let when : eqb (enterCall b (r .loss) (r .shake) .refusal) 0 ≡ ltb (length past) 1000000 =
+        ap (λ (x : Entered). eqb (x .refusal) 0) known ∙ ap (λ (m : ℕ). eqb m 0) (enter-refusal b (r .loss) (r .shake)) ∙ enters-when (b .window .entered) (r .loss) (r .shake) h k
+        ∙ ap (λ (m : ℕ). ltb m 1000000) (kept reached .since .all-entered) in
+        subst (λ (x : Entered). Boarded (fs ++ f ∷ []) (x .board)) known
+        (window (board.enter reached v) (fit-enter b (kept reached) fits (r .loss) (r .shake))
+        (ap (λ (t : Bool). cond t (past ++ v ∷ []) past) when
+        ∙ ap (λ (l : List Values). cond (ltb (length l) 1000000) (l ++ v ∷ []) l) same ∙ sym (one-more fs f r e)))
+
+-- The items of a log by what its board's calls leave.
+module _ (fs : List Frame) (log : Log) (heard : log .sessions ≡ sessionsAt freshSessions fs) where
+  abbrev b : Board
+  b = log .board
+
+  owns : {c : Board} → Boarded fs c → Own fs (withBoard log c)
+  owns is = record { board-is = is; heard = heard }
+
+  set-does : (v : List ℕ) → Boarded fs (setWork b (getD v 0 0) (getD v 1 0) (weightsIn v) .board) → Does fs (log .items) (setItem log v)
   unfolding setItem setWork
-  set-does v = go (tested (eqb (setRefusal b slot k ws) 0)) (set-board slot k ws)
+  set-does v = go (tested (eqb (setRefusal b slot k ws) 0))
     where
       slot : ℕ
       slot = getD v 0 0
@@ -323,79 +258,101 @@ module _ (log : Log) (own : Own log) {n : ℕ} {past : List Values} (reached : b
       ws = weightsIn v
 
       P : Placed → Type 0
-      P r = Boarded (r .board) → Does (log .items) (unless log (r .refusal) (record { text = sLine (log .items) slot (r .steps); log = withBoard log (r .board) }))
+      P r = Boarded fs (r .board) → Does fs (log .items) (unless log (r .refusal) (record { text = sLine (log .items) slot (r .steps); log = withBoard log (r .board) }))
 
       go : Tested (eqb (setRefusal b slot k ws) 0) → P (setWork b slot k ws)
       go (passed t) =
           subst P (sym (if-so _ _ t))
           (λ is.
-          unless-does log own 0 (omega arith) _
-          (λ e. record { own = own-board own is; prints = search slot _ (settable b slot k ws (eqb-true _ 0 t) .there) (searched-few (asked k ws [] 0) (b .window)) refl }))
-      go (failed t) = subst P (sym (if-not _ _ t)) (λ is. unless-does log own _ (set-code b slot k ws) _ (λ e. clash (eq-eqb _ 0 e) t))
+          does log 0 refl
+          (record { own = owns is; prints = search slot _ (settable b slot k ws (eqb-true _ 0 t) .there) (searched-few (asked k ws [] 0) (b .window)) refl }))
+      go (failed t) = subst P (sym (if-not _ _ t)) (λ is. refuses log (setRefusal b slot k ws) _ (owns is) (set-code b slot k ws) t)
 
-  remove-does : (v : List ℕ) → Does (log .items) (removeItem log v)
+  remove-does : (v : List ℕ) → Boarded fs (removeWork b (getD v 0 0) .board) → Does fs (log .items) (removeItem log v)
   unfolding removeItem removeWork
-  remove-does v = go (tested (eqb (slotRefusal b (getD v 0 0)) 0)) (remove-board (getD v 0 0))
+  remove-does v = go (tested (eqb (slotRefusal b (getD v 0 0)) 0))
     where
       P : Removed → Type 0
-      P r = Boarded (r .board) → Does (log .items) (unless log (r .refusal) (quiet (withBoard log (r .board))))
+      P r = Boarded fs (r .board) → Does fs (log .items) (unless log (r .refusal) (quiet (withBoard log (r .board))))
 
       go : Tested (eqb (slotRefusal b (getD v 0 0)) 0) → P (removeWork b (getD v 0 0))
-      go (passed t) = subst P (sym (if-so _ _ t)) (λ is. unless-does log own 0 (omega arith) _ (λ e. record { own = own-board own is; prints = nothing refl }))
-      go (failed t) = subst P (sym (if-not _ _ t)) (λ is. unless-does log own _ (slot-code b (getD v 0 0)) _ (λ e. clash (eq-eqb _ 0 e) t))
+      go (passed t) = subst P (sym (if-so _ _ t)) (λ is. does log 0 refl (record { own = owns is; prints = nothing refl }))
+      go (failed t) = subst P (sym (if-not _ _ t)) (λ is. refuses log (slotRefusal b (getD v 0 0)) _ (owns is) (slot-code b (getD v 0 0)) t)
 
-  enter-does : (loss shake : ℕ) → Does (log .items) (enterItem log loss shake)
+  enter-does : length (b .slots) ≡ 32 → (loss shake : ℕ) → Boarded fs (enterWork b loss shake .board) → Does fs (log .items) (enterItem log loss shake)
   unfolding enterItem enterWork
-  enter-does loss shake = go (tested (eqb (enterRefusal (b .window .entered) loss shake) 0)) (enter-board loss shake)
+  enter-does many loss shake = go (tested (eqb (enterRefusal (b .window .entered) loss shake) 0))
     where
       P : Entered → Type 0
-      P r = Boarded (r .board) → Does (log .items) (unless log (r .refusal) (record { text = sLines (log .items) 0 (r .searched) (r .steps); log = withBoard log (r .board) }))
+      P r = Boarded fs (r .board) → Does fs (log .items) (unless log (r .refusal) (record { text = sLines (log .items) 0 (r .searched) (r .steps); log = withBoard log (r .board) }))
+
+      steps : Question → ℕ
+      steps q = entering (b .window) loss shake q .steps
 
       go : Tested (eqb (enterRefusal (b .window .entered) loss shake) 0) → P (enterWork b loss shake)
       go (passed t) =
           subst P (sym (if-so _ _ t))
           (λ is.
-          unless-does log own 0 (omega arith) _
-          (λ e. record { own = own-board own is; prints = searches (map (isSearched (b .window) loss shake) (b .slots)) (map (λ q. entering (b .window) loss shake q .steps) (b .slots)) (length-map (b .slots) (isSearched (b .window) loss shake) ∙ kept reached .many) (map-few (λ q. entering (b .window) loss shake q .steps) (entering-few (b .window) loss shake) (b .slots)) refl }))
-      go (failed t) = subst P (sym (if-not _ _ t)) (λ is. unless-does log own _ (enter-code (b .window .entered) loss shake) _ (λ e. clash (eq-eqb _ 0 e) t))
+          does log 0 refl
+          (record {
+            own = owns is;
+            prints = searches _ _ (length-map (b .slots) (isSearched (b .window) loss shake) ∙ many) (map-few steps (entering-few (b .window) loss shake) (b .slots)) refl;
+          }))
+      go (failed t) = subst P (sym (if-not _ _ t)) (λ is. refuses log (enterRefusal (b .window .entered) loss shake) _ (owns is) (enter-code (b .window .entered) loss shake) t)
 
-  show-does : (v : List ℕ) → Does (log .items) (showItem log v)
+  show-does : (v : List ℕ) → Boarded fs b → ((slot : ℕ) → slot < 32 → Small (slotAt b slot)) → Does fs (log .items) (showItem log v)
   unfolding showItem readWork
-  show-does v = go (tested (eqb (slotRefusal b slot) 0))
+  show-does v is each = go (tested (eqb (slotRefusal b slot) 0))
     where
       slot : ℕ
       slot = getD v 0 0
 
       P : Shown → Type 0
-      P r = Does (log .items) (unless log (r .refusal) (record { text = qLine slot (take (r .len) (text.listed (r .numbers) (r .scores))); log = log }))
+      P r = Does fs (log .items) (unless log (r .refusal) (record { text = qLine slot (take (r .len) (text.listed (r .numbers) (r .scores))); log = log }))
 
       go : Tested (eqb (slotRefusal b slot) 0) → P (readWork b slot)
       go (passed t) =
           let there = slot-there b slot (eqb-true _ 0 t) in
           let q = slotAt b slot in
-          let small = slot-small (b .window) (kept reached .since .fit) q (slot-fit slot there) (slot-of b (kept reached) slot there) in
-          let es = take (q .len) (text.listed (q .numbers) (q .scores)) in
-          let short : length es ≤ 16 = simp length-take (omega (arith, small .few)) in
-          subst P (sym (if-so _ _ t)) (unless-does log own 0 (omega arith) _ (λ e. record { own = own; prints = list slot es (there) short (listed-in-range (q .len) (q .numbers) (q .scores) (small .numbers) (small .scores)) refl }))
-      go (failed t) = subst P (sym (if-not _ _ t)) (unless-does log own _ (slot-code b slot) _ (λ e. clash (eq-eqb _ 0 e) t))
+          let small = each slot there in
+          let short : length (take (q .len) (text.listed (q .numbers) (q .scores))) ≤ 16 = simp length-take (omega (arith, small .few)) in
+          subst P (sym (if-so _ _ t))
+          (does log 0 refl (record { own = owns is; prints = list slot _ there short (listed-in-range (q .len) (q .numbers) (q .scores) (small .numbers) (small .scores)) refl }))
+      go (failed t) = subst P (sym (if-not _ _ t)) (refuses log (slotRefusal b slot) _ (owns is) (slot-code b slot) t)
 
-  answered-does : (a : Answer) → Coded a → Does (log .items) (answered log a)
-  answered-does (Refused m) h = record { own = own; prints = refusal m (h .0) (h .1) refl }
-  answered-does Kept h = record { own = own; prints = nothing refl }
-  answered-does (Complete r) h = enter-does (r .loss) (r .shake)
+-- ---- a frame
+
+-- What a frame's answer brings, to a log whose session has taken the frame.
+module _ (fs : List Frame) (f : Frame) (log : Log) (heard : log .sessions ≡ sessionsAt freshSessions (fs ++ f ∷ [])) {n : ℕ} {past : List Values} (reached : board.Reached n past (log .board))
+    (fits : fitBoard (log .board) ≡ true) (same : past ≡ enteredBy fs) where
+  answered-does : (a : Answer) → answer fs f ≡ a → Fine a → Does (fs ++ f ∷ []) (log .items) (answered log a)
+  answered-does (Refused m) e h =
+      record { own = record { board-is = window reached fits (same ∙ sym (nothing-more fs f (Refused m) e refl)); heard = heard }; prints = refusal m (h .0) (h .1) refl }
+  answered-does Kept e h = record { own = record { board-is = window reached fits (same ∙ sym (nothing-more fs f Kept e refl)); heard = heard }; prints = nothing refl }
+  answered-does (Complete r) e h =
+      enter-does (fs ++ f ∷ []) log heard (kept reached .many) (r .loss) (r .shake) (enter-board (log .board) reached fits fs same f r e (h .0) (h .1))
+
+frame-does : (fs : List Frame) (log : Log) → log .sessions ≡ sessionsAt freshSessions fs → {n : ℕ} {past : List Values} → board.Reached n past (log .board) → fitBoard (log .board) ≡ true
+    → past ≡ enteredBy fs → (v : List ℕ) → Does (fs ++ frameIn v ∷ []) (log .items) (frameItem log v)
+unfolding frameItem answer
+frame-does fs log heard reached fits same v =
+    let f = frameIn v in
+    answered-does fs f (withSessions log (sessionsAfter (log .sessions) f)) (ap (λ (ss : List Session). sessionsAfter ss f) heard ∙ sym (sessions-more freshSessions fs f)) reached fits same
+    (answerTo (log .sessions) f) (ap (λ (ss : List Session). answerTo ss f) (sym heard)) (answer-fine fs (log .sessions) heard f)
 
 -- ---- an item
 
--- Where a known item but 16 passes there is a window.
-has-window : (log : Log) (tag size : ℕ) → itemRefusal log tag size ≡ 0 → eqb tag 16 ≡ false → eqb (log .board .window .size) 0 ≡ false
+-- An item that passes is the window's where there is none yet, and any other where there is one.
+placed : (log : Log) (tag size : ℕ) → itemRefusal log tag size ≡ 0 → eqb (log .board .window .size) 0 ≡ eqb tag 16
 unfolding itemRefusal
-has-window log tag size = go (known tag size) (eqb tag 16) (eqb (log .board .window .size) 0)
+placed log tag size = go (known tag size) (eqb tag 16) (eqb (log .board .window .size) 0)
   where
-    go : (k t z : Bool) → _≡_ {A = ℕ} (cond k (cond t (cond z 0 23) (cond z 23 0)) 22) 0 → t ≡ false → z ≡ false
-    go k t false e f = refl
-    go false t true e f = absurd (omega arith)
-    go true true true e f = clash {b = true} refl f
-    go true false true e f = absurd (omega arith)
+    go : (k t z : Bool) → _≡_ {A = ℕ} (cond k (cond t (cond z 0 23) (cond z 23 0)) 22) 0 → z ≡ t
+    go false t z e = absurd (omega arith)
+    go true true true e = refl
+    go true true false e = absurd (omega arith)
+    go true false true e = absurd (omega arith)
+    go true false false e = refl
 
 item-code : (log : Log) (tag size : ℕ) → itemRefusal log tag size ≤ 23
 unfolding itemRefusal
@@ -404,35 +361,77 @@ item-code log tag size =
     code (known tag size) 22 (omega arith)
     (either (λ (m : ℕ). m ≤ 23) (eqb tag 16) (λ t. code z 23 {x = 0} (omega arith) (omega arith)) (λ t. code z 0 {x = 23} (omega arith) (omega arith)))
 
-pub no-window : eqb (freshBoard 0 .board .window .size) 0 ≡ true
+pub no-window : freshBoard 0 .board .window .size ≡ 0
 unfolding freshBoard freshWindow
 no-window = refl
 
-by-tag-does : (log : Log) → Own log → (tag : ℕ) (v : List ℕ) → (eqb tag 16 ≡ false → eqb (log .board .window .size) 0 ≡ false) → Does (log .items) (byTag log tag v)
-unfolding byTag frameItem
-by-tag-does log own tag v there =
-    either D (eqb tag 16) (λ t. window-does log own v) (λ t. go (own .board-is) (there t))
-  where
-    D : Outcome → Type 0
-    D o = Does (log .items) o
+-- A fit board has a window.
+has-window : (b : Board) → fitBoard b ≡ true → eqb (b .window .size) 0 ≡ false
+unfolding fitBoard
+has-window b fits =
+    let ranges = fit-facts (b .window) (and-both (fitWindow (b .window)) (allOf (slotFit (b .window)) (b .slots)) fits .0) .ranges in
+    ne-eqb (b .window .size) 0 (λ e. omega (arith, ranges .ring .some))
 
-    go : Boarded (log .board) → eqb (log .board .window .size) 0 ≡ false → D (cond (eqb tag 17) (setItem log v) (cond (eqb tag 18) (frameItem log v) (cond (eqb tag 19) (removeItem log v) (showItem log v))))
-    go (none e) f = clash (ap (λ (b : Board). eqb (b .window .size) 0) e ∙ no-window) f
-    go (window r fits) f =
-        either D (eqb tag 17) (λ t. set-does log own r fits v)
-        (λ t.
-        either D (eqb tag 18)
-        (λ u. answered-does (withSessions log (sessionsAfter (log .sessions) (frameIn v))) (own-sessions log own (frameIn v)) r fits (answerTo (log .sessions) (frameIn v)) (answer-coded log own (frameIn v)))
-        (λ u. either D (eqb tag 19) (λ x. remove-does log own r fits v) (λ x. show-does log own r fits v)))
+module _ (fs : List Frame) (log : Log) (own : Own fs log) (tag : ℕ) (v : List ℕ) where
+  D : List Frame → Outcome → Type 0
+  D gs o = Does gs (log .items) o
 
-pub fresh-own : Own freshLog
+  -- The frames after an item that passes.
+  after : List Frame
+  after = fs ++ cond (eqb tag 18) (frameIn v ∷ []) []
+
+  no-frame : {o : Outcome} → eqb tag 18 ≡ false → Does fs (log .items) o → Does after (log .items) o
+  unfolding after
+  no-frame {o} e d = subst (λ gs. Does gs (log .items) o) (sym (ap (λ t. fs ++ cond t (frameIn v ∷ []) []) e ∙ append-nil fs)) d
+
+  other : (n : ℕ) → eqb n 18 ≡ false → eqb tag n ≡ true → eqb tag 18 ≡ false
+  other n e t = ap (λ m. eqb m 18) (eqb-true tag n t) ∙ e
+
+  by-tag-does : eqb (log .board .window .size) 0 ≡ eqb tag 16 → Does after (log .items) (byTag log tag v)
+  unfolding byTag after
+  by-tag-does place = go (own .board-is)
+    where
+      A : Outcome → Type 0
+      A o = Does after (log .items) o
+
+      go : Boarded fs (log .board) → A (byTag log tag v)
+      go (none first e) =
+          let t : eqb tag 16 ≡ true = sym place ∙ ap (λ (b : Board). eqb (b .window .size) 0) e ∙ ap (λ m. eqb m 0) no-window in
+          subst A (sym (if-so _ _ t)) (no-frame (other 16 refl t) (window-does log own first v))
+      go (window r fits same) =
+          subst A (sym (if-not _ _ (sym place ∙ has-window (log .board) fits)))
+          (either A (eqb tag 17) (λ t. no-frame (other 17 refl t) (set-does fs log (own .heard) v (set-board (log .board) r fits fs same _ _ _)))
+          (λ t.
+          either A (eqb tag 18)
+          (λ u. subst (λ gs. Does gs (log .items) (frameItem log v)) (ap (λ x. fs ++ cond x (frameIn v ∷ []) []) (sym u)) (frame-does fs log (own .heard) r fits same v))
+          (λ u.
+          no-frame u
+          (either (Does fs (log .items)) (eqb tag 19) (λ x. remove-does fs log (own .heard) v (remove-board (log .board) r fits fs same _))
+          (λ x. show-does fs log (own .heard) v (own .board-is) (slots-small (log .board) r fits))))))
+
+pub fresh-own : Own [] freshLog
 unfolding freshLog sessionsAt
-fresh-own = record { board-is = none refl; frames = []; heard = refl }
+fresh-own = record { board-is = none refl refl; heard = refl }
 
 -- Every item keeps what the log holds its own, and prints what an item can print.
-pub item-does : (log : Log) → Own log → (tag : ℕ) (v : List ℕ) → Does (nextItem (log .items)) (itemDone log tag v)
-unfolding itemDone
-item-does log own tag v =
-    let more : Own (counted log) = record { board-is = own .board-is; frames = own .frames; heard = own .heard } in
-    unless-does (counted log) more (itemRefusal (counted log) tag (length v)) (item-code (counted log) tag (length v)) (byTag (counted log) tag v)
-    (λ e. by-tag-does (counted log) more tag v (has-window (counted log) tag (length v) e))
+pub item-does : (fs : List Frame) (log : Log) → Own fs log → (tag : ℕ) (v : List ℕ) → Does (fs ++ frameOf log tag v) (nextItem (log .items)) (itemDone log tag v)
+unfolding itemDone after
+item-does fs log own tag v = go (tested (eqb code-of 0))
+  where
+    next : Log
+    next = counted log
+
+    code-of : ℕ
+    code-of = itemRefusal (counted log) tag (length v)
+
+    more : Own fs (counted log)
+    more = record { board-is = own .board-is; heard = own .heard }
+
+    A : List Frame → Type 0
+    A gs = Does gs (nextItem (log .items)) (itemDone log tag v)
+
+    go : Tested (eqb code-of 0) → A (fs ++ frameOf log tag v)
+    go (failed t) = subst A (sym (ap (λ x. fs ++ cond (x && eqb tag 18) (frameIn v ∷ []) []) t ∙ append-nil fs)) (refuses (counted log) code-of _ more (item-code (counted log) tag (length v)) t)
+    go (passed t) =
+        subst A (sym (ap (λ x. fs ++ cond (x && eqb tag 18) (frameIn v ∷ []) []) t))
+        (does (counted log) code-of t (by-tag-does fs (counted log) more tag v (placed (counted log) tag (length v) (eqb-true _ 0 t))))

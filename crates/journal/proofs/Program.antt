@@ -26,7 +26,7 @@ use Rattle.journal.specs.Machine.{Came, nothing, withByte, isWhole, came
 use Rattle.journal.specs.Reached.{Reached, fresh, item}
 use Rattle.journal.specs.Program.{Program, feeds, finishes}
 use Rattle.journal.proofs.Feeding.{follow, run-append, ran-next}
-use Rattle.journal.proofs.Own.{either}
+use Rattle.journal.proofs.Answers.{either}
 use Rattle.journal.proofs.Reached.{next-small, item-short}
 use Rattle.journal.proofs.Writing.{writes}
 

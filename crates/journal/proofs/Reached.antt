@@ -1,38 +1,41 @@
--- What is promised of every log that items lead to: its sessions are fit, and so is its board once there is a window, so that no call answers 24; every question in use lists the
--- best k; and no item prints more than `Log::MOST` bytes. Each is read off what the log keeps its own.
+-- What is promised of every log that items lead to: its sessions are fit, and so is its board once there is a window, so that no call answers 24; its window holds what its frames
+-- brought, every question in use lists the best k of that; and no item prints more than `Log::MOST` bytes. Each is read off what the log keeps its own.
 -- Assumes nothing.
-use mathlib.Core.Path.{_≡_, ap, _∙_}
+use mathlib.Core.Path.{_≡_, sym, ap, ap₂, _∙_}
 use mathlib.Core.Logic.{_⊎_, inl, inr}
 use mathlib.Core.Bool.{true}
-use mathlib.Core.List.{List, map}
-use Prim.Native.Nat.{ℕ, _^_, _≤_, _<_}
+use mathlib.Core.List.{List, [], map}
+use Prim.Native.Nat.{ℕ, _-_, _^_, _≤_, _<_}
 use native.Mathlib.Omega.{arith}
-use borrow.Author.Tests.{eqb-true}
 use lib.ListN.{length}
 use Rattle.ranking.specs.Best.{best}
 use Rattle.ranking.specs.Standing.{above, entry}
 use Rattle.ranking.specs.declared.Weights.{Weights}
-use Rattle.window.specs.Rows.{heldReports}
+use Rattle.window.specs.Rows.{freshWindow, heldReports}
+use Rattle.window.specs.History.{Values, numbered, latest}
+use Rattle.window.proofs.Reports.{empty-holds}
+use lib.Seq.{drop-nil}
 use Rattle.question.specs.Lines.{lines}
 use Rattle.board.specs.Work.{slotAt, freshBoard, setWork, removeWork, readWork, enterWork}
 use Rattle.board.specs.Calls.{fitBoard, setCall, removeCall, readCall, enterCall}
 use Rattle.board.specs.declared.Board.{Board}
 use Rattle.board.proofs.Known.{set-known, remove-known, read-known, enter-known}
-use Rattle.board.proofs.Demands.{demand-2}
+use Rattle.board.proofs.Demands.{demand-2, reached-holds}
+use Rattle.board.proofs.Kept.{kept}
 use Rattle.joining.specs.Joining.{fit}
-use Rattle.joining.specs.Run.{sessionOf}
+use Rattle.joining.specs.Run.{freshSessions, sessionOf, sessionsAt}
 use Rattle.joining.specs.declared.Session.{Session}
 use Rattle.joining.proofs.Reached.{reached-fit}
 use Rattle.text.specs.Text.{rLine}
 use Rattle.journal.specs.declared.Log.{Log}
 use Rattle.journal.specs.Log.{itemDone, nextItem}
-use Rattle.journal.specs.Reached.{Reached, fresh, item}
+use Rattle.journal.specs.Reached.{Reached, fresh, item, framesOf, enteredBy}
 use Rattle.journal.proofs.Printed.{at-most, never-24}
-use Rattle.journal.proofs.Own.{Own, Boarded, none, window, fresh-own, item-does, fresh-empty, no-window, slot-ended}
+use Rattle.journal.proofs.Own.{Own, Boarded, none, window, fresh-own, item-does, fresh-empty, none-yet, no-window, slot-ended}
 
-pub own : {log : Log} → Reached log → Own log
+pub own : {log : Log} → (r : Reached log) → Own (framesOf r) log
 own fresh = fresh-own
-own (item {log} r tag v) = item-does log (own r) tag v .own
+own (item {log} r tag v) = item-does (framesOf r) log (own r) tag v .own
 
 -- ---- text
 
@@ -41,27 +44,35 @@ pub next-small : (n : ℕ) → nextItem n < 2 ^ 64
 unfolding nextItem
 next-small n = omega arith
 
+none-held : heldReports (freshBoard 0 .board .window) ≡ []
+unfolding freshBoard freshWindow
+none-held = empty-holds 0
+
 module _ {log : Log} (reached : Reached log) where
   -- `Log::MOST`: what any next item prints.
   pub item-short : (tag : ℕ) (v : List ℕ) → length (itemDone log tag v .text) ≤ 1056
-  item-short tag v = at-most (nextItem (log .items)) (next-small (log .items)) (item-does log (own reached) tag v .prints)
+  item-short tag v = at-most (nextItem (log .items)) (next-small (log .items)) (item-does (framesOf reached) log (own reached) tag v .prints)
 
   -- ---- refusal 24
 
   -- "24: unfit state handed in": no item is refused that.
   pub no-24 : (tag : ℕ) (v : List ℕ) (n : ℕ) → itemDone log tag v .text ≡ rLine n 24 → ⊥
-  no-24 tag v n e = never-24 (item-does log (own reached) tag v .prints) n e
+  no-24 tag v n e = never-24 (item-does (framesOf reached) log (own reached) tag v .prints) n e
+
+  -- The sessions are those that the log's frames lead to.
+  pub log-sessions : log .sessions ≡ sessionsAt freshSessions (framesOf reached)
+  log-sessions = own reached .heard
 
   pub session-fit : (k : ℕ) → k < 254 → fit (sessionOf k (log .sessions)) ≡ true
-  session-fit k h = ap (λ (ss : List Session). fit (sessionOf k ss)) (own reached .heard) ∙ reached-fit (own reached .frames) k h
+  session-fit k h = ap (λ (ss : List Session). fit (sessionOf k ss)) log-sessions ∙ reached-fit (framesOf reached) k h
 
   -- There is no window yet, or the board is fit.
   pub board-fit : (log .board ≡ freshBoard 0 .board) ⊎ (fitBoard (log .board) ≡ true)
   board-fit = go (own reached .board-is)
     where
-      go : Boarded (log .board) → (log .board ≡ freshBoard 0 .board) ⊎ (fitBoard (log .board) ≡ true)
-      go (none e) = inl e
-      go (window r f) = inr f
+      go : Boarded (framesOf reached) (log .board) → (log .board ≡ freshBoard 0 .board) ⊎ (fitBoard (log .board) ≡ true)
+      go (none first e) = inl e
+      go (window r f same) = inr f
 
   -- The public calls answer what the items do, so that an item's refusals are the calls' own.
   pub record Answered : Type 0 where
@@ -73,9 +84,9 @@ module _ {log : Log} (reached : Reached log) where
   pub same-answers : (log .board .window .size ≡ 0 → ⊥) → Answered
   same-answers there = go (own reached .board-is)
     where
-      go : Boarded (log .board) → Answered
-      go (none e) = absurd (there (ap (λ (b : Board). b .window .size) e ∙ eqb-true (freshBoard 0 .board .window .size) 0 no-window))
-      go (window r f) =
+      go : Boarded (framesOf reached) (log .board) → Answered
+      go (none first e) = absurd (there (ap (λ (b : Board). b .window .size) e ∙ no-window))
+      go (window r f same) =
           record { set = set-known (log .board) f; remove = remove-known (log .board) f; read = read-known (log .board) f; enter = enter-known (log .board) f }
 
   -- ---- demand 2
@@ -85,6 +96,16 @@ module _ {log : Log} (reached : Reached log) where
       → lines (slotAt (log .board) slot) ≡ best above (slotAt (log .board) slot .k) (map (entry (slotAt (log .board) slot .weights)) (heldReports (log .board .window)))
   log-demand-2 slot h used = go (own reached .board-is)
     where
-      go : Boarded (log .board) → lines (slotAt (log .board) slot) ≡ best above (slotAt (log .board) slot .k) (map (entry (slotAt (log .board) slot .weights)) (heldReports (log .board .window)))
-      go (none e) = absurd (used (ap (λ (b : Board). slotAt b slot .k) e ∙ ap (λ q. q .k) (fresh-empty 0 slot h)))
-      go (window r f) = demand-2 r slot h (slot-ended log (own reached) r f slot h used)
+      go : Boarded (framesOf reached) (log .board) → lines (slotAt (log .board) slot) ≡ best above (slotAt (log .board) slot .k) (map (entry (slotAt (log .board) slot .weights)) (heldReports (log .board .window)))
+      go (none first e) = absurd (used (ap (λ (b : Board). slotAt b slot .k) e ∙ ap (λ q. q .k) (fresh-empty 0 slot h)))
+      go (window r f same) = demand-2 r slot h (slot-ended (log .board) r f slot h used)
+
+  -- The held reports are the last min(N, entered) of those that the log's frames completed, the first 1,000,000 of them, numbered in their order.
+  pub log-holds : heldReports (log .board .window) ≡ latest (log .board .window .size) (numbered 1 (enteredBy (framesOf reached)))
+  log-holds = go (own reached .board-is)
+    where
+      go : Boarded (framesOf reached) (log .board) → heldReports (log .board .window) ≡ latest (log .board .window .size) (numbered 1 (enteredBy (framesOf reached)))
+      go (none first e) =
+          ap (λ (b : Board). heldReports (b .window)) e ∙ none-held
+          ∙ sym (ap (λ (vs : List Values). latest (log .board .window .size) (numbered 1 vs)) (ap enteredBy first ∙ none-yet) ∙ drop-nil (0 - log .board .window .size))
+      go (window r f same) = reached-holds r ∙ ap₂ (λ (n : ℕ) (vs : List Values). latest n (numbered 1 vs)) (sym (kept r .since .of-size)) same
