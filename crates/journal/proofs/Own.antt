@@ -2,14 +2,15 @@
 -- entered. Every item keeps that, and prints what such a state can print.
 -- Assumes nothing.
 use mathlib.Core.Path.{_≡_, refl, sym, ap, _∙_, subst}
-use mathlib.Core.Logic.{inl, ⊎-elim}
+use mathlib.Core.Logic.{inl}
 use mathlib.Core.Bool.{Bool, true, false, cond, _&&_}
-use mathlib.Core.List.{List, [], _∷_, _++_}
+use mathlib.Core.List.{List, [], _∷_, _++_, append-nil}
 use Prim.Native.Nat.{ℕ, _≤_, _<_}
 use native.Mathlib.Omega.{arith}
-use borrow.Author.Tests.{eqb-true, eqb-false, lt-ltb}
+use borrow.Author.Tests.{eqb-true, eqb-false, ne-eqb}
 use lib.Dec.{eqb, ltb, leb}
 use lib.ListN.{length, getD, take, length-map, length-take, getD-replicate}
+use Rattle.wire.specs.Bytes.{number, part}
 use Rattle.ranking.specs.Cells.{inRange}
 use Rattle.ranking.specs.declared.Weights.{Weights}
 use Rattle.ranking.proofs.Tests.{Tested, passed, failed, tested, and-both}
@@ -24,7 +25,7 @@ use Rattle.question.specs.Calls.{allOf}
 use Rattle.question.proofs.Taking.{if-so, if-not}
 use Rattle.question.proofs.Listed.{all-in}
 use Rattle.board.specs.Work.{noQuestion, slotAt, freshBoard, setRefusal, setWork, slotRefusal, removeWork, readWork, enterRefusal, enterWork, entering, isSearched}
-use Rattle.board.specs.Calls.{fitBoard, slotFit}
+use Rattle.board.specs.Calls.{fitBoard, slotFit, enterCall}
 use Rattle.board.specs.Reached as board
 use Rattle.board.specs.declared.Board.{Board}
 use Rattle.board.specs.declared.NewBoard.{NewBoard}
@@ -39,9 +40,9 @@ use Rattle.board.proofs.Kept.{kept, slot-of, not-searching}
 use Rattle.board.proofs.Demands.{reached-fit}
 use Rattle.board.proofs.Fit.{fit-set, fit-remove, fit-enter}
 use Rattle.board.proofs.Known.{set-known, remove-known, enter-known}
+use Rattle.report.specs.declared.Report.{Report}
 use Rattle.joining.specs.Frame.{Frame}
 use Rattle.joining.specs.Joining.{fit}
-use Rattle.wire.specs.Bytes.{number, part}
 use Rattle.joining.specs.Run.{freshSessions, sessionsAfter, answerTo, sessionsAt}
 use Rattle.joining.specs.declared.Session.{Session}
 use Rattle.joining.specs.declared.Answer.{Answer}
@@ -52,19 +53,9 @@ use Rattle.text.specs.Text as text
 use Rattle.text.proofs.Lengths.{listed-in-range}
 use Rattle.journal.specs.declared.Log.{Log}
 use Rattle.journal.specs.Log.{Outcome, freshLog, counted, nextItem, withBoard, withSessions, quiet, unless, known, itemRefusal, windowItem, weightsIn, setItem, removeItem, showItem, sLines, enterItem, answered, frameIn, frameItem, byTag, itemDone}
+use Rattle.journal.specs.Reached.{frameOf, enteredBy}
 use Rattle.journal.proofs.Printed.{Prints, nothing, refusal, search, searches, list}
-use mathlib.Core.List.{append-nil}
-use borrow.Author.Tests.{le-leb, le-ltb, ne-eqb}
-use lib.ListN.{length-append}
-use Rattle.text.proofs.Decimal.{below-or}
-use Rattle.report.specs.declared.Report.{Report}
-use lib.ListN.{take}
-use lib.Seq.{take-nil, take-append-le, take-all, length-take-le}
-use Rattle.joining.specs.Run.{answersAt}
-use Rattle.joining.proofs.Driving.{answers-more}
-use Rattle.board.specs.Calls.{enterCall}
-use Rattle.journal.specs.Reached.{frameOf, completed, enteredBy}
-use Rattle.journal.proofs.Answers.{either, Fine, answer-fine}
+use Rattle.journal.proofs.Answers.{either, Fine, answer-fine, none-yet, answer, nothing-more, one-more, enter-refusal, enters-when}
 use Rattle.journal.proofs.Shown.{Small, slot-small, searched-few, entering-few, map-few}
 
 -- The board that frames lead to.
@@ -107,11 +98,6 @@ pub fresh-empty : (n slot : ℕ) → slot < 32 → slotAt (freshBoard n .board) 
 unfolding freshBoard
 fresh-empty n slot h = getD-replicate 32 slot emptySlot noQuestion h
 
--- Before any frame there are no reports.
-pub none-yet : enteredBy [] ≡ []
-unfolding enteredBy answersAt
-none-yet = take-nil 1000000
-
 window-does : {fs : List Frame} (log : Log) → Own fs log → fs ≡ [] → (v : List ℕ) → Does fs (log .items) (windowItem log v)
 unfolding windowItem
 window-does {fs} log own first v = go (tested (eqb (made .refusal) 0))
@@ -142,58 +128,6 @@ slot-code b slot = code (ltb slot 32) 13 (omega arith) (code (eqb (slotAt b slot
 enter-code : (entered loss shake : ℕ) → enterRefusal entered loss shake ≤ 23
 unfolding enterRefusal
 enter-code entered loss shake = code (leb loss 4095 && leb shake 4095) 12 (omega arith) (code (ltb entered 1000000) 11 {x = 0} (omega arith) (omega arith))
-
--- ---- the reports that frames bring
-
-completed-more : (l : List Answer) (a : Answer) → completed (l ++ a ∷ []) ≡ completed l ++ completed (a ∷ [])
-completed-more [] a = refl
-completed-more (Refused n ∷ l) a = completed-more l a
-completed-more (Kept ∷ l) a = completed-more l a
-completed-more (Complete r ∷ l) a = ap (λ (vs : List Values). record { loss = r .loss; shake = r .shake } ∷ vs) (completed-more l a)
-
-take-more : {A : Type 0} (n : ℕ) (l : List A) (x : A) → take n (l ++ x ∷ []) ≡ cond (ltb (length (take n l)) n) (take n l ++ x ∷ []) (take n l)
-take-more n l x =
-    ⊎-elim
-    (λ (less : length l < n).
-    let all = take-all n l (omega arith) in
-    take-all n (l ++ x ∷ []) (rw length-append (omega arith)) ∙ ap (λ r. r ++ x ∷ []) (sym all) ∙ sym (if-so _ _ (lt-ltb (length (take n l)) n (rw all less))))
-    (λ (full : n ≤ length l).
-    take-append-le n l (x ∷ []) full ∙ sym (if-not _ _ (le-ltb (length (take n l)) n (omega (arith, length-take-le n l full)))))
-    (below-or (length l) n (ltb (length l) n) refl)
-
-module _ (fs : List Frame) (f : Frame) where
-  answer : Answer
-  answer = answerTo (sessionsAt freshSessions fs) f
-
-  with-answer : (a : Answer) → answer ≡ a → enteredBy (fs ++ f ∷ []) ≡ take 1000000 (completed (answersAt freshSessions fs) ++ completed (a ∷ []))
-  unfolding enteredBy answer
-  with-answer a e =
-      ap (λ l. take 1000000 (completed l)) (answers-more freshSessions fs f) ∙ ap (take 1000000) (completed-more (answersAt freshSessions fs) (answerTo (sessionsAt freshSessions fs) f))
-      ∙ ap (λ x. take 1000000 (completed (answersAt freshSessions fs) ++ completed (x ∷ []))) e
-
-  nothing-more : (a : Answer) → answer ≡ a → completed (a ∷ []) ≡ [] → enteredBy (fs ++ f ∷ []) ≡ enteredBy fs
-  unfolding enteredBy
-  nothing-more a e z = with-answer a e ∙ ap (take 1000000) (ap (λ l. completed (answersAt freshSessions fs) ++ l) z ∙ append-nil (completed (answersAt freshSessions fs)))
-
-  one-more : (r : Report) → answer ≡ Complete r
-      → enteredBy (fs ++ f ∷ []) ≡ cond (ltb (length (enteredBy fs)) 1000000) (enteredBy fs ++ (record { loss = r .loss; shake = r .shake }) ∷ []) (enteredBy fs)
-  unfolding enteredBy
-  one-more r e = with-answer (Complete r) e ∙ take-more 1000000 (completed (answersAt freshSessions fs)) (record { loss = r .loss; shake = r .shake })
-
-enter-refusal : (b : Board) (loss shake : ℕ) → enterWork b loss shake .refusal ≡ enterRefusal (b .window .entered) loss shake
-unfolding enterWork
-enter-refusal b loss shake =
-    either (λ (r : Entered). r .refusal ≡ enterRefusal (b .window .entered) loss shake) (eqb (enterRefusal (b .window .entered) loss shake) 0)
-    (λ t. sym (eqb-true _ 0 t)) (λ t. refl)
-
--- A report with permitted values enters where fewer than 1,000,000 have.
-enters-when : (entered loss shake : ℕ) → loss ≤ 4095 → shake ≤ 4095 → eqb (enterRefusal entered loss shake) 0 ≡ ltb entered 1000000
-unfolding enterRefusal
-enters-when entered loss shake h k = rw (le-leb loss 4095 h, le-leb shake 4095 k) (go (ltb entered 1000000))
-  where
-    go : (t : Bool) → eqb (cond t 0 11) 0 ≡ t
-    go true = refl
-    go false = refl
 
 -- A fit board.
 module _ (b : Board) {n : ℕ} {past : List Values} (reached : board.Reached n past b) (fits : fitBoard b ≡ true) where
@@ -373,9 +307,6 @@ has-window b fits =
     ne-eqb (b .window .size) 0 (λ e. omega (arith, ranges .ring .some))
 
 module _ (fs : List Frame) (log : Log) (own : Own fs log) (tag : ℕ) (v : List ℕ) where
-  D : List Frame → Outcome → Type 0
-  D gs o = Does gs (log .items) o
-
   -- The frames after an item that passes.
   after : List Frame
   after = fs ++ cond (eqb tag 18) (frameIn v ∷ []) []
@@ -418,9 +349,6 @@ pub item-does : (fs : List Frame) (log : Log) → Own fs log → (tag : ℕ) (v 
 unfolding itemDone after
 item-does fs log own tag v = go (tested (eqb code-of 0))
   where
-    next : Log
-    next = counted log
-
     code-of : ℕ
     code-of = itemRefusal (counted log) tag (length v)
 

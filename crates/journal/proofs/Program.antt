@@ -12,8 +12,8 @@ use borrow.Author.Tests.{le-leb, leb-true}
 use lib.Dec.{ltb, leb, eqb}
 use lib.ListN.{length, getD, take, drop, replicate, length-append, length-replicate, take-append-drop}
 use lib.Seq.{sets, take-append-seam}
-use Rattle.ranking.proofs.Tests.{clash}
 use Rattle.wire.proofs.Numbers.{Bytes}
+use Rattle.ranking.proofs.Tests.{clash}
 use Rattle.text.specs.Text.{behind}
 use Rattle.text.proofs.Decimal.{below-or}
 use Rattle.text.proofs.Lengths.{rLine-longest}

@@ -1,23 +1,24 @@
 -- What is promised of every log that items lead to: its sessions are fit, and so is its board once there is a window, so that no call answers 24; its window holds what its frames
 -- brought, every question in use lists the best k of that; and no item prints more than `Log::MOST` bytes. Each is read off what the log keeps its own.
 -- Assumes nothing.
-use mathlib.Core.Path.{_≡_, sym, ap, ap₂, _∙_}
+use mathlib.Core.Path.{_≡_, sym, ap, ap₂, _∙_, subst}
 use mathlib.Core.Logic.{_⊎_, inl, inr}
 use mathlib.Core.Bool.{true}
 use mathlib.Core.List.{List, [], map}
 use Prim.Native.Nat.{ℕ, _-_, _^_, _≤_, _<_}
 use native.Mathlib.Omega.{arith}
 use lib.ListN.{length}
+use lib.Seq.{drop-nil}
 use Rattle.ranking.specs.Best.{best}
 use Rattle.ranking.specs.Standing.{above, entry}
 use Rattle.ranking.specs.declared.Weights.{Weights}
 use Rattle.window.specs.Rows.{freshWindow, heldReports}
 use Rattle.window.specs.History.{Values, numbered, latest}
 use Rattle.window.proofs.Reports.{empty-holds}
-use lib.Seq.{drop-nil}
 use Rattle.question.specs.Lines.{lines}
 use Rattle.board.specs.Work.{slotAt, freshBoard, setWork, removeWork, readWork, enterWork}
 use Rattle.board.specs.Calls.{fitBoard, setCall, removeCall, readCall, enterCall}
+use Rattle.board.specs.Reached as board
 use Rattle.board.specs.declared.Board.{Board}
 use Rattle.board.proofs.Known.{set-known, remove-known, read-known, enter-known}
 use Rattle.board.proofs.Demands.{demand-2, reached-holds}
@@ -31,7 +32,8 @@ use Rattle.journal.specs.declared.Log.{Log}
 use Rattle.journal.specs.Log.{itemDone, nextItem}
 use Rattle.journal.specs.Reached.{Reached, fresh, item, framesOf, enteredBy}
 use Rattle.journal.proofs.Printed.{at-most, never-24}
-use Rattle.journal.proofs.Own.{Own, Boarded, none, window, fresh-own, item-does, fresh-empty, none-yet, no-window, slot-ended}
+use Rattle.journal.proofs.Answers.{none-yet}
+use Rattle.journal.proofs.Own.{Own, Boarded, none, window, fresh-own, item-does, fresh-empty, no-window, slot-ended}
 
 pub own : {log : Log} → (r : Reached log) → Own (framesOf r) log
 own fresh = fresh-own
@@ -74,6 +76,15 @@ module _ {log : Log} (reached : Reached log) where
       go (none first e) = inl e
       go (window r f same) = inr f
 
+  -- Where there is a window, the board is one that the board's calls lead to, with the reports that the log's frames completed entered; so all that is promised of such a board holds.
+  pub log-board : (log .board .window .size ≡ 0 → ⊥) → board.Reached (log .board .window .size) (enteredBy (framesOf reached)) (log .board) × (fitBoard (log .board) ≡ true)
+  log-board there = go (own reached .board-is)
+    where
+      go : Boarded (framesOf reached) (log .board) → board.Reached (log .board .window .size) (enteredBy (framesOf reached)) (log .board) × (fitBoard (log .board) ≡ true)
+      go (none first e) = absurd (there (ap (λ (b : Board). b .window .size) e ∙ no-window))
+      go (window {n} r f same) =
+          (subst (λ (m : ℕ). board.Reached m (enteredBy (framesOf reached)) (log .board)) (sym (kept r .since .of-size)) (subst (λ (past : List Values). board.Reached n past (log .board)) same r), f)
+
   -- The public calls answer what the items do, so that an item's refusals are the calls' own.
   pub record Answered : Type 0 where
     pub set : (slot k : ℕ) (weights : Weights) → setCall (log .board) slot k weights ≡ setWork (log .board) slot k weights
@@ -82,12 +93,9 @@ module _ {log : Log} (reached : Reached log) where
     pub enter : (loss shake : ℕ) → enterCall (log .board) loss shake ≡ enterWork (log .board) loss shake
 
   pub same-answers : (log .board .window .size ≡ 0 → ⊥) → Answered
-  same-answers there = go (own reached .board-is)
-    where
-      go : Boarded (framesOf reached) (log .board) → Answered
-      go (none first e) = absurd (there (ap (λ (b : Board). b .window .size) e ∙ no-window))
-      go (window r f same) =
-          record { set = set-known (log .board) f; remove = remove-known (log .board) f; read = read-known (log .board) f; enter = enter-known (log .board) f }
+  same-answers there =
+      let f = log-board there .1 in
+      record { set = set-known (log .board) f; remove = remove-known (log .board) f; read = read-known (log .board) f; enter = enter-known (log .board) f }
 
   -- ---- demand 2
 

@@ -6,12 +6,13 @@ use mathlib.Core.List.{List, [], _∷_, _++_, map, Memᴰ·of-map, List·Memᴰ�
 use Prim.Native.Nat.{ℕ, zero, suc, _^_, _≤_, _<_}
 use native.Mathlib.Omega.{arith}
 use borrow.Author.Tests.{leb-true}
+use mir.Syntax.{w16}
+use mir.Val.{SFits}
 use lib.Dec.{leb}
 use lib.IntN.{ℤ, pos, negsuc}
 use lib.Signed.{mag}
 use lib.ListN.{length, getD, take, replicate}
-use mir.Syntax.{w16}
-use mir.Val.{SFits}
+use Rattle.wire.specs.Bytes.{number}
 use Rattle.ranking.specs.Best.{_∈_}
 use Rattle.ranking.specs.Cells.{inRange}
 use Rattle.ranking.specs.Standing.{Held, above, entry}
@@ -35,7 +36,6 @@ use Rattle.board.specs.Calls.{slotFit}
 use Rattle.board.proofs.Slot.{Slot, top}
 use Rattle.board.proofs.Slot as state
 use Rattle.board.proofs.Kept.{not-searching}
-use Rattle.wire.specs.Bytes.{number}
 use Rattle.journal.proofs.Answers.{either}
 
 -- The numbers and scores of a question, as they are stored, fit their lines.

@@ -14,8 +14,8 @@ use lib.Seq.{append-snoc, getD-take, getD-drop, ext-getD}
 use Rattle.wire.specs.Bytes.{part}
 use Rattle.wire.proofs.Numbers.{Bytes, number-two}
 use Rattle.wire.proofs.Fields.{cut-short, length-part}
-use Rattle.text.proofs.Decimal.{below-or}
 use Rattle.question.proofs.Taking.{if-so, if-not}
+use Rattle.text.proofs.Decimal.{below-or}
 use Rattle.journal.specs.declared.Log.{Log}
 use Rattle.journal.specs.declared.machine.Waiting.{Waiting}
 use Rattle.journal.specs.Log.{Outcome, Consumed, itemDone, after, consumed, ending, textFrom, freshLog, logText}
