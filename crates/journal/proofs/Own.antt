@@ -300,7 +300,7 @@ unfolding freshBoard freshWindow
 no-window = refl
 
 -- A fit board has a window.
-has-window : (b : Board) → fitBoard b ≡ true → eqb (b .window .size) 0 ≡ false
+pub has-window : (b : Board) → fitBoard b ≡ true → eqb (b .window .size) 0 ≡ false
 unfolding fitBoard
 has-window b fits =
     let ranges = fit-facts (b .window) (and-both (fitWindow (b .window)) (allOf (slotFit (b .window)) (b .slots)) fits .0) .ranges in

@@ -1,22 +1,25 @@
 -- What is promised of every log that items lead to: its sessions are fit, and so is its board once there is a window, so that no call answers 24; its window holds what its frames
 -- brought, every question in use lists the best k of that; and no item prints more than `Log::MOST` bytes. Each is read off what the log keeps its own.
 -- Assumes nothing.
-use mathlib.Core.Path.{_≡_, sym, ap, ap₂, _∙_, subst}
+use mathlib.Core.Path.{_≡_, refl, sym, ap, ap₂, _∙_, subst}
 use mathlib.Core.Logic.{_⊎_, inl, inr}
-use mathlib.Core.Bool.{true}
-use mathlib.Core.List.{List, [], map}
-use Prim.Native.Nat.{ℕ, _-_, _^_, _≤_, _<_}
+use mathlib.Core.Bool.{true, false}
+use mathlib.Core.List.{List, [], _∷_, map}
+use Prim.Native.Nat.{ℕ, zero, suc, _-_, _^_, _≤_, _<_}
 use native.Mathlib.Omega.{arith}
-use lib.ListN.{length}
+use borrow.Author.Tests.{lt-ltb, ne-eqb}
+use lib.Dec.{eqb}
+use lib.IntN.{ℤ}
+use lib.ListN.{length, take}
 use lib.Seq.{drop-nil}
 use Rattle.ranking.specs.Best.{best}
-use Rattle.ranking.specs.Standing.{above, entry}
+use Rattle.ranking.specs.Standing.{Held, above, entry}
 use Rattle.ranking.specs.declared.Weights.{Weights}
 use Rattle.window.specs.Rows.{freshWindow, heldReports}
 use Rattle.window.specs.History.{Values, numbered, latest}
 use Rattle.window.proofs.Reports.{empty-holds}
-use Rattle.question.specs.Lines.{lines}
-use Rattle.board.specs.Work.{slotAt, freshBoard, setWork, removeWork, readWork, enterWork}
+use Rattle.question.specs.Lines.{lines, linesOf}
+use Rattle.board.specs.Work.{slotAt, freshBoard, setWork, removeWork, readWork, enterWork, slotRefusal}
 use Rattle.board.specs.Calls.{fitBoard, setCall, removeCall, readCall, enterCall}
 use Rattle.board.specs.Reached as board
 use Rattle.board.specs.declared.Board.{Board}
@@ -27,13 +30,13 @@ use Rattle.joining.specs.Joining.{fit}
 use Rattle.joining.specs.Run.{freshSessions, sessionOf, sessionsAt}
 use Rattle.joining.specs.declared.Session.{Session}
 use Rattle.joining.proofs.Reached.{reached-fit}
-use Rattle.text.specs.Text.{rLine}
+use Rattle.text.specs.Text.{Entry, rLine, qLine, listed}
 use Rattle.journal.specs.declared.Log.{Log}
-use Rattle.journal.specs.Log.{itemDone, nextItem}
-use Rattle.journal.specs.Reached.{Reached, fresh, item, framesOf, enteredBy}
+use Rattle.journal.specs.Log.{nextItem, itemDone, itemRefusal, known, byTag, showItem, unless}
+use Rattle.journal.specs.Reached.{Reached, fresh, item, framesOf, enteredBy, shownAs}
 use Rattle.journal.proofs.Printed.{at-most, never-24}
 use Rattle.journal.proofs.Answers.{none-yet}
-use Rattle.journal.proofs.Own.{Own, Boarded, none, window, fresh-own, item-does, fresh-empty, no-window, slot-ended}
+use Rattle.journal.proofs.Own.{Own, Boarded, none, window, fresh-own, item-does, fresh-empty, no-window, has-window, slot-ended}
 
 pub own : {log : Log} → (r : Reached log) → Own (framesOf r) log
 own fresh = fresh-own
@@ -49,6 +52,20 @@ next-small n = omega arith
 none-held : heldReports (freshBoard 0 .board .window) ≡ []
 unfolding freshBoard freshWindow
 none-held = empty-holds 0
+
+-- ---- a list as it is printed
+
+shown-lines : (n : ℕ) (ns : List ℕ) (ss : List ℤ) → take n (listed ns ss) ≡ shownAs (take n (linesOf ns ss))
+unfolding listed
+shown-lines zero ns ss = refl
+shown-lines (suc n) [] ss = refl
+shown-lines (suc n) (x ∷ ns) [] = refl
+shown-lines (suc n) (x ∷ ns) (s ∷ ss) = ap (λ (l : List Entry). record { number = x; score = s } ∷ l) (shown-lines n ns ss)
+
+show-text : (log : Log) (slot : ℕ) → eqb (log .board .window .size) 0 ≡ false → slot < 32 → (slotAt (log .board) slot .k ≡ 0 → ⊥)
+    → itemDone log 20 (slot ∷ []) .text ≡ qLine slot (take (slotAt (log .board) slot .len) (listed (slotAt (log .board) slot .numbers) (slotAt (log .board) slot .scores)))
+unfolding itemDone itemRefusal known byTag showItem readWork slotRefusal unless
+show-text log slot there h used = rw (there, lt-ltb slot 32 h, ne-eqb (slotAt (log .board) slot .k) 0 used)
 
 module _ {log : Log} (reached : Reached log) where
   -- `Log::MOST`: what any next item prints.
@@ -117,3 +134,16 @@ module _ {log : Log} (reached : Reached log) where
           ap (λ (b : Board). heldReports (b .window)) e ∙ none-held
           ∙ sym (ap (λ (vs : List Values). latest (log .board .window .size) (numbered 1 vs)) (ap enteredBy first ∙ none-yet) ∙ drop-nil (0 - log .board .window .size))
       go (window r f same) = reached-holds r ∙ ap₂ (λ (n : ℕ) (vs : List Values). latest n (numbered 1 vs)) (sym (kept r .since .of-size)) same
+
+  -- Showing a question in use prints the first min(k, held) of the last N reports that the log's frames completed.
+  pub show-prints : (slot : ℕ) → slot < 32 → (slotAt (log .board) slot .k ≡ 0 → ⊥)
+      → itemDone log 20 (slot ∷ []) .text
+      ≡ qLine slot (shownAs (best above (slotAt (log .board) slot .k) (map (entry (slotAt (log .board) slot .weights)) (latest (log .board .window .size) (numbered 1 (enteredBy (framesOf reached)))))))
+  show-prints slot h used =
+      let q = slotAt (log .board) slot in
+      show-text log slot (has-window-used (own reached .board-is)) h used
+      ∙ ap (qLine slot) (shown-lines (q .len) (q .numbers) (q .scores) ∙ ap shownAs (log-demand-2 slot h used ∙ ap (λ (hs : List Held). best above (q .k) (map (entry (q .weights)) hs)) log-holds))
+    where
+      has-window-used : Boarded (framesOf reached) (log .board) → eqb (log .board .window .size) 0 ≡ false
+      has-window-used (none first e) = absurd (used (ap (λ (b : Board). slotAt b slot .k) e ∙ ap (λ q. q .k) (fresh-empty 0 slot h)))
+      has-window-used (window r f same) = has-window (log .board) f

@@ -1,10 +1,12 @@
 -- Which logs are reached (document 01, "Refusal numbers": "states reached from fresh ones"), by which frames, and what these entered.
 use Prim.Native.Nat.{ℕ}
 use mathlib.Core.Bool.{cond, _&&_}
-use mathlib.Core.List.{List, [], _∷_, _++_}
+use mathlib.Core.List.{List, [], _∷_, _++_, map}
 use lib.ListN.{length, take}
 use lib.Dec.{eqb}
+use Rattle.ranking.specs.Standing as ranked
 use Rattle.window.specs.History.{Values}
+use Rattle.text.specs.Text.{Entry}
 use Rattle.joining.specs.Frame.{Frame}
 use Rattle.joining.specs.Run.{freshSessions, answersAt}
 use Rattle.joining.specs.declared.Answer.{Answer}
@@ -36,3 +38,7 @@ completed (Complete r ∷ l) = record { loss = r .loss; shake = r .shake } ∷ c
 -- "The program enters a report when its last packet is read"; "at most 1,000,000".
 unfoldable pub enteredBy : List Frame → List Values
 enteredBy fs = take 1000000 (completed (answersAt freshSessions fs))
+
+-- The entries of a list, as a Q line has them.
+abbrev pub shownAs : List ranked.Entry → List Entry
+shownAs l = map (λ (e : ranked.Entry). record { number = e .number; score = e .score }) l
