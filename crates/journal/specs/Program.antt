@@ -12,7 +12,7 @@ use Rattle.journal.specs.Machine.{Feeds, endLine}
 
 -- From this log and what waits, with these bytes to come, that is printed.
 pub data Program : Log → Waiting → (bytes printed : List ℕ) → Type 0 where
-  -- `feed` is lent the bytes that have come, the piece, and a room of any size. What it wrote there is printed; what it did not take is still to come.
+  -- `feed` is lent the bytes that have come, the piece, and a room of any size that a `usize` counts. What it wrote there is printed; what it did not take is still to come.
   feeds : {log : Log} {w : Waiting} {r : Fed} {left printed : List ℕ} (piece later room : List ℕ) → length room < 2 ^ 64 → Feeds log w piece room r left
       → Program (r .log) (r .waiting) (drop (r .taken) piece ++ later) printed → Program log w (piece ++ later) (take (r .written) left ++ printed)
   -- At the end of the log `finish` is lent a room for one R line, and what it wrote there is printed.
