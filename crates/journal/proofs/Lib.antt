@@ -14,3 +14,4 @@ pub mod Shown
 pub mod Own
 pub mod Reached
 pub mod Program
+pub mod Steps
