@@ -10,30 +10,29 @@ use lib.Dec.{ltb}
 use lib.ListN.{length, getD, take, drop, length-append, length-drop, List·getD-append}
 use lib.Seq.{take-append-le, drop-append-le}
 use Rattle.wire.specs.Bytes.{number, part, fieldAt}
-use Rattle.wire.specs.declared.Field.{Field}
-use Rattle.wire.specs.declared.Field.the-variants.{Whole, Cut}
+use Rattle.wire.specs.declared.Field.the-variants.{Cut}
 use Rattle.wire.proofs.Fields.{whole, cut-short, cut-over}
 use Rattle.text.proofs.Decimal.{below-or}
 use Rattle.journal.specs.declared.Log.{Log}
 use Rattle.journal.specs.Log.{Outcome, Consumed, itemDone, after, none, first, items, consumed, ending, textFrom, freshLog, logText, inPieces}
 
 -- The length that the first field's head says.
-abbrev size : List ℕ → ℕ
+abbrev pub size : List ℕ → ℕ
 size s = number (part 1 2 s)
 
 -- What the first field brings, where it is whole.
-abbrev done : Log → List ℕ → Outcome
+abbrev pub done : Log → List ℕ → Outcome
 done log s = itemDone log (getD s 0 0) (part 3 (size s) s)
 
 abbrev IsWhole : List ℕ → Type 0
 IsWhole s = 3 + size s ≤ length s
 
+-- Bytes that are fewer than the head says, or than a head has, are no whole field.
+pub is-cut : (s : List ℕ) → length s < 3 + size s → Cut ≡ fieldAt s 0
+is-cut s over = ⊎-elim (λ short. cut-short s 0 short) (λ head. cut-over s 0 head over) (below-or (length s) 3 (ltb (length s) 3) refl)
+
 whole-or-cut : (s : List ℕ) → IsWhole s ⊎ (Cut ≡ fieldAt s 0)
-whole-or-cut s =
-    ⊎-elim
-    (λ over. inr (⊎-elim (λ short. cut-short s 0 short) (λ head. cut-over s 0 head over) (below-or (length s) 3 (ltb (length s) 3) refl)))
-    (λ fits. inl fits)
-    (below-or (length s) (3 + size s) (ltb (length s) (3 + size s)) refl)
+whole-or-cut s = ⊎-elim (λ over. inr (is-cut s over)) (λ fits. inl fits) (below-or (length s) (3 + size s) (ltb (length s) (3 + size s)) refl)
 
 items-whole : (n : ℕ) (log : Log) (s : List ℕ) → IsWhole s
     → items (suc n) log s ≡ after (done log s .text) (items n (done log s .log) (drop (3 + size s) s))

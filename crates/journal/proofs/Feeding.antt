@@ -1,7 +1,7 @@
 -- One byte more is one step more: the text, the log and what waits grow at their ends.
 -- Assumes nothing.
 use mathlib.Core.Path.{_≡_, refl, sym, ap, _∙_}
-use mathlib.Core.Bool.{Bool, true, false}
+use mathlib.Core.Bool.{true, false}
 use mathlib.Core.Logic.{⊎-elim}
 use mathlib.Core.List.{List, [], _∷_, _++_, append-assoc, append-nil}
 use Prim.Native.Nat.{ℕ, _+_, _^_, _≤_, _<_}
@@ -19,37 +19,37 @@ use Rattle.journal.specs.declared.machine.Waiting.{Waiting}
 use Rattle.journal.specs.Log.{itemDone}
 use Rattle.journal.specs.Machine.{Came, nothing, withByte, isWhole, valueIn, came, run, ran, hasRoom, Feeds}
 
+-- What came, and what more bytes bring then.
+abbrev pub follow : Came → List ℕ → Came
+follow c bs =
+    let d = run (c .log) (c .waiting) bs in
+    record { text = c .text ++ d .text; log = d .log; waiting = d .waiting }
+
+pub run-append : (bs cs : List ℕ) (log : Log) (w : Waiting) → run log w (bs ++ cs) ≡ follow (run log w bs) cs
+unfolding run
+run-append [] cs log w = refl
+run-append (b ∷ bs) cs log w =
+    let c = came log w b in
+    let r = run (c .log) (c .waiting) bs in
+    let d = run (r .log) (r .waiting) cs in
+    let more = run-append bs cs (c .log) (c .waiting) in
+    (λ i. record { text = c .text ++ more i .text; log = more i .log; waiting = more i .waiting })
+    ∙ (λ i. record { text = sym (append-assoc (c .text) (r .text) (d .text)) i; log = d .log; waiting = d .waiting })
+
 -- What came, and a byte more.
 abbrev pub step : Came → ℕ → Came
 step c b =
     let d = came (c .log) (c .waiting) b in
     record { text = c .text ++ d .text; log = d .log; waiting = d .waiting }
 
-pub run-more : (bs : List ℕ) (log : Log) (w : Waiting) (b : ℕ) → run log w (bs ++ b ∷ []) ≡ step (run log w bs) b
+follow-one : (c : Came) (b : ℕ) → follow c (b ∷ []) ≡ step c b
 unfolding run
-run-more [] log w b =
-    λ i. record { text = append-nil (came log w b .text) i; log = came log w b .log; waiting = came log w b .waiting }
-run-more (a ∷ bs) log w b =
-    let c = came log w a in
-    let r = run (c .log) (c .waiting) bs in
-    let more = run-more bs (c .log) (c .waiting) b in
-    (λ i. record { text = c .text ++ more i .text; log = more i .log; waiting = more i .waiting })
-    ∙ (λ i. record {
-      text = sym (append-assoc (c .text) (r .text) (came (r .log) (r .waiting) b .text)) i;
-      log = came (r .log) (r .waiting) b .log;
-      waiting = came (r .log) (r .waiting) b .waiting;
-    })
+follow-one c b =
+    let d = came (c .log) (c .waiting) b in
+    λ i. record { text = c .text ++ append-nil (d .text) i; log = d .log; waiting = d .waiting }
 
-pub run-append : (bs cs : List ℕ) (log : Log) (w : Waiting)
-    → run log w (bs ++ cs) ≡ record { text = run log w bs .text ++ run (run log w bs .log) (run log w bs .waiting) cs .text; log = run (run log w bs .log) (run log w bs .waiting) cs .log; waiting = run (run log w bs .log) (run log w bs .waiting) cs .waiting }
-unfolding run
-run-append [] cs log w = refl
-run-append (a ∷ bs) cs log w =
-    let c = came log w a in
-    let r = run (c .log) (c .waiting) bs in
-    let d = run (r .log) (r .waiting) cs in
-    (λ i. record { text = c .text ++ run-append bs cs (c .log) (c .waiting) i .text; log = run-append bs cs (c .log) (c .waiting) i .log; waiting = run-append bs cs (c .log) (c .waiting) i .waiting })
-    ∙ (λ i. record { text = sym (append-assoc (c .text) (r .text) (d .text)) i; log = d .log; waiting = d .waiting })
+pub run-more : (bs : List ℕ) (log : Log) (w : Waiting) (b : ℕ) → run log w (bs ++ b ∷ []) ≡ step (run log w bs) b
+run-more bs log w b = run-append bs (b ∷ []) log w ∙ follow-one (run log w bs) b
 
 -- The first i bytes of a piece have come.
 pub record Ran (log : Log) (w : Waiting) (piece room : List ℕ) (i : ℕ) (log₁ : Log) (w₁ : Waiting) (at : ℕ) (left : List ℕ) : Type 0 where
@@ -63,7 +63,7 @@ module _ (log : Log) (w : Waiting) (piece room : List ℕ) where
   unfolding run
   ran-none = record { leaves = refl; waits = refl; stored = none room 0 (omega arith); roomy = λ j h. absurd (omega arith) }
 
-  ran-next : (i : ℕ) → i < length piece → ran log w piece (i + 1) ≡ step (ran log w piece i) (getD piece i 0)
+  pub ran-next : (i : ℕ) → i < length piece → ran log w piece (i + 1) ≡ step (ran log w piece i) (getD piece i 0)
   ran-next i h = ap (run log w) (ap (λ (n : ℕ). take n piece) (add-one i) ∙ take-suc piece i 0 h) ∙ run-more (take i piece) log w (getD piece i 0)
 
   pub ran-more : {i : ℕ} {log₁ log₂ : Log} {w₁ w₂ : Waiting} {at next : ℕ} {left₁ left₂ : List ℕ} (text : List ℕ) → length room < 2 ^ 64 → i < length piece

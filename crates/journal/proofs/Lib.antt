@@ -8,3 +8,12 @@ pub mod Feeding
 pub mod Waits
 pub mod Coming
 pub mod InPlace
+pub mod Writing
+pub mod Once
+pub mod Printed
+pub mod Answers
+pub mod Shown
+pub mod Own
+pub mod Reached
+pub mod Program
+pub mod Steps

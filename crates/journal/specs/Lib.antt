@@ -2,3 +2,5 @@
 pub mod Log
 pub mod Machine
 pub mod Inner
+pub mod Reached
+pub mod Program

@@ -1,0 +1,102 @@
+-- A list that a fit board shows fits its line: its numbers are those of held reports, and its scores those of permitted weights and values. No search takes more than 256 steps.
+-- Assumes nothing.
+use mathlib.Core.Path.{_≡_, sym, subst}
+use mathlib.Core.Bool.{true}
+use mathlib.Core.List.{List, [], _∷_, _++_, map, Memᴰ·of-map, List·Memᴰ·not-nil}
+use Prim.Native.Nat.{ℕ, zero, suc, _^_, _≤_, _<_}
+use native.Mathlib.Omega.{arith}
+use borrow.Author.Tests.{leb-true}
+use mir.Syntax.{w16}
+use mir.Val.{SFits}
+use lib.Dec.{leb}
+use lib.IntN.{ℤ, pos, negsuc}
+use lib.Signed.{mag}
+use lib.ListN.{length, getD, take, replicate}
+use Rattle.wire.specs.Bytes.{number}
+use Rattle.ranking.specs.Best.{_∈_}
+use Rattle.ranking.specs.Cells.{inRange}
+use Rattle.ranking.specs.Standing.{Held, above, entry}
+use Rattle.ranking.specs.Standing as ranked
+use Rattle.ranking.specs.declared.Weights.{Weights}
+use Rattle.ranking.proofs.Tests.{and-both}
+use Rattle.ranking.proofs.Lists.{here, there}
+use Rattle.ranking.proofs.Best.{best-of, length-best-le}
+use Rattle.ranking.proofs.Cells.{score-fits}
+use Rattle.ranking.proofs.Standing.{above-strict, steps-bounded}
+use Rattle.window.specs.declared.Window.{Window}
+use Rattle.window.specs.Rows.{heldReports, fitWindow, added}
+use Rattle.window.proofs.Fitness.{fit-facts}
+use Rattle.window.proofs.Reports.{held-latest}
+use Rattle.window.proofs.Standing.{held-permitted}
+use Rattle.question.specs.declared.Question.{Question}
+use Rattle.question.specs.declared.Searched.{Searched}
+use Rattle.question.specs.Lines.{asked, inRows, searchedOn}
+use Rattle.board.specs.Work.{listed, lists, newReport, outgoing, refreshed, entering}
+use Rattle.board.specs.Calls.{slotFit}
+use Rattle.board.proofs.Slot.{Slot, top}
+use Rattle.board.proofs.Slot as state
+use Rattle.board.proofs.Kept.{not-searching}
+use Rattle.journal.proofs.Answers.{either}
+
+-- The numbers and scores of a question, as they are stored, fit their lines.
+pub record Small (q : Question) : Type 0 where
+  pub few : q .len ≤ 16
+  pub numbers : (i : ℕ) → getD (q .numbers) i 0 < 2 ^ 32
+  pub scores : (i : ℕ) → mag (getD (q .scores) i (pos 0)) < 2 ^ 31
+
+-- What holds of each element, and of what fills up the list, holds at every place.
+padded : {A B : Type 0} (P : B → Type 0) (f : A → B) (d : B) → P d → (n : ℕ) (l : List A) (m : ℕ) → ((x : A) → x ∈ l → P (f x)) → (i : ℕ) → P (getD (take n (map f l ++ replicate m d)) i d)
+padded P f d p zero l m h i = p
+padded P f d p (suc n) [] zero h i = p
+padded P f d p (suc n) [] (suc m) h zero = p
+padded P f d p (suc n) [] (suc m) h (suc i) = padded P f d p n [] m h i
+padded P f d p (suc n) (x ∷ l) m h zero = h x here
+padded P f d p (suc n) (x ∷ l) m h (suc i) = padded P f d p n l m (λ y k. h y (there k)) i
+
+asked-small : (k : ℕ) (ws : Weights) (l : List ranked.Entry) (next : ℕ) → length l ≤ 16
+    → ((e : ranked.Entry) → e ∈ l → (e .number < 2 ^ 32) × (mag (e .score) < 2 ^ 31)) → Small (asked k ws l next)
+asked-small k ws l next short h =
+    record {
+      few = short;
+      numbers = padded (λ (n : ℕ). n < 2 ^ 32) (λ e. e .number) 0 (omega arith) 16 l 16 (λ e m. h e m .0);
+      scores = padded (λ (z : ℤ). mag z < 2 ^ 31) (λ e. e .score) (pos 0) (omega arith) 16 l 16 (λ e m. h e m .1);
+    }
+
+weight-fits : (z : ℤ) → inRange z ≡ true → SFits w16 z
+weight-fits (pos n) t = record { sfits = omega (arith, leb-true n 1000 (and-both true (leb n 1000) t .1)) }
+weight-fits (negsuc n) t = record { sfits = omega (arith, leb-true n 999 (and-both (leb n 999) true t .0)) }
+
+pub slot-small : (w : Window) → fitWindow w ≡ true → (q : Question) → slotFit w q ≡ true → Slot w q → Small q
+slot-small w fits q t (state.empty e) = subst Small (sym e) (asked-small 0 _ [] 0 (omega arith) (λ x m. absurd (List·Memᴰ·not-nil m)))
+slot-small w fits q t (state.searches x) = absurd (not-searching w fits q t x)
+slot-small w fits q t (state.stands s) =
+    subst Small (sym (s .is))
+    (asked-small (s .k) (s .ws) (top (s .k) (s .ws) (heldReports w)) (s .next)
+    (omega (arith, s .asks .small, length-best-le above above-strict (s .k) (map (entry (s .ws)) (heldReports w)))) small)
+  where
+    small : (e : ranked.Entry) → e ∈ top (s .k) (s .ws) (heldReports w) → (e .number < 2 ^ 32) × (mag (e .score) < 2 ^ 31)
+    small e m =
+        let ranges = fit-facts w fits .ranges in
+        let r = Memᴰ·of-map (entry (s .ws)) (heldReports w) (best-of above above-strict (s .k) (map (entry (s .ws)) (heldReports w)) e m) in
+        let h : Held = r .0 in
+        let may = held-permitted w fits h (r .1) in
+        let number = held-latest w ranges h (r .1) .1 in
+        let fits32 = score-fits (s .ws) (h .loss) (h .shake) (weight-fits _ (s .asks .loss-range)) (weight-fits _ (s .asks .shake-range)) (may .loss-fits) (may .shake-fits) in
+        subst (λ (x : ranked.Entry). (x .number < 2 ^ 32) × (mag (x .score) < 2 ^ 31)) (r .2) (omega (arith, number, ranges .at-most), fits32 .sfits)
+
+-- ---- steps
+
+pub searched-few : (q : Question) (w : Window) → searchedOn q w .steps ≤ 256
+unfolding searchedOn
+searched-few q w = either (λ (r : Searched). r .steps ≤ 256) (leb (q .k) 16) {y = record { steps = 0; question = q }} (λ t. steps-bounded (q .weights) (q .k) (inRows w)) (λ t. omega arith)
+
+pub entering-few : (w : Window) (loss shake : ℕ) (q : Question) → entering w loss shake q .steps ≤ 256
+unfolding entering refreshed
+entering-few w loss shake q =
+    let p = listed q (newReport w loss shake) in
+    either (λ (r : Searched). r .steps ≤ 256) (lists p (outgoing w)) {y = record { steps = 0; question = p }} (λ t. searched-few p (added w loss shake)) (λ t. omega arith)
+
+pub map-few : {A : Type 0} (f : A → ℕ) → ((x : A) → f x ≤ 256) → (l : List A) (i : ℕ) → getD (map f l) i 0 ≤ 256
+map-few f h [] i = omega arith
+map-few f h (x ∷ l) zero = h x
+map-few f h (x ∷ l) (suc i) = map-few f h l i

@@ -1,0 +1,94 @@
+-- Demand 3 for the log: an S line says the steps of the search that the board's call ran, which are exact, since the log's board is one that the calls lead to.
+-- Assumes nothing.
+use mathlib.Core.Path.{_≡_, refl, sym, ap, _∙_, subst}
+use mathlib.Core.Bool.{true, false}
+use mathlib.Core.List.{List}
+use Prim.Native.Nat.{ℕ, _<_}
+use borrow.Author.Tests.{ne-eqb}
+use lib.Dec.{eqb}
+use lib.ListN.{length, getD}
+use Rattle.window.specs.Rows.{added}
+use Rattle.board.specs.Work.{slotAt, setRefusal, enterRefusal, setWork}
+use Rattle.board.specs.Calls.{setCall, enterCall}
+use Rattle.board.specs.declared.Board.{Board}
+use Rattle.board.specs.declared.Placed.{Placed}
+use Rattle.board.specs.declared.Entered.{Entered}
+use Rattle.board.proofs.Refusals.{zero-is}
+use Rattle.board.proofs.Demands.{Exactly, set-exact, enter-exact}
+use Rattle.report.specs.declared.Report.{Report}
+use Rattle.joining.specs.Run.{sessionsAfter, answerTo}
+use Rattle.joining.specs.declared.Answer.the-variants.{Complete}
+use Rattle.text.specs.Text.{sLine}
+use Rattle.journal.specs.declared.Log.{Log}
+use Rattle.journal.specs.Log.{Outcome, nextItem, counted, withBoard, withSessions, unless, known, itemRefusal, weightsIn, setItem, sLines, enterItem, answered, frameIn, frameItem, byTag, itemDone}
+use Rattle.journal.specs.Reached.{Reached}
+use Rattle.journal.proofs.Answers.{enter-refusal}
+use Rattle.journal.proofs.Reached.{log-board, same-answers}
+
+-- An item that isn't refused before its call.
+passes : (log : Log) (tag : ℕ) (v : List ℕ) → itemRefusal (counted log) tag (length v) ≡ 0 → itemDone log tag v ≡ byTag (counted log) tag v
+unfolding itemDone unless
+passes log tag v e = zero-is _ _ e
+
+module _ {log : Log} (reached : Reached log) (there : log .board .window .size ≡ 0 → ⊥) (v : List ℕ) where
+  abbrev b : Board
+  b = log .board
+
+  no-refusal : (tag size : ℕ) → known tag size ≡ true → eqb tag 16 ≡ false → length v ≡ size → itemRefusal (counted log) tag (length v) ≡ 0
+  unfolding itemRefusal
+  no-refusal tag size k t e = rw (e, k, t, ne-eqb (b .window .size) 0 there)
+
+  -- ---- setting
+
+  abbrev slot : ℕ
+  slot = getD v 0 0
+
+  -- What the board's call answers to the item that sets a question.
+  abbrev placed : Placed
+  placed = setCall b slot (getD v 1 0) (weightsIn v)
+
+  module _ (six : length v ≡ 6) (taken : setRefusal b slot (getD v 1 0) (weightsIn v) ≡ 0) where
+    -- It prints the steps of its search.
+    pub set-prints : itemDone log 17 v ≡ record { text = sLine (nextItem (log .items)) slot (placed .steps); log = withBoard (counted log) (placed .board) }
+    unfolding byTag setItem setWork unless known
+    set-prints =
+        let done : Placed → Outcome = λ r. record { text = sLine (nextItem (log .items)) slot (r .steps); log = withBoard (counted log) (r .board) } in
+        let work = zero-is _ _ taken in
+        passes log 17 v (no-refusal 17 6 refl refl six) ∙ ap (λ (r : Placed). unless (counted log) (r .refusal) (done r)) work
+        ∙ sym (ap done (same-answers reached there .set slot (getD v 1 0) (weightsIn v) ∙ work))
+
+    -- And that search is exact.
+    pub set-steps : Exactly (b .window) (getD v 1 0) (weightsIn v) (placed .steps) (slotAt (itemDone log 17 v .log .board) slot)
+    set-steps =
+        let own = log-board reached there in
+        subst (λ (o : Outcome). Exactly (b .window) (getD v 1 0) (weightsIn v) (placed .steps) (slotAt (o .log .board) slot)) (sym set-prints)
+        (set-exact (own .0) (own .1) slot (getD v 1 0) (weightsIn v) taken)
+
+  -- ---- entering
+
+  module _ (r : Report) (twelve : length v ≡ 12) (completes : answerTo (log .sessions) (frameIn v) ≡ Complete r) (taken : enterRefusal (b .window .entered) (r .loss) (r .shake) ≡ 0) where
+    -- What the board's call answers to the report that a frame completes.
+    abbrev entered : Entered
+    entered = enterCall b (r .loss) (r .shake)
+
+    -- The frame prints the steps of each search that the entry ran.
+    pub enter-prints : itemDone log 18 v
+        ≡ record {
+          text = sLines (nextItem (log .items)) 0 (entered .searched) (entered .steps);
+          log = withBoard (withSessions (counted log) (sessionsAfter (log .sessions) (frameIn v))) (entered .board);
+        }
+    unfolding byTag frameItem enterItem unless known
+    enter-prints =
+        let next = withSessions (counted log) (sessionsAfter (log .sessions) (frameIn v)) in
+        let done : Entered → Outcome = λ x. record { text = sLines (nextItem (log .items)) 0 (x .searched) (x .steps); log = withBoard next (x .board) } in
+        passes log 18 v (no-refusal 18 12 refl refl twelve) ∙ ap (answered next) completes
+        ∙ zero-is _ _ (enter-refusal b (r .loss) (r .shake) ∙ taken)
+        ∙ sym (ap done (same-answers reached there .enter (r .loss) (r .shake)))
+
+    -- And each of these is exact, over the reports held after the entry.
+    pub enter-steps : (i : ℕ) → i < 32 → getD (entered .searched) i false ≡ true
+        → Exactly (added (b .window) (r .loss) (r .shake)) (slotAt b i .k) (slotAt b i .weights) (getD (entered .steps) i 0) (slotAt (itemDone log 18 v .log .board) i)
+    enter-steps i h s =
+        let own = log-board reached there in
+        subst (λ (o : Outcome). Exactly (added (b .window) (r .loss) (r .shake)) (slotAt b i .k) (slotAt b i .weights) (getD (entered .steps) i 0) (slotAt (o .log .board) i)) (sym enter-prints)
+        (enter-exact (own .0) (own .1) (r .loss) (r .shake) taken i h s)
