@@ -192,7 +192,9 @@ impl Question {
         if number == 0 {
             return self;
         }
-        if Grid::cell(loss, shake) as u16 != self.next {
+        let next = self.next;
+        let cell = Grid::cell(loss, shake) as u16;
+        if cell != next {
             return self;
         }
         self.joined(number, self.weights.score(loss, shake))
@@ -232,7 +234,8 @@ impl Question {
         if Grid::CELLS <= next {
             return self;
         }
-        self.list_taken(window).at(self.weights.next(next as u8))
+        let list = self.list_taken(window);
+        list.at(self.weights.next(next as u8))
     }
 
     // A search from its beginning to its end, whatever the window's rows hold; none, where k is over 16.

@@ -9,6 +9,7 @@ use native.Mathlib.Omega.{arith}
 use borrow.Author.Tests.{not-true, not-false, lt-ltb}
 use lib.Dec.{ltb}
 use lib.ListN.{length, length-map}
+use lib.IntN.{ℤ}
 use lib.Signed.{ltZ}
 use Rattle.ranking.specs.Best.{_∈_, best, only}
 use Rattle.ranking.specs.Search.{heldIn, entries, steps, found, marks, matters}
@@ -37,14 +38,17 @@ above-strict =
 
 module _ (w : Weights) where
   -- ltZ a b is "a is below b": the chain of three, with the middle step not strict
-  later : (c d : ℕ) → before w c d ≡ true → (e : Entry) → reaches w d e ≡ true → reaches w c e ≡ true
-  later c d h e r = go (tested (ltZ (bestScore w c) (e .score)))
+  kept : (c d : ℕ) → before w c d ≡ true → (s : ℤ) → not (ltZ (bestScore w d) s) ≡ true → not (ltZ (bestScore w c) s) ≡ true
+  kept c d h s r = go (tested (ltZ (bestScore w c) s))
     where
-      go : Tested (ltZ (bestScore w c) (e .score)) → reaches w c e ≡ true
+      go : Tested (ltZ (bestScore w c) s) → not (ltZ (bestScore w c) s) ≡ true
       go (failed f) = ap not f
       go (passed f) =
-          clash (ahead ltZ ltZ-strict (bestScore w d) (bestScore w c) (e .score) (before-best w c d h) f)
-          (not-true (ltZ (bestScore w d) (e .score)) r)
+          clash (ahead ltZ ltZ-strict (bestScore w d) (bestScore w c) s (before-best w c d h) f)
+          (not-true (ltZ (bestScore w d) s) r)
+
+  later : (c d : ℕ) → before w c d ≡ true → (e : Entry) → reaches w d e ≡ true → reaches w c e ≡ true
+  later c d h e r = kept c d h _ r
 
   under : (r : Held) → Permitted r → (e : Entry) → reaches w (cell (r .loss) (r .shake)) e ≡ false → above e (entry w r) ≡ true
   under r p e h =
