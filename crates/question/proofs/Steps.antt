@@ -21,18 +21,13 @@ use Rattle.ranking.proofs.Best.{length-best-le}
 use Rattle.ranking.proofs.Search.{list-zero, list-suc, ends, goes-on}
 use Rattle.ranking.proofs.Standing.{above-strict, steps-bounded}
 use Rattle.ranking.proofs.Scan.{place-at, cell-at, left-at, left-none}
-use Rattle.ranking.proofs.Lists.{getD-past, lt-or-eq}
+use Rattle.ranking.proofs.Lists.{getD-past, lt-or-eq, only-same}
 use Rattle.window.specs.declared.Window.{Window}
 use Rattle.question.specs.declared.Question.{Question}
 use Rattle.question.specs.declared.Searched.{Searched}
 use Rattle.question.specs.Lines.{lines, asked, finished, begun, stepped, searched, searchedIn, inRows, stepOn, searchedOn}
 use Rattle.question.proofs.Stored.{lines-asked}
 use Rattle.question.proofs.Taking.{step-is, if-so, if-not}
-
--- those that pass a test, told in two ways
-only-same : {A : Type 0} (p q : A → Bool) (l : List A) → ((x : A) → p x ≡ q x) → only p l ≡ only q l
-only-same p q [] h = refl
-only-same p q (x ∷ l) h = ap₂ (λ b m. elim b [ true ↦ x ∷ m | false ↦ m ]) (h x) (only-same p q l h)
 
 -- a question after n steps of its search
 unfoldable pub reached : ℕ → Weights → List Held → ℕ → Question
@@ -57,7 +52,7 @@ module _ (k : ℕ) (small : k ≤ 16) (w : Weights) (hs : List Held) where
   reached-more n h =
       ap (λ l. asked k w (best above k (l ++ map (entry w) (only next hs))) after) (reached-lines n)
       ∙ ap (λ r. asked k w (best above k (listAfter (searchOf w) k hs n ++ map (entry w) r)) after)
-      (only-same next (λ r. has (cell (r .loss) (r .shake)) (cellAt w n ∷ [])) hs (λ r. one (cell (r .loss) (r .shake))))
+      (only-same next (λ r. has (cell (r .loss) (r .shake)) (cellAt w n ∷ [])) hs (λ r m. one (cell (r .loss) (r .shake))))
       ∙ ap (λ l. asked k w l after) (sym (list-suc (searchOf w) above-strict k hs n (cellAt w n) (drop (suc n) (visiting w)) (left-at w n h)))
       ∙ ap (λ m. asked k w (listAfter (searchOf w) k hs (suc n)) (cellAt w m)) (ap (λ m. m + 1) (place-at w n h) ∙ add-one n)
     where
