@@ -4,6 +4,7 @@ pub mod Ending
 pub mod Taking
 pub mod Marking
 pub mod Steps
+pub mod Finding
 pub mod Fitness
 pub mod Doors
 pub mod Listed

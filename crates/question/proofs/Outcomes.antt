@@ -14,6 +14,8 @@ use Rattle.question.proofs.Question.stepped.Kinds as stepped-kinds
 use Rattle.question.proofs.Question.stepped.Reads as stepped-reads
 use Rattle.question.proofs.Question.searched.Kinds as searched-kinds
 use Rattle.question.proofs.Question.searched.Reads as searched-reads
+use Rattle.question.proofs.Question.searched_in.Kinds as searched-in-kinds
+use Rattle.question.proofs.Question.searched_in.Reads as searched-in-reads
 use Rattle.question.proofs.Question.steps.Kinds as steps-kinds
 use Rattle.question.proofs.Question.steps.Reads as steps-reads
 use Rattle.question.proofs.Question.marked.Kinds as marked-kinds
@@ -44,6 +46,9 @@ stepped-once κs a x y s t p q = p ∙ sym q
 
 searched-once : OneAnswer 0 searched-kinds.ps searched-kinds.r searched-reads.Post
 searched-once κs a x y s t p q = p ∙ sym q
+
+searched-in-once : OneAnswer 1 searched-in-kinds.ps searched-in-kinds.r searched-in-reads.Post
+searched-in-once κs a x y s t p q = p ∙ sym q
 
 steps-once : OneAnswer 0 steps-kinds.ps steps-kinds.r steps-reads.Post
 steps-once κs a x y s t p q = p ∙ sym q

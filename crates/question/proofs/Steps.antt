@@ -21,18 +21,13 @@ use Rattle.ranking.proofs.Best.{length-best-le}
 use Rattle.ranking.proofs.Search.{list-zero, list-suc, ends, goes-on}
 use Rattle.ranking.proofs.Standing.{above-strict, steps-bounded}
 use Rattle.ranking.proofs.Scan.{place-at, cell-at, left-at, left-none}
-use Rattle.ranking.proofs.Lists.{getD-past, lt-or-eq}
+use Rattle.ranking.proofs.Lists.{getD-past, lt-or-eq, only-same}
 use Rattle.window.specs.declared.Window.{Window}
 use Rattle.question.specs.declared.Question.{Question}
 use Rattle.question.specs.declared.Searched.{Searched}
 use Rattle.question.specs.Lines.{lines, asked, finished, begun, stepped, searched, searchedIn, inRows, stepOn, searchedOn}
 use Rattle.question.proofs.Stored.{lines-asked}
 use Rattle.question.proofs.Taking.{step-is, if-so, if-not}
-
--- those that pass a test, told in two ways
-only-same : {A : Type 0} (p q : A → Bool) (l : List A) → ((x : A) → p x ≡ q x) → only p l ≡ only q l
-only-same p q [] h = refl
-only-same p q (x ∷ l) h = ap₂ (λ b m. elim b [ true ↦ x ∷ m | false ↦ m ]) (h x) (only-same p q l h)
 
 -- a question after n steps of its search
 unfoldable pub reached : ℕ → Weights → List Held → ℕ → Question
@@ -57,7 +52,7 @@ module _ (k : ℕ) (small : k ≤ 16) (w : Weights) (hs : List Held) where
   reached-more n h =
       ap (λ l. asked k w (best above k (l ++ map (entry w) (only next hs))) after) (reached-lines n)
       ∙ ap (λ r. asked k w (best above k (listAfter (searchOf w) k hs n ++ map (entry w) r)) after)
-      (only-same next (λ r. has (cell (r .loss) (r .shake)) (cellAt w n ∷ [])) hs (λ r. one (cell (r .loss) (r .shake))))
+      (only-same next (λ r. has (cell (r .loss) (r .shake)) (cellAt w n ∷ [])) hs (λ r m. one (cell (r .loss) (r .shake))))
       ∙ ap (λ l. asked k w l after) (sym (list-suc (searchOf w) above-strict k hs n (cellAt w n) (drop (suc n) (visiting w)) (left-at w n h)))
       ∙ ap (λ m. asked k w (listAfter (searchOf w) k hs (suc n)) (cellAt w m)) (ap (λ m. m + 1) (place-at w n h) ∙ add-one n)
     where
@@ -107,61 +102,3 @@ module _ (k : ℕ) (small : k ≤ 16) (w : Weights) (hs : List Held) where
   -- and one that has, has
   pub has-ended : (n : ℕ) → n ≤ steps (searchOf w) k hs → finished (reached k w hs n) ≡ true → n ≡ steps (searchOf w) k hs
   has-ended n h f = ⊎-elim (λ l. clash (sym (reached-end n (within n h)) ∙ f) (goes-on (searchOf w) k hs n l)) (λ e. e) (lt-or-eq h)
-
--- ---- the search of a window's rows
-
--- a search of the question `first` has come to q in n steps
-pub record Searching (w : Window) (first : Question) (n : ℕ) (q : Question) : Type 0 where
-  pub small : first .k ≤ 16
-  pub up-to : n ≤ steps (searchOf (first .weights)) (first .k) (inRows w)
-  pub is : q ≡ reached (first .k) (first .weights) (inRows w) n
-
-pub searching-start : (w : Window) (q first : Question) → q .k ≤ 16 → first ≡ begun q → Searching w first 0 first
-searching-start w q first small e =
-    subst (λ b. Searching w b 0 b) (sym e)
-    (record { small = small; up-to = omega arith; is = reached-none (q .k) small (q .weights) (inRows w) })
-
-module _ (w : Window) (first : Question) (n : ℕ) (q : Question) (s : Searching w first n q) where
-  now-at : finished q ≡ finished (reached (first .k) (first .weights) (inRows w) n)
-  now-at = ap finished (s .is)
-
-  pub searching-left : finished q ≡ false → n < steps (searchOf (first .weights)) (first .k) (inRows w)
-  searching-left f = goes-further (first .k) (s .small) (first .weights) (inRows w) n (s .up-to) (sym now-at ∙ f)
-
-  pub searching-few : finished q ≡ false → n < 256
-  searching-few f = omega (arith, searching-left f, steps-bounded (first .weights) (first .k) (inRows w))
-
-  pub searching-more : finished q ≡ false → Searching w first (n + 1) (stepOn q w)
-  unfolding reached
-  searching-more f =
-      record {
-        small = s .small;
-        up-to = omega (arith, searching-left f);
-        is =
-            ap (λ b. stepOn b w) (s .is)
-            ∙ step-is (reached (first .k) (first .weights) (inRows w) n) w (s .small) (cell-at (first .weights) n (searching-few f))
-            ∙ reached-more (first .k) (s .small) (first .weights) (inRows w) n (searching-few f)
-            ∙ ap (reached (first .k) (first .weights) (inRows w)) (sym (add-one n));
-      }
-
-  ended-at : Question → Searched
-  ended-at b =
-      record {
-        steps = steps (searchOf (b .weights)) (b .k) (inRows w);
-        question = reached (b .k) (b .weights) (inRows w) (steps (searchOf (b .weights)) (b .k) (inRows w));
-      }
-
-  pub searching-end : (p : Question) → p .k ≤ 16 → first ≡ begun p → finished q ≡ true → record { steps = n; question = q } ≡ searchedOn p w
-  unfolding ended-at reached searchedOn searched
-  searching-end p small e f =
-      ap₂ (λ m b. record { steps = m; question = b }) all (s .is ∙ ap (reached (first .k) (first .weights) (inRows w)) all)
-      ∙ ap ended-at e
-      ∙ sym (if-so (ended-at p) (record { steps = 0; question = p }) (le-leb (p .k) 16 small))
-    where
-      all : n ≡ steps (searchOf (first .weights)) (first .k) (inRows w)
-      all = has-ended (first .k) (s .small) (first .weights) (inRows w) n (s .up-to) (sym now-at ∙ f)
-
-pub searching-wide : (p : Question) (w : Window) → 16 < p .k → searchedOn p w ≡ record { steps = 0; question = p }
-unfolding searchedOn
-searching-wide p w h =
-    if-not (searchedIn p (inRows w)) (record { steps = 0; question = p }) (lt-leb (p .k) 16 h)

@@ -1,17 +1,20 @@
 -- What the inner functions of a question answer; no public contract cites it.
-use Prim.Native.Nat.{ℕ, _+_, min}
-use mathlib.Core.Bool.{false, cond, _&&_}
+use Prim.Native.Nat.{ℕ, _+_, _-_, min}
+use mathlib.Core.Bool.{Bool, false, cond, not, _&&_, _||_}
 use mathlib.Core.List.{map, _++_}
-use lib.ListN.{set}
+use lib.ListN.{set, getD}
+use lib.IntN.{pos}
 use lib.Dec.{ltb, eqb}
 use Rattle.ranking.specs.Best.{best, only}
-use Rattle.ranking.specs.Cells.{cell}
+use Rattle.ranking.specs.Cells.{cell, cellAt, reaching}
 use Rattle.ranking.specs.Standing.{Held, Entry, above, entry}
 use Rattle.window.specs.declared.Window.{Window}
 use Rattle.window.specs.Rows.{standing}
 use Rattle.question.specs.Lines.{lines, asked, withEntry, cutToK}
 use Rattle.question.specs.declared.Question.{Question}
 use Rattle.question.specs.declared.Placing.{Placing}
+use Rattle.question.specs.declared.Bar.{Bar}
+use Rattle.question.specs.declared.Searched.{Searched}
 
 -- How many lines there are.
 abbrev pub shown : Question → ℕ
@@ -62,3 +65,28 @@ listTaken q w n =
 abbrev pub at : Question → ℕ → Question
 at q next =
     record { k = q .k; weights = q .weights; numbers = q .numbers; scores = q .scores; len = q .len; next = next }
+
+-- What an entry has to rank above to change a full list: its last line; a list with no line has no bar.
+unfoldable pub barOf : Question → Bar
+barOf q =
+    cond (eqb (shown q) 0)
+    (record { full = false; number = 0; score = pos 0 })
+    (record { full = eqb (q .len) (q .k); number = getD (q .numbers) (shown q - 1) 0; score = getD (q .scores) (shown q - 1) (pos 0) })
+
+-- An entry with a number passes the bar.
+unfoldable pub admits : Bar → Entry → Bool
+admits bar e = not (eqb (e .number) 0) && (not (bar .full) || above e (record { number = bar .number; score = bar .score }))
+
+-- The best k of the reports in the first `n` rows.
+abbrev pub gathered : Question → Window → ℕ → Question
+gathered q w n = asked (q .k) (q .weights) (best above (q .k) (map (entry (q .weights)) (standing w n))) (q .next)
+
+-- Where the search that found this list ends.
+unfoldable pub endedOf : Question → Searched
+endedOf q =
+    cond (barOf q .full)
+    (record {
+      steps = reaching (q .weights) (barOf q .score);
+      question = at q (cellAt (q .weights) (reaching (q .weights) (barOf q .score)));
+    })
+    (record { steps = 256; question = at q 256 })

@@ -107,3 +107,8 @@ stepOn q w = cond (leb (q .k) 16 && ltb (q .next) 256) (stepped q (inRows w)) q
 -- A search of whatever stands in a window's rows, and its steps; none, where k is over 16.
 unfoldable pub searchedOn : Question → Window → Searched
 searchedOn q w = cond (leb (q .k) 16) (searchedIn q (inRows w)) (record { steps = 0; question = q })
+
+-- Three arrays as the rows of a window.
+abbrev pub rowsOf : List ℕ → List ℕ → List ℕ → Window
+rowsOf losses shakes numbers =
+    record { losses = losses; shakes = shakes; numbers = numbers; size = 0; entered = 0; held = 0 }

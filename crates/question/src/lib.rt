@@ -2,12 +2,13 @@
 ghost use mathlib.Core.Path.{_≡_};
 ghost use mathlib.Core.List.{[]};
 ghost use Prim.Native.Nat.{min, _%_, _≤_};
+ghost use Rattle.window.specs.Rows.{standing};
 ghost use lib.ListN.{drop};
 ghost use Rattle.ranking.specs.Best.{best};
 ghost use Rattle.ranking.specs.Standing.{above};
-ghost use Rattle.question.specs.Lines.{asked, linesOf, lines, emptySlot, withEntry, cutToK, finished, begun, stepOn, searchedOn, stepsTaken, isMarked, marksOf};
+ghost use Rattle.question.specs.Lines.{asked, linesOf, lines, emptySlot, withEntry, cutToK, finished, begun, stepOn, rowsOf, searchedOn, stepsTaken, isMarked, marksOf};
 ghost use Rattle.question.specs.Calls.{allOf, holdsNumber, heldAs, falls, blank, rangesFit, fitQuestion, stepCall, beginCall};
-ghost use Rattle.question.specs.Inner.{pushed, shown, passed, closed, joined, taking, listTaken, at};
+ghost use Rattle.question.specs.Inner.{pushed, shown, passed, closed, joined, taking, listTaken, at, barOf, admits, gathered, endedOf};
 use ranking::Grid;
 use ranking::Weights;
 use ranking::ranks_above;
@@ -40,6 +41,13 @@ pub struct Stepped {
 struct Placing {
     question: Question,
     waiting: bool,
+}
+
+// What an entry has to rank above to change a list that is full: its last line.
+struct Bar {
+    full: bool,
+    number: u32,
+    score: i32,
 }
 
 impl Question {
@@ -192,7 +200,9 @@ impl Question {
         if number == 0 {
             return self;
         }
-        if Grid::cell(loss, shake) as u16 != self.next {
+        let next = self.next;
+        let cell = Grid::cell(loss, shake) as u16;
+        if cell != next {
             return self;
         }
         self.joined(number, self.weights.score(loss, shake))
@@ -232,12 +242,31 @@ impl Question {
         if Grid::CELLS <= next {
             return self;
         }
-        self.list_taken(window).at(self.weights.next(next as u8))
+        let list = self.list_taken(window);
+        list.at(self.weights.next(next as u8))
     }
 
     // A search from its beginning to its end, whatever the window's rows hold; none, where k is over 16.
     pub fn searched(self, window: Window) -> Searched
         ensures { λ r. ⌜ r ≡ searchedOn self window ⌝ }
+    {
+        self.searched_in(&window.losses, &window.shakes, &window.numbers, 1024)
+    }
+
+    // The same for a caller that lends the rows and knows that from row `rows` on none holds a report.
+    pub fn searched_in<'a>(
+        self,
+        losses: &'a [u16; 1024],
+        shakes: &'a [u16; 1024],
+        numbers: &'a [u32; 1024],
+        rows: usize,
+    ) -> Searched
+        requires { ⌜
+            (rows ≤ 1024)
+            × (standing (rowsOf (now losses) (now shakes) (now numbers)) rows
+            ≡ standing (rowsOf (now losses) (now shakes) (now numbers)) 1024)
+            ⌝ }
+        ensures { λ r. ⌜ r ≡ searchedOn self (rowsOf (now (losses .entry)) (now (shakes .entry)) (now (numbers .entry))) ⌝ }
     {
         if Question::LINES < self.k {
             return Searched {
@@ -245,13 +274,75 @@ impl Question {
                 question: self,
             };
         }
-        let mut steps: u16 = 0;
-        let mut question = self.begun();
-        while !question.finished() {
-            question = question.stepped(window);
-            steps += 1;
+        let list = self.gathered(losses, shakes, numbers, rows);
+        list.ended()
+    }
+
+    // The best k of the reports in the first `rows` rows. A report that doesn't pass the bar changes nothing.
+    fn gathered<'a>(
+        self,
+        losses: &'a [u16; 1024],
+        shakes: &'a [u16; 1024],
+        numbers: &'a [u32; 1024],
+        rows: usize,
+    ) -> Question
+        requires { ⌜ (self .k ≤ 16) × (rows ≤ 1024) ⌝ }
+        ensures { λ r. ⌜ r ≡ gathered self (rowsOf (now (losses .entry)) (now (shakes .entry)) (now (numbers .entry))) rows ⌝ }
+    {
+        let weights = self.weights;
+        let mut list = Question::blank(self.k, weights, self.next);
+        let mut bar = list.bar();
+        let mut row: usize = 0;
+        while row < rows {
+            let number = numbers[row];
+            let score = weights.score(losses[row], shakes[row]);
+            if bar.admits(number, score) {
+                list = list.joined(number, score);
+                bar = list.bar();
+            }
+            row += 1;
         }
-        Searched { steps, question }
+        list
+    }
+
+    // The list's bar; a list with no line has none.
+    fn bar(self) -> Bar
+        ensures { λ r. ⌜ r ≡ barOf self ⌝ }
+    {
+        let n = self.shown() as usize;
+        if n == 0 {
+            return Bar {
+                full: false,
+                number: 0,
+                score: 0,
+            };
+        }
+        let numbers = self.numbers;
+        let scores = self.scores;
+        let last = n - 1;
+        Bar {
+            full: self.len == self.k,
+            number: numbers[last],
+            score: scores[last],
+        }
+    }
+
+    // Where the search that found this list ends: a full list's last score decides which cells were taken.
+    fn ended(self) -> Searched
+        ensures { λ r. ⌜ r ≡ endedOf self ⌝ }
+    {
+        let bar = self.bar();
+        if bar.full {
+            let reach = self.weights.reach(bar.score);
+            return Searched {
+                steps: reach.cells,
+                question: self.at(reach.next),
+            };
+        }
+        Searched {
+            steps: Grid::CELLS,
+            question: self.at(Grid::CELLS),
+        }
     }
 
     // The steps that the search has taken.
@@ -464,6 +555,21 @@ impl Placing {
             return list.pushed(number, score);
         }
         list
+    }
+}
+
+impl Bar {
+    // A report passes: it has a number, and the list isn't full or it ranks above the last line.
+    fn admits(self, number: u32, score: i32) -> bool
+        ensures { λ r. ⌜ r ≡ admits self (record { number = number; score = score }) ⌝ }
+    {
+        if number == 0 {
+            return false;
+        }
+        if self.full {
+            return ranks_above(score, number, self.score, self.number);
+        }
+        true
     }
 }
 

@@ -441,3 +441,21 @@ module _ {E : Type 0} (above : E → E → Bool) where
     -- a ranked list of at most k is its own best k
     pub best-self : (k : ℕ) (l : List E) → Falling l → length l ≤ k → best above k l ≡ l
     best-self k l w h = ap (take k) (rank-falling-is l w) ∙ take-all k l h
+
+    -- what doesn't rank above the last of a full list changes nothing: it is below it, or is it
+    pub best-skip : (k : ℕ) (x : E) (l : List E) → 1 ≤ k → length (best above k l) ≡ k → onLast (above x) (best above k l) ≡ false → best above k (x ∷ l) ≡ best above k l
+    best-skip k x l some full h = go (tested (onLast (λ z. above z x) L))
+      where
+        L : List E
+        L = best above k l
+
+        low : Lowest L
+        low = lowest-some L (best-falling k l) (omega arith)
+
+        go : Tested (onLast (λ z. above z x) L) → best above k (x ∷ l) ≡ best above k l
+        go (passed b) = best-below k x l full b
+        go (failed b) =
+            let is : x ≡ low .entry = order .total x (low .entry) (sym (low .is-last (above x)) ∙ h) (sym (low .is-last (λ z. above z x)) ∙ b) in
+            best-cons k x l
+            ∙ ap (take k) (place-there x L (best-falling k l) (moved (sym is) (low .listed)))
+            ∙ take-all k L (length-best-le k l)

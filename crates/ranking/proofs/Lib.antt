@@ -7,6 +7,7 @@ pub mod Whole
 pub mod Cells
 pub mod Standing
 pub mod Scan
+pub mod Reaching
 pub mod Guard
 pub mod Words
 pub mod Examples

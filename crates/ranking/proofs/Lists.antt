@@ -1,6 +1,6 @@
 -- Laws of lists that the ranking cites, each by induction on its list: membership, what holds of each pair, those that pass a test, the last entry.
 -- Assumes nothing.
-use mathlib.Core.Path.{_≡_, refl, sym, ap, _∙_, subst}
+use mathlib.Core.Path.{_≡_, refl, sym, ap, ap₂, _∙_, subst}
 use mathlib.Core.Logic.{_⊎_, inl, inr, ⊎-elim}
 use mathlib.Core.Bool.{Bool, true, false, not}
 use mathlib.Core.List.{List, [], _∷_, _++_, nil≢cons, head-eq-of-cons-eq, List·Memᴰ·head, List·Memᴰ·tail, List·Memᴰ·not-nil, List·Memᴰ·cases-cons, Memᴰ·append-right}
@@ -185,3 +185,43 @@ module _ {A : Type 0} where
   only-all-fail p (x ∷ xs) h =
       let e : p x ≡ false = h x here in
       rw (e, only) (only-all-fail p xs (λ y m. h y (there m)))
+
+  -- a test told in two ways
+  pub only-same : (p q : A → Bool) (l : List A) → ((x : A) → x ∈ l → p x ≡ q x) → only p l ≡ only q l
+  only-same p q [] h = refl
+  only-same p q (x ∷ xs) h = ap₂ (λ b m. elim b [ true ↦ x ∷ m | false ↦ m ]) (h x here) (only-same p q xs (λ y m. h y (there m)))
+
+  -- where what passes a test comes first, as many pass as stand before the first that fails
+  module _ (p : A → Bool) where
+    abbrev pub First : List A → Type 0
+    First l = Pairwise (λ x y. p y ≡ true → p x ≡ true) l
+
+    none-left : (x : A) (xs : List A) → First (x ∷ xs) → p x ≡ false → only p xs ≡ []
+    none-left x xs w e = only-all-fail p xs (λ y m. go y m (tested (p y)))
+      where
+        go : (y : A) → y ∈ xs → Tested (p y) → p y ≡ false
+        go y m (passed t) = clash (w .0 y m t) e
+        go y m (failed t) = t
+
+    pub fails-left : (l : List A) → First l → (x : A) → x ∈ l → p x ≡ false → x ∈ drop (length (only p l)) l
+    fails-left [] w x m e = m
+    fails-left (y ∷ ys) w x m e = go (tested (p y)) (List·Memᴰ·cases-cons m) (λ k. fails-left ys (w .1) x k e)
+      where
+        go : Tested (p y) → (x ≡ y) ⊎ (x ∈ ys) → (x ∈ ys → x ∈ drop (length (only p ys)) ys) → x ∈ drop (length (only p (y ∷ ys))) (y ∷ ys)
+        go (passed t) (inl q) ih = clash (ap p q ∙ t) e
+        go (passed t) (inr k) ih = rw (t, only) (ih k)
+        go (failed t) k ih = rw (t, only) (subst (λ z. x ∈ drop (length z) (y ∷ ys)) (sym (none-left y ys w t)) m)
+
+    pub left-fails : (l : List A) → First l → (x : A) → x ∈ drop (length (only p l)) l → p x ≡ false
+    left-fails [] w x m = absurd (List·Memᴰ·not-nil m)
+    left-fails (y ∷ ys) w x m = go (tested (p y)) (left-fails ys (w .1) x)
+      where
+        later : p y ≡ false → (x ≡ y) ⊎ (x ∈ ys) → Tested (p x) → p x ≡ false
+        later t k (failed u) = u
+        later t (inl q) (passed u) = ap p q ∙ t
+        later t (inr k) (passed u) = clash (w .0 x k u) t
+
+        go : Tested (p y) → (x ∈ drop (length (only p ys)) ys → p x ≡ false) → p x ≡ false
+        go (passed t) ih = ih (rw (t, only) at m)
+        go (failed t) ih =
+            later t (List·Memᴰ·cases-cons (subst (λ z. x ∈ drop (length z) (y ∷ ys)) (none-left y ys w t) (rw (t, only) at m))) (tested (p x))

@@ -16,6 +16,8 @@ use Rattle.ranking.proofs.Weights.first.Kinds as first-kinds
 use Rattle.ranking.proofs.Weights.first.Reads as first-reads
 use Rattle.ranking.proofs.Weights.next.Kinds as next-kinds
 use Rattle.ranking.proofs.Weights.next.Reads as next-reads
+use Rattle.ranking.proofs.Weights.reach.Kinds as reach-kinds
+use Rattle.ranking.proofs.Weights.reach.Reads as reach-reads
 use Rattle.ranking.proofs.Grid.cell.Kinds as cell-kinds
 use Rattle.ranking.proofs.Grid.cell.Reads as cell-reads
 use Rattle.ranking.proofs.ranks_above.Kinds as ranks-above-kinds
@@ -41,6 +43,9 @@ first-once κs a x y s t p q = p ∙ sym q
 
 next-once : OneAnswer 0 next-kinds.ps next-kinds.r next-reads.Post
 next-once κs a x y s t p q = p ∙ sym q
+
+reach-once : OneAnswer 0 reach-kinds.ps reach-kinds.r reach-reads.Post
+reach-once κs a x y s t p q = p ∙ sym q
 
 cell-once : OneAnswer 0 cell-kinds.ps cell-kinds.r cell-reads.Post
 cell-once κs a x y s t p q = p ∙ sym q

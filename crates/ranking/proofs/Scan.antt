@@ -105,72 +105,79 @@ module _ (w : Weights) where
   pub nearer-no : (from found d : ℕ) → leads w from d && leads w d found ≡ false → nearer w from found d ≡ found
   nearer-no from found d e = rw (e, nearer)
 
-  -- what is known after the cells below d have been looked at
-  pub record Scanned (from d found : ℕ) : Type 0 where
+  -- what is known of the cells that pass a test after those below d have been looked at: the one that is taken first
+  pub record Scanned (p : ℕ → Bool) (d found : ℕ) : Type 0 where
     pub at-most : found ≤ 256
-    pub follows : found < 256 → leads w from found ≡ true
-    pub soonest : (e : ℕ) → e < d → leads w from e ≡ true → (found < 256) × (before w e found ≡ false)
+    pub passes : found < 256 → p found ≡ true
+    pub soonest : (e : ℕ) → e < d → p e ≡ true → (found < 256) × (before w e found ≡ false)
 
-  pub scanned-none : (from : ℕ) → Scanned from 0 256
-  scanned-none from = record { at-most = omega arith; follows = λ h. absurd (no 256 h); soonest = λ e h. absurd (not-suc-le-zero h) }
+  pub scanned-none : (p : ℕ → Bool) → Scanned p 0 256
+  scanned-none p = record { at-most = omega arith; passes = λ h. absurd (no 256 h); soonest = λ e h. absurd (not-suc-le-zero h) }
     where
       no : (n : ℕ) → n < n → ⊥
       no n h = omega arith
 
-  module _ (from found d : ℕ) (cell : d < 256) (so-far : Scanned from d found) where
-    take-d : leads w from d ≡ true → leads w d found ≡ true → Scanned from (d + 1) d
-    take-d p q =
-        record {
-          at-most = omega arith;
-          follows = λ h. p;
-          soonest = λ e h l. (cell, go e (lt-or-eq (below e h)) l);
-        }
+  module _ (p : ℕ → Bool) (found d : ℕ) (cell : d < 256) (so-far : Scanned p d found) where
+    up-to-d : (e : ℕ) → e < d + 1 → (e < d) ⊎ (e ≡ d)
+    up-to-d e h = lt-or-eq (below e h)
       where
         below : (e : ℕ) → e < d + 1 → e ≤ d
         below e h = omega arith
 
-        beaten : (e : ℕ) → e < d → leads w from e ≡ true → Tested (before w e d) → before w e d ≡ false
+    -- d passes and is taken sooner
+    pub scanned-take : p d ≡ true → (found < 256 → before w d found ≡ true) → Scanned p (d + 1) d
+    scanned-take t q =
+        record {
+          at-most = omega arith;
+          passes = λ h. t;
+          soonest = λ e h l. (cell, go e (up-to-d e h) l);
+        }
+      where
+        beaten : (e : ℕ) → e < d → p e ≡ true → Tested (before w e d) → before w e d ≡ false
         beaten e h l (failed f) = f
         beaten e h l (passed f) =
             let r = so-far .soonest e h l in
-            clash (before-strict w .transitive e d found f (sym (leads-cells d found cell (r .0)) ∙ q)) (r .1)
+            clash (before-strict w .transitive e d found f (q (r .0))) (r .1)
 
-        go : (e : ℕ) → (e < d) ⊎ (e ≡ d) → leads w from e ≡ true → before w e d ≡ false
+        go : (e : ℕ) → (e < d) ⊎ (e ≡ d) → p e ≡ true → before w e d ≡ false
         go e (inl h) l = beaten e h l (tested (before w e d))
         go e (inr h) l = subst (λ z. before w z d ≡ false) (sym h) (before-strict w .irreflexive d)
 
-    leave-d : leads w from d && leads w d found ≡ false → Scanned from (d + 1) found
-    leave-d n =
+    -- or not
+    pub scanned-leave : (p d ≡ true → (found < 256) × (before w d found ≡ false)) → Scanned p (d + 1) found
+    scanned-leave n =
         record {
           at-most = so-far .at-most;
-          follows = so-far .follows;
-          soonest = λ e h l. go e (lt-or-eq (below e h)) l;
+          passes = so-far .passes;
+          soonest = λ e h l. go e (up-to-d e h) l;
         }
       where
-        below : (e : ℕ) → e < d + 1 → e ≤ d
-        below e h = omega arith
-
-        behind : leads w from d ≡ true → leads w d found ≡ false
-        behind p = sym (ap (λ b. b && leads w d found) p) ∙ n
-
-        at-d : leads w from d ≡ true → (found < 256) ⊎ (found ≡ 256) → (found < 256) × (before w d found ≡ false)
-        at-d p (inl h) = (h, sym (leads-cells d found cell h) ∙ behind p)
-        at-d p (inr h) = clash (leads-to d found (omega arith)) (behind p)
-
-        go : (e : ℕ) → (e < d) ⊎ (e ≡ d) → leads w from e ≡ true → (found < 256) × (before w e found ≡ false)
+        go : (e : ℕ) → (e < d) ⊎ (e ≡ d) → p e ≡ true → (found < 256) × (before w e found ≡ false)
         go e (inl h) l = so-far .soonest e h l
         go e (inr h) l =
-            subst (λ z. (found < 256) × (before w z found ≡ false)) (sym h)
-            (at-d (subst (λ z. leads w from z ≡ true) h l) (lt-or-eq (so-far .at-most)))
+            subst (λ z. (found < 256) × (before w z found ≡ false)) (sym h) (n (subst (λ z. p z ≡ true) h l))
 
-    pub scanned-more : Scanned from (d + 1) (nearer w from found d)
+  -- the cells that follow `from`
+  module _ (from found d : ℕ) (cell : d < 256) (so-far : Scanned (leads w from) d found) where
+    pub scanned-more : Scanned (leads w from) (d + 1) (nearer w from found d)
     scanned-more = go (tested (leads w from d && leads w d found))
       where
-        go : Tested (leads w from d && leads w d found) → Scanned from (d + 1) (nearer w from found d)
+        ahead : leads w d found ≡ true → found < 256 → before w d found ≡ true
+        ahead q h = sym (leads-cells d found cell h) ∙ q
+
+        at-d : leads w d found ≡ false → (found < 256) ⊎ (found ≡ 256) → (found < 256) × (before w d found ≡ false)
+        at-d q (inl h) = (h, sym (leads-cells d found cell h) ∙ q)
+        at-d q (inr h) = clash (leads-to d found (omega arith)) q
+
+        go : Tested (leads w from d && leads w d found) → Scanned (leads w from) (d + 1) (nearer w from found d)
         go (passed e) =
             let r = and-both (leads w from d) (leads w d found) e in
-            subst (Scanned from (d + 1)) (sym (nearer-yes from found d (r .0) (r .1))) (take-d (r .0) (r .1))
-        go (failed e) = subst (Scanned from (d + 1)) (sym (nearer-no from found d e)) (leave-d e)
+            subst (Scanned (leads w from) (d + 1)) (sym (nearer-yes from found d (r .0) (r .1)))
+            (scanned-take (leads w from) found d cell so-far (r .0) (ahead (r .1)))
+        go (failed e) =
+            subst (Scanned (leads w from) (d + 1)) (sym (nearer-no from found d e))
+            (scanned-leave (leads w from) found d cell so-far
+            (λ p. at-d (sym (ap (λ b. b && leads w d found) p) ∙ e) (lt-or-eq (so-far .at-most))))
 
   -- a cell with its place: it ends the cells up to its place, and what follows it is left
   module _ (from : ℕ) (h : from < 256) where
@@ -216,28 +223,29 @@ module _ (w : Weights) where
       go (failed t) =
           rw (t, placeAfter) (λ l. visiting-in w e g, λ m. leads-from from e (ltb-false from 256 t))
 
-  -- after all the cells the scan has found the one that follows
-  pub scanned-all : (from found : ℕ) → Scanned from 256 found → found ≡ cellAt w (placeAfter w from)
-  scanned-all from found s = go (drop m (visiting w)) refl
+  -- where those that pass the test are what is left after the place m, all the cells looked at show the one at m
+  pub scanned-left : (p : ℕ → Bool) (m found : ℕ) → ((e : ℕ) → e < 256 → p e ≡ true ↔ e ∈ drop m (visiting w)) → Scanned p 256 found → found ≡ cellAt w m
+  scanned-left p m found left s = go (drop m (visiting w)) refl
     where
-      m : ℕ
-      m = placeAfter w from
-
       found-left : found < 256 → found ∈ drop m (visiting w)
-      found-left h = following from found h .0 (s .follows h)
+      found-left h = left found h .0 (s .passes h)
 
-      go : (left : List ℕ) → drop m (visiting w) ≡ left → found ≡ cellAt w m
+      go : (rest : List ℕ) → drop m (visiting w) ≡ rest → found ≡ cellAt w m
       go [] q =
           ⊎-elim (λ h. absurd (List·Memᴰ·not-nil (subst (λ l. found ∈ l) q (found-left h)))) (λ e. e ∙ sym (getD-past 256 (visiting w) m q))
           (lt-or-eq (s .at-most))
       go (x ∷ xs) q =
           let x-left : x ∈ drop m (visiting w) = subst (λ l. x ∈ l) (sym q) here in
           let x-cell = visiting-of w x (drop-⊆ m (visiting w) x x-left) in
-          let r = s .soonest x x-cell (following from x x-cell .1 x-left) in
+          let r = s .soonest x x-cell (left x x-cell .1 x-left) in
           ⊎-elim (λ e. e)
           (λ k. clash (subst (Pairwise Earlier) q (pairwise-drop Earlier m (visiting w) (visiting-falling w)) .0 found k) (r .1))
           (List·Memᴰ·cases-cons (subst (λ l. found ∈ l) q (found-left (r .0))))
           ∙ sym (getD-left 256 (visiting w) m q)
+
+  -- after all the cells the scan has found the one that follows
+  pub scanned-all : (from found : ℕ) → Scanned (leads w from) 256 found → found ≡ cellAt w (placeAfter w from)
+  scanned-all from found s = scanned-left (leads w from) (placeAfter w from) found (following from) s
 
   -- ---- the cells taken so far, by the next one
 

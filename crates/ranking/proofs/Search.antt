@@ -3,10 +3,10 @@
 -- Assumes nothing.
 use mathlib.Core.Path.{_≡_, refl, sym, ap, _∙_, subst}
 use mathlib.Core.Logic.{_⊎_, inl, inr, ⊎-elim, _↔_}
-use mathlib.Core.Bool.{true, false, not}
+use mathlib.Core.Bool.{Bool, true, false, not}
 use mathlib.Core.List.{List, [], _∷_, _++_, List·Memᴰ·head, List·Memᴰ·cases-cons, Memᴰ·append-left, Memᴰ·append-right, Memᴰ·map, Memᴰ·of-map, List·Memᴰ·not-nil, List·Memᴰ·append-cases}
 use Prim.Native.Nat.{ℕ, suc, _-_, _≤_, _<_}
-use native.Mathlib.Nat.{zero-add}
+use native.Mathlib.Nat.{zero-add, suc-ne-zero}
 use native.Mathlib.Omega.{arith}
 use borrow.Author.Tests.{not-true, eq-eqb, eqb-true, lt-ltb, ltb-true, ltb-false, le-ltb}
 use lib.Dec.{eqb, ltb}
@@ -289,6 +289,30 @@ module _ {E I : Type 0} (s : Search E I) {Good : I → Type 0} (sound : Sound s 
             low .is-last (λ z. s .above z x)
             ∙ subst (λ z. s .above (low .entry) z ≡ true) (r .3) (below c left n q (low .entry) under (r .0) (r .1) (r .2))))
             ∙ best-same (s .above) (sound .strict) k (others ++ inside) (entries s hs) (apart, together)
+
+    -- where the list isn't full, or has no entry, all cells are taken
+    pub steps-open : (k : ℕ) → (length (best (s .above) k (entries s hs)) ≡ k → ⊥) ⊎ (length (best (s .above) k (entries s hs)) ≡ 0) → steps s k hs ≡ length (s .order)
+    steps-open k room = ⊎-elim (λ short. absurd (go (drop n (s .order)) refl (ends s k hs) short)) (λ e. e) (lt-or-eq (steps-le s k hs))
+      where
+        n : ℕ
+        n = steps s k hs
+
+        L : List E
+        L = best (s .above) k (entries s hs)
+
+        rest : (a b : ℕ) → b - a ≡ 0 → a < b → ⊥
+        rest a b e l = omega arith
+
+        no-last : (p : E → Bool) (l : List E) → length l ≡ 0 → onLast p l ≡ false
+        no-last p [] e = refl
+        no-last p (x ∷ l) e = absurd (suc-ne-zero (length l) e)
+
+        go : (left : List ℕ) → drop n (s .order) ≡ left → stops s k (found s k hs) left ≡ true → n < length (s .order) → ⊥
+        go [] q e short = rest n (length (s .order)) (sym (length-drop n (s .order)) ∙ ap length q) short
+        go (c ∷ left) q e short =
+            let p : E → Bool = λ z. not (s .reaches c z) in
+            let both = and-both (eqb (length L) k) (onLast p L) (subst (λ l. stops s k l (c ∷ left) ≡ true) (found-is k) e) in
+            ⊎-elim (λ h. h (eqb-true (length L) k (both .0))) (λ h. clash (both .1) (no-last p L h)) room
 
     -- ---- why the steps are exact
     module _ (k : ℕ) (some : 1 ≤ k) where

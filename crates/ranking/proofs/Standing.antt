@@ -1,24 +1,25 @@
 -- The search of a question finds the best k of the window, and its marks are the wanted cells: reports and cells meet what the search's laws ask.
 -- Assumes nothing.
-use mathlib.Core.Path.{_≡_, refl, sym, ap, _∙_, subst}
+use mathlib.Core.Path.{_≡_, refl, sym, ap, ap₂, _∙_, subst}
 use mathlib.Core.Logic.{_⊎_, inl, inr, _↔_}
-use mathlib.Core.Bool.{Bool, true, false, not}
+use mathlib.Core.Bool.{Bool, true, false, not, _||_}
 use mathlib.Core.List.{List, [], _∷_, map, Memᴰ·of-map}
 use Prim.Native.Nat.{ℕ, min, _%_, _/_, _≤_, _<_}
 use native.Mathlib.Omega.{arith}
-use borrow.Author.Tests.{not-true, not-false, lt-ltb}
+use borrow.Author.Tests.{not-true, not-false, lt-ltb, le-ltb}
 use lib.Dec.{ltb}
 use lib.ListN.{length, length-map}
+use lib.IntN.{ℤ}
 use lib.Signed.{ltZ}
-use Rattle.ranking.specs.Best.{_∈_, best, only}
+use Rattle.ranking.specs.Best.{_∈_, best, onLast, only}
 use Rattle.ranking.specs.Search.{heldIn, entries, steps, found, marks, matters}
-use Rattle.ranking.specs.Cells.{score, cell, corner, bestScore, greater, before, cells, visiting}
+use Rattle.ranking.specs.Cells.{score, cell, corner, bestScore, greater, before, cells, visiting, reaching}
 use Rattle.ranking.specs.Standing.{Held, Entry, above, entry, reaches, searchOf, Permitted, Wanted}
 use Rattle.ranking.specs.declared.Weights.{Weights}
 use Rattle.ranking.proofs.Tests.{Tested, passed, failed, tested, clash}
-use Rattle.ranking.proofs.Lists.{Distinct, pairwise-map, pairwise-take, Pairwise, Same, Other, only-in, only-of, pairwise-only, take-⊆}
+use Rattle.ranking.proofs.Lists.{Distinct, pairwise-map, pairwise-take, Pairwise, Same, Other, only-in, only-of, only-same, pairwise-only, take-⊆}
 use Rattle.ranking.proofs.Best.{StrictTotal, ahead, length-best, one-way, length-same}
-use Rattle.ranking.proofs.Search.{All, Sound, Newest, ltb-strict, found-is, marked, mattering, steps-count, steps-le, wanted, local-found, local-marks, local-steps, length-marks}
+use Rattle.ranking.proofs.Search.{All, Sound, Newest, ltb-strict, found-is, steps-open, marked, mattering, steps-count, steps-le, wanted, local-found, local-marks, local-steps, length-marks}
 use Rattle.ranking.proofs.Whole.{ltZ-strict}
 use Rattle.ranking.proofs.Cells.{more, greater-by, greater-tie, Numbers, less, equal, numbers, greater-strict, visiting-in, visiting-of, visiting-same, visiting-falling, visiting-distinct, length-visiting, cells-distinct, before-best, score-bound, corner-cell, corner-loss, corner-shake, cell-fits, greater-of, less-by, cells-in, cells-of}
 
@@ -37,14 +38,17 @@ above-strict =
 
 module _ (w : Weights) where
   -- ltZ a b is "a is below b": the chain of three, with the middle step not strict
-  later : (c d : ℕ) → before w c d ≡ true → (e : Entry) → reaches w d e ≡ true → reaches w c e ≡ true
-  later c d h e r = go (tested (ltZ (bestScore w c) (e .score)))
+  kept : (c d : ℕ) → before w c d ≡ true → (s : ℤ) → not (ltZ (bestScore w d) s) ≡ true → not (ltZ (bestScore w c) s) ≡ true
+  kept c d h s r = go (tested (ltZ (bestScore w c) s))
     where
-      go : Tested (ltZ (bestScore w c) (e .score)) → reaches w c e ≡ true
+      go : Tested (ltZ (bestScore w c) s) → not (ltZ (bestScore w c) s) ≡ true
       go (failed f) = ap not f
       go (passed f) =
-          clash (ahead ltZ ltZ-strict (bestScore w d) (bestScore w c) (e .score) (before-best w c d h) f)
-          (not-true (ltZ (bestScore w d) (e .score)) r)
+          clash (ahead ltZ ltZ-strict (bestScore w d) (bestScore w c) s (before-best w c d h) f)
+          (not-true (ltZ (bestScore w d) s) r)
+
+  later : (c d : ℕ) → before w c d ≡ true → (e : Entry) → reaches w d e ≡ true → reaches w c e ≡ true
+  later c d h e r = kept c d h _ r
 
   under : (r : Held) → Permitted r → (e : Entry) → reaches w (cell (r .loss) (r .shake)) e ≡ false → above e (entry w r) ≡ true
   under r p e h =
@@ -161,6 +165,19 @@ module _ (w : Weights) where
     -- The number of steps is the number of cells that could matter, which are the wanted ones.
     pub steps-wanted : (k : ℕ) → 1 ≤ k → steps (searchOf w) k hs ≡ length (only (matters (searchOf w) k hs) cells)
     steps-wanted k some = steps-count (searchOf w) sound hs good k some cells cells-distinct (visiting-same w)
+
+    -- a list that isn't full, or has no entry, takes all cells
+    pub steps-all : (k : ℕ) → (length (best above k (map (entry w) hs)) ≡ k → ⊥) ⊎ (length (best above k (map (entry w) hs)) ≡ 0) → steps (searchOf w) k hs ≡ 256
+    steps-all k room = steps-open (searchOf w) sound hs good k room ∙ length-visiting w
+
+    -- a full one takes as many as reach its last score
+    pub steps-full : (k : ℕ) → 1 ≤ k → length (best above k (map (entry w) hs)) ≡ k → (last : Entry) → ((p : Entry → Bool) → onLast p (best above k (map (entry w) hs)) ≡ p last) → steps (searchOf w) k hs ≡ reaching w (last .score)
+    unfolding reaching
+    steps-full k some full last is =
+        steps-wanted k some
+        ∙ ap length
+        (only-same (matters (searchOf w) k hs) (λ c. reaches w c last) cells
+        (λ c m. ap₂ (λ a b. a || b) (le-ltb (length (best above k (map (entry w) hs))) k (omega arith)) (is (reaches w c))))
 
   -- no search runs more than 256 steps
   pub steps-bounded : (k : ℕ) (hs : List Held) → steps (searchOf w) k hs ≤ 256

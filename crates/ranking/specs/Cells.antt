@@ -1,5 +1,5 @@
 -- Scores, the grid's cells, and the order in which a search takes them.
-use mathlib.Core.Bool.{Bool, true, false, _&&_}
+use mathlib.Core.Bool.{Bool, true, false, not, _&&_}
 use mathlib.Core.List.{List, [], _∷_}
 use Prim.Native.Nat.{ℕ, zero, suc, _+_, _*_, _/_, _%_}
 use lib.Dec.{ltb}
@@ -8,6 +8,7 @@ use lib.IntN.{ℤ, pos, negsuc, _+ℤ_, _*ℤ_}
 use lib.Signed.{ltZ, leZ}
 use Rattle.ranking.specs.Best.{rank, only}
 use Rattle.ranking.specs.declared.Weights.{Weights}
+use Rattle.ranking.specs.declared.Reach.{Reach}
 
 -- "weights a for loss, b for shake, each -1,000 to 1,000"
 abbrev pub inRange : ℤ → Bool
@@ -57,3 +58,11 @@ placeOf w c = length (only (λ d. before w d c) cells)
 -- the cell that is taken after n steps; 256, where none is left
 abbrev pub cellAt : Weights → ℕ → ℕ
 cellAt w n = getD (visiting w) n 256
+
+-- how many cells have a best possible score that is not below s
+unfoldable pub reaching : Weights → ℤ → ℕ
+reaching w s = length (only (λ c. not (ltZ (bestScore w c) s)) cells)
+
+-- that number, and the cell that is taken after as many
+unfoldable pub reachOf : Weights → ℤ → Reach
+reachOf w s = record { cells = reaching w s; next = cellAt w (reaching w s) }

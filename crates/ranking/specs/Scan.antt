@@ -1,8 +1,11 @@
 -- What the inner functions of the scan over the cells answer; no public contract cites it. A number from 256 on is no cell.
-use mathlib.Core.Bool.{Bool, true, false, _&&_}
-use Prim.Native.Nat.{ℕ, suc}
-use lib.Dec.{ltb}
+use mathlib.Core.Bool.{Bool, true, false, cond, _&&_, _||_}
+use Prim.Native.Nat.{ℕ, suc, _+_}
+use lib.Dec.{ltb, leb}
+use lib.IntN.{ℤ}
+use lib.Signed.{ltZ}
 use Rattle.ranking.specs.Cells.{before, placeOf}
+use Rattle.ranking.specs.declared.Sought.{Sought}
 use Rattle.ranking.specs.declared.Weights.{Weights}
 
 -- c stands before d, if both are cells
@@ -16,3 +19,10 @@ nearer w from found d = elim (leads w from d && leads w d found) [ true ↦ d | 
 -- the place after that of `from`; the first, where `from` is no cell
 abbrev pub placeAfter : Weights → ℕ → ℕ
 placeAfter w from = elim (ltb from 256) [ true ↦ suc (placeOf w from) | false ↦ 0 ]
+
+-- one cell more, of a greater number than those before: it is below the score s and taken sooner than the others that are, or not, or it counts
+unfoldable pub met : Sought → ℕ → ℤ → ℤ → Sought
+met at c best s =
+    cond (ltZ best s)
+    (cond (leb 256 (at .next) || ltZ (at .best) best) (record { cells = at .cells; next = c; best = best }) at)
+    (record { cells = at .cells + 1; next = at .next; best = at .best })

@@ -4,14 +4,28 @@ ghost use mathlib.Core.Path.{_≡_};
 ghost use mathlib.Core.Bool.{_&&_};
 ghost use Prim.Native.Nat.{_+_, _%_, _<_};
 ghost use lib.IntN.{pos, _*ℤ_};
-ghost use Rattle.ranking.specs.Cells.{score, cell, corner, bestScore, greater, before, inRange, placeOf, cellAt};
-ghost use Rattle.ranking.specs.Scan.{leads, nearer, placeAfter};
+ghost use Rattle.ranking.specs.Cells.{score, cell, corner, bestScore, greater, before, inRange, placeOf, cellAt, reachOf};
+ghost use Rattle.ranking.specs.Scan.{leads, nearer, placeAfter, met};
 ghost use Rattle.ranking.specs.Standing.{above};
 
 // A question's weights: a for loss, b for shake.
 pub struct Weights {
     pub loss: i16,
     pub shake: i16,
+}
+
+// How many cells have a best possible score of at least some score, and which of the others a search takes first; CELLS,
+// where there is none.
+pub struct Reach {
+    pub cells: u16,
+    pub next: u16,
+}
+
+// What a look at some cells has found: how many reach the score, which of the others is taken first, and its best score.
+struct Sought {
+    cells: u16,
+    next: u16,
+    best: i32,
 }
 
 impl Weights {
@@ -79,6 +93,26 @@ impl Weights {
         self.seek(cell as u16)
     }
 
+    // How far a search goes whose list ends in that score.
+    pub fn reach(self, score: i32) -> Reach
+        ensures { λ r. ⌜ r ≡ reachOf self score ⌝ }
+    {
+        let mut sought = Sought {
+            cells: 0,
+            next: Grid::CELLS,
+            best: 0,
+        };
+        let mut d: u16 = 0;
+        while d < Grid::CELLS {
+            sought = sought.met(d, self.best(d as u8), score);
+            d += 1;
+        }
+        Reach {
+            cells: sought.cells,
+            next: sought.next,
+        }
+    }
+
     // The cell that is taken next after `from`, or first where `from` is no cell.
     fn seek(self, from: u16) -> u16
         ensures { λ r. ⌜ r ≡ cellAt self (placeAfter self from) ⌝ }
@@ -114,6 +148,41 @@ impl Weights {
             }
         }
         true
+    }
+}
+
+impl Sought {
+    // One cell more, of a greater number than those before: it is below the score and taken sooner than the
+    // others that are, or not, or it counts.
+    fn met(self, cell: u16, best: i32, score: i32) -> Sought
+        requires { ⌜ self .cells < 256 ⌝ }
+        ensures { λ r. ⌜ r ≡ met self cell best score ⌝ }
+    {
+        let cells = self.cells;
+        let next = self.next;
+        let top = self.best;
+        if best < score {
+            if next < Grid::CELLS {
+                if top < best {
+                    return Sought {
+                        cells,
+                        next: cell,
+                        best,
+                    };
+                }
+                return self;
+            }
+            return Sought {
+                cells,
+                next: cell,
+                best,
+            };
+        }
+        Sought {
+            cells: cells + 1,
+            next,
+            best: top,
+        }
     }
 }
 

@@ -24,17 +24,17 @@ returns c =
 cell-requires : tie.Need-cell-requires
 cell-requires c κs = search needs
 
-cast-if2 : tie.Need-cast-if2
-cast-if2 c = search needs
+cast-cell : tie.Need-cast-cell
+cast-cell c = search needs
 
 returns-2 : tie.Need-returns-2
 returns-2 c =
-    let first = c .before .before .before in
+    let first = c .before .before in
     let a = first .before .args in
     let r = report (a .number) (a .loss) (a .shake) in
     sym
     (taking-other (a .self) r (ne-eqb (a .number) 0 (first .if1 .left))
-    (ne-eqb (cell (r .loss) (r .shake)) (a .self .next) (λ e. c .if2 .taken (c .before .before .cell .ensures ∙ e))))
+    (ne-eqb (cell (r .loss) (r .shake)) (a .self .next) (λ e. c .if2 .taken (c .before .cell .ensures ∙ e))))
 
 score-requires : tie.Need-score-requires
 score-requires c κs = search needs
@@ -44,16 +44,16 @@ joined-requires c κs = search needs
 
 returns-3 : tie.Need-returns-3
 returns-3 c =
-    let first = c .before .before .before .before .before in
+    let first = c .before .before .before .before in
     let a = first .before .args in
     let r = report (a .number) (a .loss) (a .shake) in
     c .joined .ensures
     ∙ ap (λ s. joined (a .self) (record { number = a .number; score = s })) (kept w32 (c .before .score .result) (c .before .score .ok) ∙ c .before .score .ensures)
     ∙ sym
     (taking-here (a .self) r (ne-eqb (a .number) 0 (first .if1 .left))
-    (eq-eqb (cell (r .loss) (r .shake)) (a .self .next) (sym (c .before .before .before .before .cell .ensures) ∙ c .before .before .if2 .left)))
+    (eq-eqb (cell (r .loss) (r .shake)) (a .self .next) (sym (c .before .before .before .cell .ensures) ∙ c .before .before .if2 .left)))
 
 pub taking-spec : {M : Type 1} → statement M
 taking-spec =
     tie.close
-    (tie.spec returns cell-requires cast-if2 returns-2 score-requires joined-requires returns-3)
+    (tie.spec returns cell-requires cast-cell returns-2 score-requires joined-requires returns-3)

@@ -1,0 +1,42 @@
+-- A full list's search took the cells that reach its last score, any other took all.
+-- Assumes nothing.
+use mathlib.Core.Path.{_≡_, sym, ap, ap₂, _∙_}
+use borrow.Author.Needs.{needs}
+use mir.Syntax.{w32}
+use Rattle.ranking.specs.Cells.{reachOf}
+use Rattle.ranking.proofs.Words.{kept}
+use Rattle.question.proofs.Finding.{ended-full, ended-open}
+use Rattle.question.proofs.Question.ended.Statement.{statement}
+use Rattle.question.proofs.Question.ended.Tie as tie
+
+bar-requires : tie.Need-bar-requires
+bar-requires c κs = search needs
+
+reach-requires : tie.Need-reach-requires
+reach-requires c κs = search needs
+
+at-requires : tie.Need-at-requires
+at-requires c κs = search needs
+
+returns : tie.Need-returns
+returns c =
+    let told = c .before .before in
+    let counted = told .before .before in
+    let q = counted .before .args .self in
+    ap (λ b. record { steps = c .before .reach .result .cells; question = b }) (c .at .ensures)
+    ∙ ended-full q (counted .bar .result) (counted .bar .ensures) (told .before .if1 .taken) (c .before .reach .result)
+    (c .before .reach .ensures ∙ ap (reachOf (q .weights)) (kept w32 (counted .bar .result .score) (told .struct-told .given .1 .1 .0 .1)))
+
+at-requires-2 : tie.Need-at-requires-2
+at-requires-2 c κs = search needs
+
+returns-2 : tie.Need-returns-2
+returns-2 c =
+    let counted = c .before .before in
+    let q = counted .before .args .self in
+    ap (λ b. record { steps = 256; question = b }) (c .at2 .ensures)
+    ∙ ended-open q (counted .bar .result) (counted .bar .ensures) (c .before .if1 .left)
+
+pub ended-spec : {M : Type 1} → statement M
+ended-spec =
+    tie.close (tie.spec bar-requires reach-requires at-requires returns at-requires-2 returns-2)

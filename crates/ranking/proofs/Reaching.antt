@@ -1,0 +1,163 @@
+-- The cells that reach a score are the first of the visiting order, since it falls by their best possible scores; so a look at all cells finds how many they are and which comes after them.
+-- Assumes nothing.
+use mathlib.Core.Path.{_≡_, refl, sym, ap, ap₂, _∙_, subst}
+use mathlib.Core.Logic.{⊎-elim, _↔_}
+use mathlib.Core.Bool.{Bool, true, false, cond, not, _||_}
+use mathlib.Core.List.{List, []}
+use Prim.Native.Nat.{ℕ, _+_, _≤_, _<_}
+use native.Mathlib.Omega.{arith}
+use borrow.Author.Tests.{le-leb, lt-leb, le-ltb, not-true, not-false, leb-true, leb-false}
+use lib.Dec.{leb, ltb}
+use lib.IntN.{ℤ}
+use lib.ListN.{length, drop}
+use lib.Signed.{ltZ}
+use Rattle.ranking.specs.Best.{_∈_, only}
+use Rattle.ranking.specs.Cells.{bestScore, before, count, cells, visiting, cellAt, reaching, reachOf}
+use Rattle.ranking.specs.Scan.{met}
+use Rattle.ranking.specs.declared.Reach.{Reach}
+use Rattle.ranking.specs.declared.Sought.{Sought}
+use Rattle.ranking.specs.declared.Weights.{Weights}
+use Rattle.ranking.proofs.Tests.{Tested, passed, failed, tested, clash, or-left, or-right}
+use Rattle.ranking.proofs.Lists.{First, Other, pairwise-map, pairwise-only, only-in, only-of, fails-left, left-fails, lt-or-eq}
+use Rattle.ranking.proofs.Best.{ahead, length-same}
+use Rattle.ranking.proofs.Search.{ltb-strict}
+use Rattle.ranking.proofs.Whole.{ltZ-strict}
+use Rattle.ranking.proofs.Cells.{more, greater-by, greater-tie, Numbers, less, equal, numbers, less-by, before-best, cells-distinct, cells-in, visiting-in, visiting-of, visiting-same, visiting-falling, visiting-distinct}
+use Rattle.ranking.proofs.Scan.{Scanned, scanned-none, scanned-take, scanned-leave, scanned-left, counted-yes, counted-no}
+
+-- what one cell more comes to
+module _ (at : Sought) (c : ℕ) (best s : ℤ) where
+  pub met-counts : ltZ best s ≡ false → met at c best s ≡ record { cells = at .cells + 1; next = at .next; best = at .best }
+  unfolding met
+  met-counts e = rw e
+
+  pub met-sooner : ltZ best s ≡ true → leb 256 (at .next) || ltZ (at .best) best ≡ true → met at c best s ≡ record { cells = at .cells; next = c; best = best }
+  unfolding met
+  met-sooner e f = rw (e, f)
+
+  pub met-later : ltZ best s ≡ true → leb 256 (at .next) || ltZ (at .best) best ≡ false → met at c best s ≡ at
+  unfolding met
+  met-later e f = rw (e, f)
+
+module _ (w : Weights) (s : ℤ) where
+  -- a cell's best possible score is below the score
+  abbrev pub below : ℕ → Bool
+  below c = ltZ (bestScore w c) s
+
+  abbrev pub reached : ℕ → Bool
+  reached c = not (below c)
+
+  -- ---- in the visiting order
+
+  reached-first : First reached (visiting w)
+  reached-first = pairwise-map earlier (visiting w) (visiting-falling w)
+    where
+      earlier : (c d : ℕ) → before w c d ≡ true → reached d ≡ true → reached c ≡ true
+      earlier c d h r = go (tested (below c))
+        where
+          go : Tested (below c) → reached c ≡ true
+          go (failed f) = ap not f
+          go (passed f) = clash (ahead ltZ ltZ-strict (bestScore w d) (bestScore w c) s (before-best w c d h) f) (not-true (below d) r)
+
+  reaching-order : reaching w s ≡ length (only reached (visiting w))
+  unfolding reaching
+  reaching-order =
+      length-same ltb ltb-strict (only reached cells) (only reached (visiting w))
+      (pairwise-only Other reached cells cells-distinct) (pairwise-only Other reached (visiting w) (visiting-distinct w)) (
+        λ c m. let r = only-of reached cells m in only-in reached (visiting w) (visiting-same w .0 c (r .0)) (r .1),
+        λ c m. let r = only-of reached (visiting w) m in only-in reached cells (visiting-same w .1 c (r .0)) (r .1),
+      )
+
+  -- the cells below the score are those that are left after as many
+  left-below : (c : ℕ) → c < 256 → below c ≡ true ↔ c ∈ drop (reaching w s) (visiting w)
+  left-below c h = (
+    λ e. subst (λ n. c ∈ drop n (visiting w)) (sym reaching-order) (fails-left reached (visiting w) reached-first c (visiting-in w c h) (ap not e)),
+    λ m. not-false (below c) (left-fails reached (visiting w) reached-first c (subst (λ n. c ∈ drop n (visiting w)) reaching-order m)),
+  )
+
+  -- ---- by rising cells
+
+  -- what is known after the cells below d have been looked at
+  pub record Met (d : ℕ) (at : Sought) : Type 0 where
+    pub number : at .cells ≡ length (only reached (count d []))
+    pub few : at .cells ≤ d
+    pub first : Scanned w below d (at .next)
+    pub known : at .next < 256 → (at .next < d) × (at .best ≡ bestScore w (at .next))
+
+  pub met-none : (at : Sought) → at ≡ record { cells = 0; next = 256; best = at .best } → Met 0 at
+  met-none at e = subst (Met 0) (sym e) (record { number = refl; few = omega arith; first = scanned-none w below; known = λ h. absurd (no h) })
+    where
+      no : 256 < 256 → ⊥
+      no h = omega arith
+
+  module _ (d : ℕ) (at : Sought) (cell : d < 256) (so-far : Met d at) where
+    counts : below d ≡ false → Met (d + 1) (record { cells = at .cells + 1; next = at .next; best = at .best })
+    counts e =
+        record {
+          number = ap (λ n. n + 1) (so-far .number) ∙ sym (counted-yes reached d (ap not e));
+          few = omega (arith, so-far .few);
+          first = scanned-leave w below (at .next) d cell (so-far .first) (λ t. clash t e);
+          known = λ h. let k = so-far .known h in (less (k .0), k .1);
+        }
+      where
+        less : {n : ℕ} → n < d → n < d + 1
+        less h = omega arith
+
+    -- of two cells the later one is taken sooner exactly where its best possible score is greater
+    sooner : ltZ (at .best) (bestScore w d) ≡ true → at .next < 256 → before w d (at .next) ≡ true
+    sooner e h =
+        greater-by (bestScore w d) (bestScore w (at .next)) (ltb d (at .next))
+        (subst (λ b. ltZ b (bestScore w d) ≡ true) (so-far .known h .1) e)
+
+    not-sooner : ltZ (at .best) (bestScore w d) ≡ false → at .next < 256 → before w d (at .next) ≡ false
+    not-sooner e h = go (numbers (bestScore w d) (bestScore w (at .next)))
+      where
+        go : Numbers (bestScore w d) (bestScore w (at .next)) → before w d (at .next) ≡ false
+        go (more l) = clash l (subst (λ b. ltZ b (bestScore w d) ≡ false) (so-far .known h .1) e)
+        go (less l) = less-by (bestScore w d) (bestScore w (at .next)) (ltb d (at .next)) l
+        go (equal l) =
+            greater-tie (bestScore w d) (bestScore w (at .next)) (ltb d (at .next)) l ∙ le-ltb d (at .next) (omega (arith, so-far .known h .0))
+
+    takes : below d ≡ true → (at .next < 256 → before w d (at .next) ≡ true) → Met (d + 1) (record { cells = at .cells; next = d; best = bestScore w d })
+    takes e q =
+        record {
+          number = so-far .number ∙ sym (counted-no reached d (ap not e));
+          few = omega (arith, so-far .few);
+          first = scanned-take w below (at .next) d cell (so-far .first) e q;
+          known = λ h. (omega arith, refl);
+        }
+
+    leaves : below d ≡ true → at .next < 256 → before w d (at .next) ≡ false → Met (d + 1) at
+    leaves e h q =
+        record {
+          number = so-far .number ∙ sym (counted-no reached d (ap not e));
+          few = omega (arith, so-far .few);
+          first = scanned-leave w below (at .next) d cell (so-far .first) (λ t. (h, q));
+          known = λ g. let k = so-far .known g in (less (k .0), k .1);
+        }
+      where
+        less : {n : ℕ} → n < d → n < d + 1
+        less h = omega arith
+
+    pub met-more : Met (d + 1) (met at d (bestScore w d) s)
+    met-more = go (tested (below d)) (tested (leb 256 (at .next))) (tested (ltZ (at .best) (bestScore w d)))
+      where
+        go : Tested (below d) → Tested (leb 256 (at .next)) → Tested (ltZ (at .best) (bestScore w d)) → Met (d + 1) (met at d (bestScore w d) s)
+        go (failed e) t u = subst (Met (d + 1)) (sym (met-counts at d (bestScore w d) s e)) (counts e)
+        go (passed e) (passed t) u =
+            subst (Met (d + 1)) (sym (met-sooner at d (bestScore w d) s e (or-left (leb 256 (at .next)) (ltZ (at .best) (bestScore w d)) t)))
+            (takes e (λ h. absurd (no (at .next) h (leb-true 256 (at .next) t))))
+          where
+            no : (n : ℕ) → n < 256 → 256 ≤ n → ⊥
+            no n h g = omega arith
+        go (passed e) (failed t) (passed u) =
+            subst (Met (d + 1)) (sym (met-sooner at d (bestScore w d) s e (or-right (leb 256 (at .next)) (ltZ (at .best) (bestScore w d)) u)))
+            (takes e (sooner u))
+        go (passed e) (failed t) (failed u) =
+            subst (Met (d + 1)) (sym (met-later at d (bestScore w d) s e (ap₂ (λ a b. a || b) t u)))
+            (leaves e (leb-false 256 (at .next) t) (not-sooner u (leb-false 256 (at .next) t)))
+
+  pub met-all : (at : Sought) → Met 256 at → record { cells = at .cells; next = at .next } ≡ reachOf w s
+  unfolding reachOf reaching
+  met-all at m =
+      ap₂ (λ n c. record { cells = n; next = c }) (m .number) (scanned-left w below (reaching w s) (at .next) left-below (m .first))
