@@ -44,7 +44,7 @@ fn all(fresh: Cart) -> Cart {
 
 // Reads once, and prints what came.
 fn some(cart: Cart) -> Cart {
-    let mut space = io::buffer();
+    let mut space = io::large_buffer();
     let got = libc::read(STDIN_FILENO, &mut space);
     let n = io::count(got, &space);
     if n == 0 {
@@ -90,7 +90,7 @@ fn printed(from: Cart, piece: &[u8]) -> Cart {
 fn part(cart: Cart, piece: &[u8]) -> Taken
     ensures { λ r. ⌜ r .taken ≤ length (now (piece .entry)) ⌝ }
 {
-    let mut room = [0u8; 4096];
+    let mut room = io::large_buffer();
     let log = cart.log;
     let waiting = cart.waiting;
     let fed = log.feed(waiting, piece, &mut room);

@@ -1,7 +1,7 @@
 -- The next item, done where the state stands: each test tells which part of the log changes, and the rest stays.
 -- Assumes nothing.
 use mathlib.Core.Path.{_≡_, refl, sym, ap, ap₂, subst, _∙_}
-use mathlib.Core.Bool.{Bool, true, false, not, cond, _&&_, _||_}
+use mathlib.Core.Bool.{Bool, true, false, not, cond, _&&_, _||_, and-false}
 use mathlib.Core.List.{List, [], _∷_, _++_, map}
 use Prim.Native.Nat.{ℕ, zero, suc, _+_, _-_, _%_, _^_, _≤_, _<_}
 use native.Mathlib.Nat.{mod-eq-of-lt, mod-lt}
@@ -19,12 +19,15 @@ use Rattle.window.specs.Rows.{sized, added, placeFor}
 use Rattle.window.proofs.Fitness.{size-range}
 use Rattle.question.specs.declared.Question.{Question}
 use Rattle.question.specs.declared.Searched.{Searched}
+use Rattle.ranking.specs.Cells.{score}
 use Rattle.question.specs.Lines.{searchedOn}
+use Rattle.question.specs.Inner.{shown}
+use Rattle.question.proofs.Stored.{no-lines}
 use Rattle.question.proofs.Taking.{if-so, if-not}
 use Rattle.board.specs.declared.Board.{Board}
 use Rattle.board.specs.Work.{noQuestion, slotRefusal, readWork, takes, listed, lists, refreshed, outgoing, entering, isSearched, enterRefusal, enterWork, arrival}
 use Rattle.board.proofs.Refusals.{zero-is, zero-not, enterable}
-use Rattle.board.proofs.Listing.{listed-not}
+use Rattle.board.proofs.Listing.{listed-not, takes-no-place, place-none}
 use Rattle.board.proofs.Filling.{Filled, filled-more, filled-all, refreshed-searched, refreshed-kept}
 use Rattle.wire.proofs.Fields.{length-part}
 use Rattle.joining.specs.Joining.{take-frame}
@@ -150,6 +153,13 @@ or-neither : (a b : Bool) → a || b ≡ false → (a ≡ false) × (b ≡ false
 or-neither true b h = clash {b = true} refl h
 or-neither false b h = (refl, h)
 
+-- A slot with no k and no lines takes no report, and lists none.
+idle-unstirred : (q : Question) (loss shake gone : ℕ) → q .k ≡ 0 → q .len ≡ 0 → takes q loss shake || lists q gone ≡ false
+unfolding lists
+idle-unstirred q loss shake gone k len =
+    let empty : shown q ≡ 0 = omega (arith, len) in
+    rw (takes-no-place q loss shake (place-none q (score (q .weights) loss shake) (omega (arith, k)) empty), no-lines q empty) (and-false (not (eqb gone 0)))
+
 module _ (number gone loss shake : ℕ) (window : Window) where
   abbrev pub with : Question → Question
   with q = listed q (record { number = number; loss = loss % 4096; shake = shake % 4096 })
@@ -238,6 +248,13 @@ module _ (number gone loss shake : ℕ) (window : Window) where
       turning-searched {v} {found} e f s small p =
           let is = s ∙ sym (refreshed-searched v gone window f) ∙ ap (λ q. refreshed q gone window) (turn-is e) in
           turning-more (found .question) true (found .steps) small (ap (λ r. r .question) is) (sym (ap (λ q. lists q gone) (sym (turn-is e)) ∙ f)) (ap (λ r. r .steps) is) p
+
+      -- A slot with no k and no lines stays.
+      pub turning-idle : length out₀ < 2 ^ 64 → at < 2 ^ 64 → eqb (getD slots n noQuestion .k) 0 && eqb (getD slots n noQuestion .len) 0 ≡ true → Turning (n + 1) slots at out
+      turning-idle small fits e =
+          let q = getD slots n noQuestion in
+          let both = and-both (eqb (q .k) 0) (eqb (q .len) 0) e in
+          turning-still small fits (idle-unstirred q (loss % 4096) (shake % 4096) gone (eqb-true (q .k) 0 (both .0)) (eqb-true (q .len) 0 (both .1)))
 
 -- When all slots have had their turn, the report has entered.
 pub entered-done : (log : Log) (a : Answer) → (gives log a .number ≡ 0 → ⊥) → {window : Window} {slots : List Question} {n at₀ at : ℕ} {out₀ out : List ℕ} → window ≡ added (log .board .window) (gives log a .loss) (gives log a .shake)

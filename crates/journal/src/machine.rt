@@ -3,7 +3,7 @@ ghost use mathlib.Core.Path.{_≡_};
 ghost use mathlib.Core.Bool.{cond, _&&_};
 ghost use mathlib.Core.List.{[]};
 ghost use Prim.Native.Nat.{_+_, _%_, min, _≤_};
-ghost use lib.Dec.{ltb};
+ghost use lib.Dec.{ltb, eqb};
 ghost use lib.ListN.{length, getD, drop};
 ghost use lib.Seq.{sets};
 ghost use Rattle.wire.specs.Bytes.{number, part};
@@ -176,6 +176,9 @@ impl Log {
             while slot < 32 {
                 let here = slot;
                 slot += 1;
+                if idle(slots[here].k, slots[here].len) {
+                    continue;
+                }
                 let question = slots[here];
                 if !board::stirred(question, oldest, loss, shake) {
                     continue;
@@ -370,4 +373,11 @@ fn put_refusal(out: &mut [u8], at: usize, item: u64, refused: bool, code: u8) ->
     } else {
         at
     }
+}
+
+// A slot with no k and no lines: no report changes it.
+fn idle(k: u8, len: u8) -> bool
+    ensures { λ r. ⌜ r ≡ (eqb k 0 && eqb len 0) ⌝ }
+{
+    k == 0 && len == 0
 }

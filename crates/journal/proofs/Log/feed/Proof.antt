@@ -20,7 +20,7 @@ use Rattle.journal.specs.Log.{itemDone}
 use Rattle.journal.specs.Machine.{valueIn, hasRoom}
 use Rattle.journal.proofs.Feeding.{Ran, ran-none, ran-more, ran-feeds, place-fits, came-whole, came-not}
 use Rattle.journal.proofs.Coming.{ran-item, part-part}
-use Rattle.journal.proofs.InPlace.{Comes, show-facts, frame-facts, show-here, frame-none, frame-enters, row-takes, row-fits, Turning, turning-none, turning-still, turning-kept, turning-searched, Sizes}
+use Rattle.journal.proofs.InPlace.{Comes, show-facts, frame-facts, show-here, frame-none, frame-enters, row-takes, row-fits, Turning, turning-none, turning-idle, turning-still, turning-kept, turning-searched, Sizes}
 use borrow.Author.Needs.{needs}
 use Rattle.journal.proofs.Log.feed.Statement.{statement}
 use Rattle.journal.proofs.Log.feed.Tie as tie
@@ -355,23 +355,47 @@ loop-again-5 c =
 add-slot : tie.Need-add-slot Inv-loop2 μ-loop2 Inv-loop μ-loop
 add-slot c = omega (arith, c .before .loop2 .inv .0)
 
-mul-question : tie.Need-mul-question Inv-loop2 μ-loop2 Inv-loop μ-loop
-mul-question c = search needs
+mul-idle : tie.Need-mul-idle Inv-loop2 μ-loop2 Inv-loop μ-loop
+mul-idle c = search needs
 
-array-copy-out-question : tie.Need-array-copy-out-question Inv-loop2 μ-loop2 Inv-loop μ-loop
-array-copy-out-question c = omega (arith, c .before .loop2 .inv .0)
+element-copy-out-idle : tie.Need-element-copy-out-idle Inv-loop2 μ-loop2 Inv-loop μ-loop
+element-copy-out-idle c = omega (arith, c .before .loop2 .inv .0)
 
-stirred-requires : tie.Need-stirred-requires Inv-loop2 μ-loop2 Inv-loop μ-loop
-stirred-requires c κs = search needs
+mul-idle-2 : tie.Need-mul-idle-2 Inv-loop2 μ-loop2 Inv-loop μ-loop
+mul-idle-2 c = search needs
+
+element-copy-out-idle-2 : tie.Need-element-copy-out-idle-2 Inv-loop2 μ-loop2 Inv-loop μ-loop
+element-copy-out-idle-2 c = omega (arith, c .before .loop2 .inv .0)
+
+idle-requires : tie.Need-idle-requires Inv-loop2 μ-loop2 Inv-loop μ-loop
+idle-requires c κs = search needs
 
 loop2-less : tie.Need-loop2-less Inv-loop2 μ-loop2 Inv-loop μ-loop
 loop2-less c = omega arith
 
 loop2-again : tie.Need-loop2-again Inv-loop2 μ-loop2 Inv-loop μ-loop
 loop2-again c =
-    let n = c .before .before .before in
+    let n = c .before .before in
     let m = n .before .loop2 in
-    (next-slot n, m .inv .1, m .inv .2, turning-still _ _ _ _ _ _ _ _ _ (m .inv .3) (below n) (small-then n) (place-then n) (sym (c .before .stirred .ensures) ∙ not-true _ (c .if6 .taken)))
+    (next-slot n, m .inv .1, m .inv .2, turning-idle _ _ _ _ _ _ _ _ _ (m .inv .3) (below n) (small-then n) (place-then n) (sym (c .before .idle .ensures) ∙ c .if6 .taken))
+
+mul-question : tie.Need-mul-question Inv-loop2 μ-loop2 Inv-loop μ-loop
+mul-question c = search needs
+
+array-copy-out-question : tie.Need-array-copy-out-question Inv-loop2 μ-loop2 Inv-loop μ-loop
+array-copy-out-question c = omega (arith, c .before .before .before .loop2 .inv .0)
+
+stirred-requires : tie.Need-stirred-requires Inv-loop2 μ-loop2 Inv-loop μ-loop
+stirred-requires c κs = search needs
+
+loop2-less-2 : tie.Need-loop2-less-2 Inv-loop2 μ-loop2 Inv-loop μ-loop
+loop2-less-2 c = omega arith
+
+loop2-again-2 : tie.Need-loop2-again-2 Inv-loop2 μ-loop2 Inv-loop μ-loop
+loop2-again-2 c =
+    let n = c .before .before .before .before .before in
+    let m = n .before .loop2 in
+    (next-slot n, m .inv .1, m .inv .2, turning-still _ _ _ _ _ _ _ _ _ (m .inv .3) (below n) (small-then n) (place-then n) (sym (c .before .stirred .ensures) ∙ not-true _ (c .if7 .taken)))
 
 listed-requires : tie.Need-listed-requires Inv-loop2 μ-loop2 Inv-loop μ-loop
 listed-requires c κs = search needs
@@ -385,14 +409,14 @@ mul-slots c = search needs
 array-set-from-slots : tie.Need-array-set-from-slots Inv-loop2 μ-loop2 Inv-loop μ-loop
 array-set-from-slots c = omega arith
 
-loop2-less-2 : tie.Need-loop2-less-2 Inv-loop2 μ-loop2 Inv-loop μ-loop
-loop2-less-2 c = omega arith
+loop2-less-3 : tie.Need-loop2-less-3 Inv-loop2 μ-loop2 Inv-loop μ-loop
+loop2-less-3 c = omega arith
 
-loop2-again-2 : tie.Need-loop2-again-2 Inv-loop2 μ-loop2 Inv-loop μ-loop
-loop2-again-2 c =
-    let n = c .before .before .before .before .before .before in
+loop2-again-3 : tie.Need-loop2-again-3 Inv-loop2 μ-loop2 Inv-loop μ-loop
+loop2-again-3 c =
+    let n = c .before .before .before .before .before .before .before .before in
     let m = n .before .loop2 in
-    (next-slot n, m .inv .1, m .inv .2, turning-kept _ _ _ _ _ _ _ _ _ (m .inv .3) (below n) (c .before .before .listed .ensures) (sym (c .before .lists .ensures) ∙ not-true _ (c .if7 .taken)) (small-then n) (place-then n))
+    (next-slot n, m .inv .1, m .inv .2, turning-kept _ _ _ _ _ _ _ _ _ (m .inv .3) (below n) (c .before .before .listed .ensures) (sym (c .before .lists .ensures) ∙ not-true _ (c .if8 .taken)) (small-then n) (place-then n))
 
 searched-requires : tie.Need-searched-requires Inv-loop2 μ-loop2 Inv-loop μ-loop
 searched-requires c κs = search needs
@@ -409,14 +433,14 @@ cast-put-s c = search needs
 put-s-requires : tie.Need-put-s-requires Inv-loop2 μ-loop2 Inv-loop μ-loop
 put-s-requires c κs = search needs
 
-loop2-less-3 : tie.Need-loop2-less-3 Inv-loop2 μ-loop2 Inv-loop μ-loop
-loop2-less-3 c = omega arith
+loop2-less-4 : tie.Need-loop2-less-4 Inv-loop2 μ-loop2 Inv-loop μ-loop
+loop2-less-4 c = omega arith
 
-loop2-again-3 : tie.Need-loop2-again-3 Inv-loop2 μ-loop2 Inv-loop μ-loop
-loop2-again-3 c =
-    let n = c .before .before .before .before .before .before .before .before .before .before .before .before in
+loop2-again-4 : tie.Need-loop2-again-4 Inv-loop2 μ-loop2 Inv-loop μ-loop
+loop2-again-4 c =
+    let n = c .before .before .before .before .before .before .before .before .before .before .before .before .before .before in
     let m = n .before .loop2 in
-    let t = turning-searched _ _ _ _ _ _ _ _ _ (m .inv .3) (below n) (c .before .before .before .before .before .before .before .before .listed .ensures) (sym (c .before .before .before .before .before .before .before .lists .ensures) ∙ not-false _ (c .before .before .before .before .before .before .if7 .left)) (c .before .before .before .before .before .searched .ensures) (small-then n) (put (c .before .before .put-s .ensures)) in
+    let t = turning-searched _ _ _ _ _ _ _ _ _ (m .inv .3) (below n) (c .before .before .before .before .before .before .before .before .listed .ensures) (sym (c .before .before .before .before .before .before .before .lists .ensures) ∙ not-false _ (c .before .before .before .before .before .before .if8 .left)) (c .before .before .before .before .before .searched .ensures) (small-then n) (put (c .before .before .put-s .ensures)) in
     (next-slot n, rw (t .printed .bytes, length-sets), m .inv .2, t)
 
 same-length : tie.Need-same-length Inv-loop2 μ-loop2 Inv-loop μ-loop
@@ -493,23 +517,30 @@ feed-spec =
     loop-less-5
     loop-again-5
     add-slot
+    mul-idle
+    element-copy-out-idle
+    mul-idle-2
+    element-copy-out-idle-2
+    idle-requires
+    loop2-less
+    loop2-again
     mul-question
     array-copy-out-question
     stirred-requires
-    loop2-less
-    loop2-again
+    loop2-less-2
+    loop2-again-2
     listed-requires
     lists-requires
     mul-slots
     array-set-from-slots
-    loop2-less-2
-    loop2-again-2
+    loop2-less-3
+    loop2-again-3
     searched-requires
     mul-slots-2
     array-set-from-slots-2
     cast-put-s
     put-s-requires
-    loop2-less-3
-    loop2-again-3
+    loop2-less-4
+    loop2-again-4
     same-length
     returns)
