@@ -6,10 +6,10 @@ use mathlib.Core.List.{List, [], _∷_, _++_, append-assoc, append-nil}
 use Prim.Native.Nat.{ℕ, zero, suc, min, _+_, _-_, _≤_, _<_}
 use native.Mathlib.Nat.{add-zero, zero-add, le-of-eq, le-of-suc-le-suc, not-suc-le-zero}
 use native.Mathlib.Omega.{arith}
-use borrow.Author.Tests.{leb-true, leb-false}
+use borrow.Author.Tests.{lt-ltb, leb-true, leb-false}
 use lib.Dec.{leb}
 use lib.IntN.{ℤ}
-use lib.ListN.{length, take, drop, getD, length-take, length-append, length-drop, drop-of-length-le}
+use lib.ListN.{length, take, drop, getD, set, length-take, length-append, length-drop, drop-of-length-le}
 use lib.Seq.{take-all, take-take, take-append-le, drop-append-le, length-take-le}
 use mir.Facts.{toZ-ofZ}
 use mir.Syntax.{w32}
@@ -70,6 +70,11 @@ part-none q ns ss r from h has =
     (sym (append-nil (lines q))
     ∙ ap (λ l. lines q ++ l) (sym (drop-of-length-le (take from (linesOf ns ss)) {i = from} (le-of-eq (length-take-le from (linesOf ns ss) (rw (length-all ns ss r) h))))))
     has
+
+-- a line stored behind the others
+pub pushed-room : (q : Question) (x : Entry) → q .len < 16 → record { k = q .k; weights = q .weights; numbers = set (q .numbers) (q .len) (x .number); scores = set (q .scores) (q .len) (x .score); len = q .len + 1; next = q .next } ≡ inner.pushed q x
+unfolding inner.pushed
+pushed-room q x h = let t = lt-ltb (q .len) 16 h in rw t
 
 -- one more of them
 module _ (ns : List ℕ) (ss : List ℤ) (r : Roomy ns ss) (from i : ℕ) (h : from ≤ i) (g : i < 16) where

@@ -110,7 +110,11 @@ impl Question {
         let mut list = self;
         let mut i = from;
         while i < to {
-            list = list.pushed(numbers[i], scores[i]);
+            let len = list.len;
+            let at = len as usize;
+            list.numbers[at] = numbers[i];
+            list.scores[at] = scores[i];
+            list.len = len + 1;
             i += 1;
         }
         list
