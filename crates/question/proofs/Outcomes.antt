@@ -12,6 +12,8 @@ use Rattle.question.proofs.Question.finished.Kinds as finished-kinds
 use Rattle.question.proofs.Question.finished.Reads as finished-reads
 use Rattle.question.proofs.Question.stepped.Kinds as stepped-kinds
 use Rattle.question.proofs.Question.stepped.Reads as stepped-reads
+use Rattle.question.proofs.Question.joined.Kinds as joined-kinds
+use Rattle.question.proofs.Question.joined.Reads as joined-reads
 use Rattle.question.proofs.Question.searched.Kinds as searched-kinds
 use Rattle.question.proofs.Question.searched.Reads as searched-reads
 use Rattle.question.proofs.Question.searched_in.Kinds as searched-in-kinds
@@ -43,6 +45,9 @@ finished-once κs a x y s t p q = p ∙ sym q
 
 stepped-once : OneAnswer 0 stepped-kinds.ps stepped-kinds.r stepped-reads.Post
 stepped-once κs a x y s t p q = p ∙ sym q
+
+joined-once : OneAnswer 0 joined-kinds.ps joined-kinds.r joined-reads.Post
+joined-once κs a x y s t p q = p ∙ sym q
 
 searched-once : OneAnswer 0 searched-kinds.ps searched-kinds.r searched-reads.Post
 searched-once κs a x y s t p q = p ∙ sym q

@@ -115,7 +115,7 @@ module _ (ns : List ℕ) (ss : List ℤ) (r : Roomy ns ss) where
     pub length-front : length (take n (linesOf ns ss)) ≡ n
     length-front = length-take-le n (linesOf ns ss) (rw length-all h)
 
-    line-at : (i : ℕ) → i < n → getD (take n (linesOf ns ss)) i (record { number = 0; score = pos 0 }) ≡ lineAt ns ss i
+    pub line-at : (i : ℕ) → i < n → getD (take n (linesOf ns ss)) i (record { number = 0; score = pos 0 }) ≡ lineAt ns ss i
     line-at i g =
         getD-take n (linesOf ns ss) i (record { number = 0; score = pos 0 }) g
         ∙ getD-lines ns ss i (omega (arith, r .numbers)) (omega (arith, r .scores))

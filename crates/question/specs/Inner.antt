@@ -1,18 +1,17 @@
 -- What the inner functions of a question answer; no public contract cites it.
-use Prim.Native.Nat.{ℕ, _+_, _-_, min}
-use mathlib.Core.Bool.{Bool, false, cond, not, _&&_, _||_}
-use mathlib.Core.List.{map, _++_}
-use lib.ListN.{set, getD}
+use Prim.Native.Nat.{ℕ, suc, _+_, _-_, min}
+use mathlib.Core.Bool.{Bool, true, false, cond, not, _&&_, _||_}
+use mathlib.Core.List.{List, [], _∷_, map, _++_}
+use lib.ListN.{take, set, getD}
 use lib.IntN.{pos}
 use lib.Dec.{ltb, eqb}
-use Rattle.ranking.specs.Best.{best, only}
+use Rattle.ranking.specs.Best.{best, place, only}
 use Rattle.ranking.specs.Cells.{cell, cellAt, reaching}
 use Rattle.ranking.specs.Standing.{Held, Entry, above, entry}
 use Rattle.window.specs.declared.Window.{Window}
 use Rattle.window.specs.Rows.{standing}
-use Rattle.question.specs.Lines.{lines, asked, withEntry, cutToK}
+use Rattle.question.specs.Lines.{linesOf, lines, asked, withEntry, cutToK}
 use Rattle.question.specs.declared.Question.{Question}
-use Rattle.question.specs.declared.Placing.{Placing}
 use Rattle.question.specs.declared.Bar.{Bar}
 use Rattle.question.specs.declared.Searched.{Searched}
 
@@ -34,16 +33,23 @@ pushed q e =
     })
     q
 
--- A line goes by while an entry x may wait for its rank: x takes its place before it, waits on behind it, or is that line.
-unfoldable pub passed : Placing → Entry → Entry → Placing
-passed at x line =
-    cond (at .waiting && above x line)
-    (record { question = pushed (pushed (at .question) x) line; waiting = false })
-    (record { question = pushed (at .question) line; waiting = at .waiting && above line x })
+-- The first m lines, as they stand in the arrays.
+abbrev pub kept : Question → ℕ → Question
+kept q m = asked (q .k) (q .weights) (take m (linesOf (q .numbers) (q .scores))) (q .next)
 
--- No line is left.
-unfoldable pub closed : Placing → Entry → Question
-closed at x = cond (at .waiting) (pushed (at .question) x) (at .question)
+-- How many lines rank above an entry, before the first that doesn't.
+abbrev pub rankIn : Entry → List Entry → ℕ
+rankIn x [] = 0
+rankIn x (y ∷ ys) = cond (above y x) (suc (rankIn x ys)) 0
+
+-- The line at an entry's rank is another.
+abbrev pub newIn : Entry → List Entry → Bool
+newIn x [] = true
+newIn x (y ∷ ys) = cond (above y x) (newIn x ys) (above x y)
+
+-- One entry put in its rank among the lines, "each once", of which at most `room` are kept.
+abbrev pub within : Question → ℕ → Entry → Question
+within q room e = asked (q .k) (q .weights) (take room (place above e (lines q))) (q .next)
 
 -- One entry among the first k.
 abbrev pub joined : Question → Entry → Question

@@ -1,14 +1,14 @@
 // One question: its weights, its list of at most 16 lines, and how far its search has come.
 ghost use mathlib.Core.Path.{_≡_};
-ghost use mathlib.Core.List.{[]};
-ghost use Prim.Native.Nat.{min, _%_, _≤_};
+ghost use mathlib.Core.List.{[], _++_};
+ghost use Prim.Native.Nat.{min, _+_, _%_, _≤_};
 ghost use Rattle.window.specs.Rows.{standing};
-ghost use lib.ListN.{drop};
+ghost use lib.ListN.{take, drop};
 ghost use Rattle.ranking.specs.Best.{best};
 ghost use Rattle.ranking.specs.Standing.{above};
 ghost use Rattle.question.specs.Lines.{asked, linesOf, lines, emptySlot, withEntry, cutToK, finished, begun, stepOn, rowsOf, searchedOn, stepsTaken, isMarked, marksOf};
 ghost use Rattle.question.specs.Calls.{allOf, holdsNumber, heldAs, falls, blank, rangesFit, fitQuestion, stepCall, beginCall};
-ghost use Rattle.question.specs.Inner.{pushed, shown, passed, closed, joined, taking, listTaken, at, barOf, admits, gathered, endedOf};
+ghost use Rattle.question.specs.Inner.{pushed, shown, kept, rankIn, newIn, within, joined, taking, listTaken, at, barOf, admits, gathered, endedOf};
 use ranking::Grid;
 use ranking::Weights;
 use ranking::ranks_above;
@@ -35,12 +35,6 @@ pub struct Searched {
 pub struct Stepped {
     pub refusal: u8,
     pub question: Question,
-}
-
-// A list under way, while one entry waits for its rank among the lines that are still to come.
-struct Placing {
-    question: Question,
-    waiting: bool,
 }
 
 // What an entry has to rank above to change a list that is full: its last line.
@@ -104,48 +98,105 @@ impl Question {
         longer
     }
 
+    // Lines of two arrays, from one place to another, behind those of this list.
+    fn appended(self, numbers: [u32; 16], scores: [i32; 16], from: usize, to: usize) -> Question
+        requires { ⌜
+            (from ≤ to) × (to ≤ 16) × (self .len + to ≤ 16 + from) × (self ≡ asked (self .k) (self .weights) (lines self) (self .next))
+            ⌝ }
+        ensures { λ r. ⌜
+            r ≡ asked (self .k) (self .weights) (lines self ++ drop from (take to (linesOf numbers scores))) (self .next)
+            ⌝ }
+    {
+        let mut list = self;
+        let mut i = from;
+        while i < to {
+            let len = list.len;
+            let at = len as usize;
+            list.numbers[at] = numbers[i];
+            list.scores[at] = scores[i];
+            list.len = len + 1;
+            i += 1;
+        }
+        list
+    }
+
+    // The first m lines.
+    fn kept(self, m: usize) -> Question
+        requires { ⌜ m ≤ 16 ⌝ }
+        ensures { λ r. ⌜ r ≡ kept self m ⌝ }
+    {
+        let numbers = self.numbers;
+        let scores = self.scores;
+        let list = Question::blank(self.k, self.weights, self.next);
+        list.appended(numbers, scores, 0, m)
+    }
+
+    // How many lines rank above an entry, before the first that doesn't.
+    fn rank_of(self, number: u32, score: i32) -> usize
+        ensures { λ r. ⌜ r ≡ rankIn (record { number = number; score = score }) (lines self) ⌝ }
+    {
+        let n = self.shown() as usize;
+        let mut i: usize = 0;
+        while i < n {
+            if !ranks_above(self.scores[i], self.numbers[i], score, number) {
+                return i;
+            }
+            i += 1;
+        }
+        n
+    }
+
+    // The line at an entry's rank is another.
+    fn new_at(self, at: usize, number: u32, score: i32) -> bool
+        requires { ⌜ at ≡ rankIn (record { number = number; score = score }) (lines self) ⌝ }
+        ensures { λ r. ⌜ r ≡ newIn (record { number = number; score = score }) (lines self) ⌝ }
+    {
+        let n = self.shown() as usize;
+        if at < n {
+            return ranks_above(score, number, self.scores[at], self.numbers[at]);
+        }
+        true
+    }
+
+    // One entry put in its rank among the lines, once, of which at most `room` are kept.
+    fn within(self, room: u8, number: u32, score: i32) -> Question
+        requires { ⌜ room ≤ 16 ⌝ }
+        ensures { λ r. ⌜ r ≡ within self room (record { number = number; score = score }) ⌝ }
+    {
+        let at = self.rank_of(number, score);
+        if room as usize <= at {
+            return self.kept(room as usize);
+        }
+        let n = self.shown();
+        if !self.new_at(at, number, score) {
+            return self.kept(fewer(n, room) as usize);
+        }
+        let numbers = self.numbers;
+        let scores = self.scores;
+        let before = self.kept(at);
+        let with = before.pushed(number, score);
+        with.appended(numbers, scores, at, fewer(n, room - 1) as usize)
+    }
+
     // One entry put in its rank among the lines, once, of which at most 16 are kept.
     pub fn added(self, number: u32, score: i32) -> Question
         ensures { λ r. ⌜ r ≡ withEntry self (record { number = number; score = score }) ⌝ }
     {
-        let n = self.shown() as usize;
-        let numbers = self.numbers;
-        let scores = self.scores;
-        let mut placing = Placing {
-            question: Question::blank(self.k, self.weights, self.next),
-            waiting: true,
-        };
-        let mut i: usize = 0;
-        while i < n {
-            placing = placing.passed(number, score, numbers[i], scores[i]);
-            i += 1;
-        }
-        placing.closed(number, score)
+        self.within(Question::LINES, number, score)
     }
 
     // The first k lines.
     pub fn cut(self) -> Question
         ensures { λ r. ⌜ r ≡ cutToK self ⌝ }
     {
-        let n = self.shown();
-        let k = self.k;
-        let m = fewer(k, n) as usize;
-        let numbers = self.numbers;
-        let scores = self.scores;
-        let mut kept = Question::blank(k, self.weights, self.next);
-        let mut i: usize = 0;
-        while i < m {
-            kept = kept.pushed(numbers[i], scores[i]);
-            i += 1;
-        }
-        kept
+        self.kept(fewer(self.k, self.shown()) as usize)
     }
 
     // One entry among the first k.
-    fn joined(self, number: u32, score: i32) -> Question
+    pub fn joined(self, number: u32, score: i32) -> Question
         ensures { λ r. ⌜ r ≡ joined self (record { number = number; score = score }) ⌝ }
     {
-        self.added(number, score).cut()
+        self.within(fewer(self.k, Question::LINES), number, score)
     }
 
     // The search has ended: no cell is left, or k lines are there and the next cell's best possible score is below the last
@@ -516,45 +567,6 @@ impl Question {
             i += 1;
         }
         true
-    }
-}
-
-impl Placing {
-    // One line goes by: the entry takes its place before it, waits on, or is that line.
-    fn passed(self, number: u32, score: i32, line_number: u32, line_score: i32) -> Placing
-        ensures { λ r. ⌜
-            r ≡ passed self (record { number = number; score = score }) (record { number = «line_number»; score = «line_score» })
-            ⌝ }
-    {
-        let list = self.question;
-        if !self.waiting {
-            return Placing {
-                question: list.pushed(line_number, line_score),
-                waiting: false,
-            };
-        }
-        if ranks_above(score, number, line_score, line_number) {
-            let with = list.pushed(number, score);
-            return Placing {
-                question: with.pushed(line_number, line_score),
-                waiting: false,
-            };
-        }
-        Placing {
-            question: list.pushed(line_number, line_score),
-            waiting: ranks_above(line_score, line_number, score, number),
-        }
-    }
-
-    // No line is left: an entry that still waits stands last.
-    fn closed(self, number: u32, score: i32) -> Question
-        ensures { λ r. ⌜ r ≡ closed self (record { number = number; score = score }) ⌝ }
-    {
-        let list = self.question;
-        if self.waiting {
-            return list.pushed(number, score);
-        }
-        list
     }
 }
 
