@@ -27,10 +27,12 @@ need() { # PROGRAM PACKAGE
     DEBIAN_FRONTEND=noninteractive apt-get install -y "$2" >/dev/null
 }
 
-# Builds a Rust program without dependencies from the folder of its main.rs, where a file there is newer than the program.
-build_rust() { # FOLDER PROGRAM
-    if [ -x "$2" ] && [ -z "$(find "$1" -newer "$2" -name '*.rs')" ]; then return; fi
+# Builds a Rust program without dependencies from the folder of its main.rs, where a Rust file is newer than the program.
+build_rust() { # FOLDER PROGRAM WORDS...
+    local folder=$1 program=$2
+    shift 2
+    if [ -x "$program" ] && [ -z "$(find tests bench -newer "$program" -name '*.rs')" ]; then return; fi
     need rustc rustc
-    mkdir -p "$(dirname "$2")"
-    rustc --edition 2021 -C opt-level=3 -o "$2" "$1/main.rs"
+    mkdir -p "$(dirname "$program")"
+    rustc --edition 2021 -C opt-level=3 -o "$program" "$folder/main.rs" "$@"
 }

@@ -94,7 +94,7 @@ pub struct Report {
 }
 
 impl Report {
-    fn cell(&self) -> usize {
+    pub fn cell(&self) -> usize {
         (16 * (self.shake / 256) + self.loss / 256) as usize
     }
 }
@@ -115,31 +115,31 @@ pub struct Question {
 }
 
 impl Question {
-    fn new(k: usize, a: i32, b: i32) -> Question {
+    pub fn new(k: usize, a: i32, b: i32) -> Question {
         Question { k, a, b, list: Vec::new(), marks: vec![false; 256] }
     }
 
-    fn entry(&self, r: &Report, wrong: Wrong) -> Entry {
+    pub fn entry(&self, r: &Report, wrong: Wrong) -> Entry {
         let score = self.a * r.loss + self.b * r.shake;
         Entry { number: r.number, score: if wrong == Wrong::ScoreWithoutSign { score.abs() } else { score } }
     }
 
     /// "For each weight, the highest whole value inside the cell when the weight is positive, otherwise the lowest."
-    fn best(&self, cell: usize, wrong: Wrong) -> i32 {
+    pub fn best(&self, cell: usize, wrong: Wrong) -> i32 {
         let high = if wrong == Wrong::CellEdge { 256 } else { 255 };
         let corner = |weight: i32, index: i32| weight * (256 * index + if weight > 0 { high } else { 0 });
         corner(self.a, cell as i32 % 16) + corner(self.b, cell as i32 / 16)
     }
 
     /// The cells "by falling best possible score, equal ones by rising cell number".
-    fn order(&self, wrong: Wrong) -> Vec<usize> {
+    pub fn order(&self, wrong: Wrong) -> Vec<usize> {
         let mut cells: Vec<usize> = (0..256).collect();
         cells.sort_by(|&c, &d| self.best(d, wrong).cmp(&self.best(c, wrong)).then(c.cmp(&d)));
         cells
     }
 
     /// The best k of the entries.
-    fn rank(&mut self, mut entries: Vec<Entry>, wrong: Wrong) {
+    pub fn rank(&mut self, mut entries: Vec<Entry>, wrong: Wrong) {
         entries.sort_by(|x, y| above(x, y, wrong));
         let room = if wrong == Wrong::ListNotCut { 16 } else { self.k };
         entries.truncate(room);
@@ -147,7 +147,7 @@ impl Question {
     }
 
     /// Searches from the beginning to the end, and answers the steps.
-    fn search(&mut self, held: &VecDeque<Report>, wrong: Wrong) -> usize {
+    pub fn search(&mut self, held: &VecDeque<Report>, wrong: Wrong) -> usize {
         let before = self.clone();
         self.list.clear();
         self.marks = vec![false; 256];
@@ -174,7 +174,7 @@ impl Question {
     }
 
     /// "It is put on the list if the list has fewer than k entries or its score is at least the last entry's."
-    fn offer(&mut self, r: &Report, wrong: Wrong) {
+    pub fn offer(&mut self, r: &Report, wrong: Wrong) {
         let new = self.entry(r, wrong);
         let room = self.list.len() < self.k;
         let last = self.list.last().map_or(i32::MIN, |e| e.score);
@@ -187,7 +187,7 @@ impl Question {
 }
 
 /// "Its score is greater, or equal with the greater report number."
-fn above(x: &Entry, y: &Entry, wrong: Wrong) -> Ordering {
+pub fn above(x: &Entry, y: &Entry, wrong: Wrong) -> Ordering {
     let newer = if wrong == Wrong::TieToOlder { x.number.cmp(&y.number) } else { y.number.cmp(&x.number) };
     y.score.cmp(&x.score).then(newer)
 }
