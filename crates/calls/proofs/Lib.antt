@@ -1,0 +1,3 @@
+-- Why the functions of `calls` meet their contracts.
+pub mod Filling
+pub mod Handing

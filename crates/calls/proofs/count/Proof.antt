@@ -1,0 +1,23 @@
+-- `calls::count` meets its contract: past the end `getD` is its default, 0.
+-- Assumes nothing.
+use denote.Ref.{now}
+use mathlib.Core.Path.{sym}
+use lib.ListN.{List·getD-eq-default}
+use borrow.Author.Needs.{needs}
+use Rattle.calls.proofs.count.Statement.{statement}
+use Rattle.calls.proofs.count.Tie as tie
+
+mul-result : tie.Need-mul-result
+mul-result c = search needs
+
+shared-slice-read-result : tie.Need-shared-slice-read-result
+shared-slice-read-result c = search needs
+
+returns : tie.Need-returns
+returns c = search needs
+
+returns-2 : tie.Need-returns-2
+returns-2 c = sym (List·getD-eq-default (now (c .before .args .counts)) 0 (c .if1 .left))
+
+pub count-spec : {M : Type 1} → statement M
+count-spec = tie.close (tie.spec mul-result shared-slice-read-result returns returns-2)

@@ -1,0 +1,2 @@
+-- Made-up states in lent numbers: what the functions of `calls` are held to.
+pub mod States

@@ -1,0 +1,236 @@
+//! Logs with the text that document 01 asks for: its examples, and every refusal number that a log can reach.
+//! 11 takes 1,000,000 reports (see `long`). A log can't reach 12 (such a payload is refused 10), 19, 20 (the writer's), 24, 25.
+
+use crate::logs::*;
+
+pub struct Case {
+    pub name: String,
+    pub log: Vec<u8>,
+    pub text: String,
+}
+
+fn case(all: &mut Vec<Case>, name: &str, items: &[Item], text: &str) {
+    all.push(Case { name: name.to_string(), log: bytes(items), text: text.to_string() });
+}
+
+/// A window of size 3, and then these items.
+fn after_window(items: &[Item]) -> Vec<Item> {
+    let mut out = vec![window(3)];
+    out.extend_from_slice(items);
+    out
+}
+
+fn reports(values: &[(u32, u32)]) -> Vec<Item> {
+    values.iter().flat_map(|&(loss, shake)| report(5, loss, shake)).collect()
+}
+
+/// A window of size n, one question in slot 0, these reports, and the list.
+fn asked_first(n: usize, k: u8, weights: (i32, i32), values: &[(u32, u32)]) -> Vec<Item> {
+    let mut out = vec![window(n), set(0, k, weights.0, weights.1)];
+    out.extend(reports(values));
+    out.push(show(0));
+    out
+}
+
+/// A window of size 3, these reports, then the question.
+fn asked_last(k: u8, weights: (i32, i32), values: &[(u32, u32)]) -> Vec<Item> {
+    let mut out = after_window(&reports(values));
+    out.push(set(0, k, weights.0, weights.1));
+    out
+}
+
+pub fn all() -> Vec<Case> {
+    let mut out = Vec::new();
+    examples(&mut out);
+    frame_refusals(&mut out);
+    payload_refusals(&mut out);
+    call_refusals(&mut out);
+    item_refusals(&mut out);
+    out
+}
+
+fn examples(all: &mut Vec<Case>) {
+    let (x, y) = (report(5, 100, 200), report(9, 300, 100));
+    let mixed = [&x[0], &y[0], &x[1], &y[1], &x[2], &y[2], &y[3], &x[3]];
+    let mut session = vec![window(3), set(0, 2, 1, 2)];
+    session.extend(mixed.iter().map(|f| (*f).clone()));
+    session.extend([show(0), show(3)]);
+    case(all, "whole session", &session, "S 2 0 256\nQ 0 2 2:500 1:500\nR 12 17\n");
+    case(all, "empty log", &[], "");
+    case(all, "P1, the frames as they are printed", &printed_frames(), "S 2 0 256\nQ 0 1 1:500\n");
+    case(all, "P5", &asked_last(1, (1, 2), &[(3840, 3840)]), "S 6 0 4\n");
+    case(all, "P6", &asked_last(1, (-1, 0), &[(255, 7)]), "S 6 0 16\n");
+    case(all, "P7", &asked_last(1, (-1, 0), &[(256, 7)]), "S 6 0 32\n");
+    case(all, "P8", &asked_last(1, (0, 0), &[(256, 7), (4095, 4095)]), "S 10 0 256\n");
+    let p9 = asked_first(2, 1, (1, 1), &[(10, 10), (5, 5), (1, 1)]);
+    case(all, "P9", &p9, "S 2 0 256\nS 14 0 256\nQ 0 1 2:10\n");
+    let p10 = asked_first(2, 1, (1, 1), &[(1, 1), (5, 5), (1, 2)]);
+    case(all, "P10", &p10, "S 2 0 256\nQ 0 1 2:10\n");
+    let p11 = asked_first(2, 1, (1, 1), &[(9, 9), (1, 1), (9, 9)]);
+    case(all, "P11", &p11, "S 2 0 256\nQ 0 1 3:18\n");
+    let negative = asked_first(4, 16, (-1000, 1000), &[(4095, 0), (0, 4095), (7, 7)]);
+    case(all, "scores at the edges", &negative, "S 2 0 256\nQ 0 3 2:4095000 3:0 1:-4095000\n");
+}
+
+/// P1's frames from the hexadecimal digits of document 01, and the list they make.
+fn printed_frames() -> Vec<Item> {
+    let (announced, data) = (0x1CEC_FF05, 0x1CEB_FF05);
+    vec![
+        window(1),
+        set(0, 1, 1, 2),
+        frame(announced, &[0x20, 0x11, 0x00, 0x03, 0xFF, 0x14, 0xFF, 0x00]),
+        frame(data, &[0x01, 0x01, 0x02, 0x00, 0x64, 0x00, 0x02, 0x02]),
+        frame(data, &[0x02, 0x00, 0xC8, 0x00, 0x03, 0x04, 0x00, 0x07]),
+        frame(data, &[0x03, 0x00, 0x00, 0x00, 0xFF, 0xFF, 0xFF, 0xFF]),
+        show(0),
+    ]
+}
+
+/// A report of sender 5 of which one frame is another.
+fn with_frame(at: usize, other: Item) -> Vec<Item> {
+    let mut frames = report(5, 1, 2);
+    frames[at] = other;
+    after_window(&frames)
+}
+
+fn frame_refusals(all: &mut Vec<Case>) {
+    let good = report(5, 1, 2);
+    let data = good[1][7..].to_vec();
+    case(all, "1: identifier 2^29", &with_frame(1, frame(1 << 29 | identifier(7, 235, 5), &data)), "R 3 1\nR 4 9\nR 5 8\n");
+    for bit in [24, 25].iter() {
+        let other = frame(1 << bit | identifier(7, 235, 5), &data);
+        case(all, &format!("2: bit {} set", bit), &with_frame(1, other), "R 3 2\nR 4 9\nR 5 8\n");
+    }
+    for format in [234, 237, 0, 255].iter() {
+        let other = frame(identifier(7, *format, 5), &data);
+        case(all, &format!("2: format {}", format), &with_frame(1, other), "R 3 2\nR 4 9\nR 5 8\n");
+    }
+    let other = frame(identifier(7, 235, 5) - 256, &data);
+    case(all, "2: destination 254", &with_frame(1, other), "R 3 2\nR 4 9\nR 5 8\n");
+    case(
+        all,
+        "3: senders 253, 254, 255",
+        &after_window(&[packet(253, 1, &[]), packet(254, 1, &[]), packet(255, 1, &[])]),
+        "R 2 8\nR 3 3\nR 4 3\n",
+    );
+    case(all, "1 before 2 before 3", &after_window(&[frame(1 << 29 | 254, &data), frame(255, &data)]), "R 2 1\nR 3 2\n");
+    let mut four = good.clone();
+    four.insert(2, frame(identifier(0, 236, 5), &[33, 0, 0, 0, 0, 0, 0, 0]));
+    four.push(packet(5, 1, &[]));
+    case(all, "4 keeps the session", &after_window(&four), "R 4 4\nR 7 8\n");
+    announcement_refusals(all);
+    case(all, "8: packet with no announcement", &after_window(&good[1..]), "R 2 8\nR 3 8\nR 4 8\n");
+    let twice = [good[0].clone(), good[1].clone(), good[1].clone(), good[2].clone()];
+    case(all, "9: P4, sequence 1 twice", &after_window(&twice), "R 4 9\nR 5 8\n");
+    let again: Vec<Item> = good[..3].iter().chain(&good).cloned().collect();
+    case(all, "announced again, the report starts anew", &after_window(&again), "");
+}
+
+/// Refusals 5 to 7, each in an open session, which it closes.
+fn announcement_refusals(all: &mut Vec<Case>) {
+    let good = report(5, 1, 2);
+    let mut refused = |name: &str, other: Item, code: u32| {
+        let items = [good[0].clone(), other, good[1].clone()];
+        case(all, name, &after_window(&items), &format!("R 3 {}\nR 4 8\n", code));
+    };
+    refused("5: P2, size 17, count 2", announcement(5, 17, 2, 65300), 5);
+    refused("5: size 8", announcement(5, 8, 2, 65300), 5);
+    refused("5: size 1786", announcement(5, 1786, 0, 65300), 5);
+    refused("7: size 1785", announcement(5, 1785, 255, 65300), 7);
+    refused("6: group 65301", announcement(5, 17, 3, 65301), 6);
+    refused("6: group with a bit in its third byte", announcement(5, 17, 3, 65300 + 65536), 6);
+    refused("5 before 6", announcement(5, 17, 2, 65301), 5);
+    refused("6 before 7", announcement(5, 18, 3, 65301), 6);
+    refused("7: P3, size 18, count 3", announcement(5, 18, 3, 65300), 7);
+    refused("7: size 9", announcement(5, 9, 2, 65300), 7);
+    refused("7: size 16", announcement(5, 16, 3, 65300), 7);
+    refused("7: size 19", announcement(5, 19, 3, 65300), 7);
+    refused("7: size 85, count 13", announcement(5, 85, 13, 65300), 7);
+    let opens = [announcement(5, 84, 12, 65300), packet(5, 2, &[])];
+    case(all, "size 84, count 12 opens", &after_window(&opens), "R 3 9\n");
+}
+
+fn payload_refusals(all: &mut Vec<Case>) {
+    let mut sent = |name: &str, p: Vec<u8>, code: Option<u32>| {
+        let mut items = vec![window(3), set(0, 1, 1, 0)];
+        items.extend(carry(5, &p));
+        let last = items.len();
+        items.push(show(0));
+        items.push(packet(5, 1, &[]));
+        let text = match code {
+            Some(c) => format!("R {} {}\nQ 0 0\nR {} 8\n", last, c, last + 2),
+            None => format!("Q 0 1 1:{}\nR {} 8\n", u32::from(p[3]) + 256 * u32::from(p[4]), last + 2),
+        };
+        case(all, name, &items, &format!("S 2 0 256\n{}", text));
+    };
+    sent("loss and shake 4095", payload(4095, 4095, 0, None), None);
+    sent("10: loss 4096", payload(4096, 0, 0, None), Some(10));
+    sent("10: shake 4096", payload(0, 4096, 0, None), Some(10));
+    for length in 0..65 {
+        sent(&format!("note of {} bytes", length), payload(9, 8, u32::MAX, Some(&vec![255; length])), None);
+    }
+    for at in [0, 1, 2, 5, 6, 7, 10, 11, 12, 17, 18, 19].iter() {
+        let mut p = payload(9, 8, 7, Some(&[1, 2, 3]));
+        p[*at] ^= 1;
+        sent(&format!("10: byte {} of the payload changed", at), p, Some(10));
+    }
+    let mut long = payload(9, 8, 7, Some(&[1, 2, 3]));
+    long.push(0);
+    sent("10: a byte behind the note", long, Some(10));
+}
+
+fn call_refusals(all: &mut Vec<Case>) {
+    let one = |i: Item| after_window(&[i]);
+    case(all, "13: set slot 32", &one(set(32, 0, 1001, 0)), "R 2 13\n");
+    case(all, "13: remove slot 32", &one(remove(32)), "R 2 13\n");
+    case(all, "13: show slot 255", &one(show(255)), "R 2 13\n");
+    case(all, "14: k 0", &one(set(31, 0, 1001, 0)), "R 2 14\n");
+    case(all, "14: k 17", &one(set(31, 17, 0, -1001)), "R 2 14\n");
+    case(all, "15: a -1001", &one(set(31, 16, -1001, 0)), "R 2 15\n");
+    case(all, "15: b 1001", &one(set(31, 16, 0, 1001)), "R 2 15\n");
+    case(all, "15: a -32768", &one(set(31, 16, -32768, 0)), "R 2 15\n");
+    case(all, "weights 1000 and -1000", &one(set(31, 16, 1000, -1000)), "S 2 31 256\n");
+    let twice = after_window(&[set(4, 1, 1, 1), set(4, 1, 1, 1001), set(4, 2, 1, 1)]);
+    case(all, "15 before 16", &twice, "S 2 4 256\nR 3 15\nR 4 16\n");
+    case(all, "17: remove an empty slot", &one(remove(0)), "R 2 17\n");
+    case(all, "17: show an empty slot", &one(show(31)), "R 2 17\n");
+    let removed = after_window(&[set(4, 1, 1, 1), remove(4), show(4), set(4, 1, 1, 1)]);
+    case(all, "a removed slot is free", &removed, "S 2 4 256\nR 4 17\nS 5 4 256\n");
+    for n in [0, 1025, 65535].iter() {
+        case(all, &format!("18: N {}", n), &[window(*n), show(0), window(1)], "R 1 18\nR 2 23\n");
+    }
+    for n in [1, 1024].iter() {
+        case(all, &format!("N {}", n), &[window(*n), show(0)], "R 2 17\n");
+    }
+}
+
+fn item_refusals(all: &mut Vec<Case>) {
+    let kinds =
+        [set(0, 1, 1, 1), report(5, 1, 2)[0].clone(), remove(0), show(0), item(99, &[1, 2, 3]), item(17, &[0; 7]), item(99, &[0; 400])];
+    for whole in kinds.iter() {
+        for n in 1..whole.len().min(20) {
+            let name = format!("21: tag {}, {} of {} bytes", whole[0], n, whole.len());
+            case(all, &name, &after_window(&[whole[..n].to_vec()]), "R 2 21\n");
+            case(all, &(name + ", no window"), &[whole[..n].to_vec()], "R 1 21\n");
+        }
+    }
+    for n in 1..5 {
+        case(all, &format!("21: window, {} of 5 bytes", n), &[window(3)[..n].to_vec()], "R 1 21\n");
+    }
+    for tag in [0, 1, 4, 15, 21, 255].iter() {
+        case(all, &format!("22: tag {}", tag), &[item(*tag, &[3, 0]), window(3)], "R 1 22\n");
+    }
+    for (tag, right) in [(16, 2), (17, 6), (18, 12), (19, 1), (20, 1)].iter() {
+        for length in [0, 1, 2, 5, 6, 7, 11, 12, 13, 255, 256, 258, 4096, 65535].iter().filter(|l| *l != right) {
+            let name = format!("22: tag {}, length {}", tag, length);
+            case(all, &name, &[item(*tag, &vec![0; *length]), window(3), window(3)], "R 1 22\nR 3 23\n");
+        }
+    }
+    for early in [set(40, 1, 1, 1), report(5, 1, 2)[0].clone(), remove(40), show(40)].iter() {
+        case(all, &format!("23: tag {} with no window", early[0]), &[early.clone(), window(1)], "R 1 23\n");
+    }
+    case(all, "23: a second window, of any N", &[window(1), window(1), window(0), window(1025)], "R 2 23\nR 3 23\nR 4 23\n");
+    let mut early = report(5, 1, 2);
+    early.insert(1, window(2));
+    case(all, "23: an announcement with no window opens nothing", &early, "R 1 23\nR 3 8\nR 4 8\nR 5 8\n");
+}

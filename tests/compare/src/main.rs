@@ -1,0 +1,181 @@
+//! Compares what `cart` prints with what an independent implementation of document 01 prints. See tests/compare/run.
+
+mod cases;
+mod logs;
+mod long;
+mod rules;
+mod shrink;
+
+use rules::{text, Wrong, WRONG};
+use std::fs::File;
+use std::io::Write;
+use std::process::{Command, Stdio};
+use std::time::{Duration, Instant};
+
+/// The command that runs `cart`, and a file that it may read a log from.
+struct Runner {
+    command: Vec<String>,
+    room: String,
+}
+
+impl Runner {
+    fn command(&self) -> Command {
+        let mut c = Command::new(&self.command[0]);
+        c.args(&self.command[1..]);
+        c
+    }
+
+    /// What `cart` prints for a log that is a file.
+    fn file(&self, log: &[u8]) -> Vec<u8> {
+        std::fs::write(&self.room, log).expect("writing the log");
+        let input = File::open(&self.room).expect("opening the log");
+        let done = self.command().stdin(input).output().expect("running cart");
+        printed(done.stdout, &done.stderr, done.status.success())
+    }
+
+    /// The same for a log that comes through a pipe, in pieces of the sizes that the seed draws.
+    fn pipe(&self, log: &[u8], seed: u64) -> Vec<u8> {
+        let mut child = self.command().stdin(Stdio::piped()).stdout(Stdio::piped()).stderr(Stdio::piped()).spawn().expect("running cart");
+        let mut input = child.stdin.take().expect("a pipe");
+        let rng = &mut logs::Rng(seed);
+        let most = rng.pick(&[1, 3, 16, 100, 5000]);
+        let done = std::thread::scope(|s| {
+            s.spawn(move || {
+                let mut rest = log;
+                while !rest.is_empty() {
+                    let n = rest.len().min(1 + rng.below(most));
+                    if input.write_all(&rest[..n]).is_err() {
+                        return;
+                    }
+                    rest = &rest[n..];
+                    if most < 5000 {
+                        std::thread::yield_now();
+                    }
+                }
+            });
+            child.wait_with_output().expect("running cart")
+        });
+        printed(done.stdout, &done.stderr, done.status.success())
+    }
+}
+
+/// What was printed, and a line more where something went wrong that no log may bring about.
+fn printed(mut out: Vec<u8>, errors: &[u8], well: bool) -> Vec<u8> {
+    if !well || !errors.is_empty() {
+        out.extend(format!("cart ended badly or wrote to standard error: {}\n", String::from_utf8_lossy(errors)).bytes());
+    }
+    out
+}
+
+/// Shrinks a log that shows a difference, and prints what is left of it.
+fn tell(log: &[u8], tries: usize, name: &str, ours: &mut dyn FnMut(&[u8]) -> Vec<u8>, other: &mut dyn FnMut(&[u8]) -> Vec<u8>) {
+    println!("{}: a difference in a log of {} bytes; the shortest found that shows one:", name, log.len());
+    let short = shrink::shortest(log, tries, &mut |l| ours(l) != other(l));
+    println!("{}", logs::hex(&short));
+    for (i, item) in logs::split(&short).iter().enumerate() {
+        println!("  item {}: {}", i + 1, logs::words(item));
+    }
+    println!("cart prints:\n{}", String::from_utf8_lossy(&ours(&short)));
+    println!("the independent implementation prints:\n{}", String::from_utf8_lossy(&other(&short)));
+}
+
+/// Runs the named cases: both programs against the text written down.
+fn run_cases(runner: &Runner) -> bool {
+    let all = cases::all();
+    let mut wrong = 0;
+    for c in &all {
+        let pairs = [("cart", runner.file(&c.log)), ("the independent implementation", text(&c.log, Wrong::No))];
+        for (who, out) in pairs.iter() {
+            if out != c.text.as_bytes() {
+                wrong += 1;
+                println!("case '{}': {} prints\n{}and not\n{}", c.name, who, String::from_utf8_lossy(out), c.text);
+            }
+        }
+    }
+    println!("{} named cases, {} wrong", all.len(), wrong);
+    wrong == 0
+}
+
+/// Compares the logs of the seeds from `seed` on: so many, or as many as there is time for.
+fn run_seeds(runner: &Runner, most: u64, time: Duration, seed: u64) -> bool {
+    let began = Instant::now();
+    let (mut n, mut bytes, mut items, mut lines) = (0, 0, 0, 0);
+    let mut kinds: Vec<(&str, u32)> = Vec::new();
+    while n < most && began.elapsed() < time {
+        let (kind, log) = logs::draw(seed + n);
+        let wanted = text(&log, Wrong::No);
+        let piped = n % 4 == 0;
+        let found = if piped { runner.pipe(&log, seed + n) } else { runner.file(&log) };
+        if found != wanted {
+            let name = format!("seed {} ({}, {})", seed + n, kind, if piped { "through a pipe" } else { "from a file" });
+            let mut ours = |l: &[u8]| if piped { runner.pipe(l, seed + n) } else { runner.file(l) };
+            tell(&log, 4000, &name, &mut ours, &mut |l| text(l, Wrong::No));
+            return false;
+        }
+        n += 1;
+        bytes += log.len();
+        items += logs::split(&log).len();
+        lines += wanted.iter().filter(|&&b| b == 10).count();
+        match kinds.iter_mut().find(|k| k.0 == kind) {
+            Some(k) => k.1 += 1,
+            None => kinds.push((kind, 1)),
+        }
+    }
+    let kinds: Vec<String> = kinds.iter().map(|k| format!("{} {}", k.1, k.0)).collect();
+    println!(
+        "{} logs from seed {} ({}): {} items, {} bytes, {} lines, no difference; {:.1} s",
+        n,
+        seed,
+        kinds.join(", "),
+        items,
+        bytes,
+        lines,
+        began.elapsed().as_secs_f64()
+    );
+    true
+}
+
+/// Gets each rule wrong in turn and shows the first log that tells; false where one goes unnoticed.
+fn run_wrong(runner: &Runner, most: u64, seed: u64) -> bool {
+    let mut unnoticed = 0;
+    for &wrong in WRONG.iter() {
+        let telling = (0..most).find(|n| {
+            let (_, log) = logs::draw(seed + n);
+            text(&log, wrong) != text(&log, Wrong::No)
+        });
+        match telling {
+            Some(n) => {
+                let (_, log) = logs::draw(seed + n);
+                // between the two texts first, which is quick; then with cart
+                let short = shrink::shortest(&log, 20_000, &mut |l| text(l, wrong) != text(l, Wrong::No));
+                if runner.file(&short) == text(&short, wrong) {
+                    println!("{:?}: cart has it WRONG too", wrong);
+                    unnoticed += 1;
+                } else {
+                    println!("{:?}: noticed at log {}; {} items tell", wrong, n + 1, logs::split(&short).len());
+                }
+            }
+            None => {
+                println!("{:?}: NOT NOTICED in {} logs", wrong, most);
+                unnoticed += 1;
+            }
+        }
+    }
+    println!("{} rules got wrong, {} unnoticed", WRONG.len(), unnoticed);
+    unnoticed == 0
+}
+
+/// compare ROOM MODE SEED [LOGS SECONDS] -- COMMAND...: ROOM is a file it may write, COMMAND runs cart.
+fn main() {
+    let words: Vec<String> = std::env::args().skip(1).collect();
+    let at = words.iter().position(|w| w == "--").expect("a command behind --");
+    let runner = Runner { command: words[at + 1..].to_vec(), room: words[0].clone() };
+    let number = |i: usize| words[i].parse::<u64>().expect("a number");
+    let well = match words[1].as_str() {
+        "cases" => run_cases(&runner),
+        "long" => long::run(runner.command()),
+        "wrong" => run_wrong(&runner, 20_000, number(2)),
+        _ => run_seeds(&runner, number(3), Duration::from_secs(number(4)), number(2)),
+    };
+    std::process::exit(if well { 0 } else { 1 });
+}
