@@ -2,16 +2,15 @@
 -- Assumes nothing.
 use mathlib.Core.Path.{_≡_, refl, sym, ap, ap₂, _∙_, subst}
 use mathlib.Core.Logic.{_⊎_, inl, inr, ⊎-elim}
-use mathlib.Core.Bool.{Bool, true, false, cond, not, _&&_, _||_}
+use mathlib.Core.Bool.{Bool, true, false, cond}
 use mathlib.Core.List.{List, [], _∷_, _++_, map, List·Memᴰ·not-nil, List·Memᴰ·cases-cons}
 use Prim.Native.Nat.{ℕ, zero, suc, _+_, _-_, _%_, min, _≤_, _<_}
-use native.Mathlib.Nat.{le-of-eq}
 use native.Mathlib.Numerals.{add-one}
 use native.Mathlib.Omega.{arith}
 use borrow.Author.Tests.{eq-eqb, ne-eqb, eqb-true, eqb-false, le-leb, lt-leb}
 use lib.Dec.{eqb, leb}
 use lib.IntN.{pos}
-use lib.ListN.{length, take, getD, replicate, length-take, length-append, length-map, length-replicate}
+use lib.ListN.{length, take, getD, replicate, length-take, length-append, length-replicate}
 use lib.Seq.{take-nil}
 use Rattle.ranking.specs.Best.{_∈_, best, onLast}
 use Rattle.ranking.specs.Cells.{cellAt, visiting, reaching, reachOf}
@@ -32,7 +31,7 @@ use Rattle.question.specs.declared.Bar.{Bar}
 use Rattle.question.specs.declared.Searched.{Searched}
 use Rattle.question.specs.Lines.{lines, asked, searched, searchedIn, inRows, rowsOf, searchedOn}
 use Rattle.question.specs.Inner.{shown, joined, at, barOf, admits, gathered, endedOf}
-use Rattle.question.proofs.Stored.{Roomy, lineAt, lines-asked, length-lines, last-line}
+use Rattle.question.proofs.Stored.{Roomy, lines-asked, length-lines, last-line}
 use Rattle.question.proofs.Taking.{if-so, if-not, joined-best}
 
 -- ---- the bar
@@ -147,9 +146,6 @@ module _ (q : Question) (small : q .k ≤ 16) (w : Window) where
     unfolding e
     gathered-skips h = go (tested (eqb (getD (w .numbers) n 0) 0)) (tested (barOf (gathered q w n) .full))
       where
-        bar : Bar
-        bar = barOf (gathered q w n)
-
         go : Tested (eqb (getD (w .numbers) n 0) 0) → Tested (barOf (gathered q w n) .full) → gathered q w n ≡ gathered q w (n + 1)
         go (passed z) t = sym (rows-more n (standing w n) (if-so (standing w n) (reportIn w n ∷ standing w n) z))
         go (failed z) (failed t) = clash (admits-room (barOf (gathered q w n)) e z t) h

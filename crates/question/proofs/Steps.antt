@@ -1,8 +1,8 @@
 -- Stepping from the beginning: after n steps the list is the best k of the first n cells, and the next cell is the one at place n, by the search's laws for one step.
 -- Assumes nothing.
-use mathlib.Core.Path.{_≡_, refl, sym, ap, ap₂, _∙_, subst}
+use mathlib.Core.Path.{_≡_, sym, ap, _∙_}
 use mathlib.Core.Logic.{⊎-elim}
-use mathlib.Core.Bool.{Bool, true, false, not, _&&_, _||_}
+use mathlib.Core.Bool.{Bool, false, not, _&&_, _||_}
 use mathlib.Core.List.{List, [], _∷_, _++_, map}
 use Prim.Native.Nat.{ℕ, suc, _+_, _≤_, _<_}
 use native.Mathlib.Nat.{le-of-eq}
@@ -18,16 +18,13 @@ use Rattle.ranking.specs.Standing.{Held, Entry, above, entry, reaches, searchOf
 use Rattle.ranking.specs.declared.Weights.{Weights}
 use Rattle.ranking.proofs.Tests.{Tested, passed, failed, tested, clash}
 use Rattle.ranking.proofs.Best.{length-best-le}
-use Rattle.ranking.proofs.Search.{list-zero, list-suc, ends, goes-on}
+use Rattle.ranking.proofs.Search.{list-zero, list-suc, ends}
 use Rattle.ranking.proofs.Standing.{above-strict, steps-bounded}
 use Rattle.ranking.proofs.Scan.{place-at, cell-at, left-at, left-none}
 use Rattle.ranking.proofs.Lists.{getD-past, lt-or-eq, only-same}
-use Rattle.window.specs.declared.Window.{Window}
 use Rattle.question.specs.declared.Question.{Question}
-use Rattle.question.specs.declared.Searched.{Searched}
-use Rattle.question.specs.Lines.{lines, asked, finished, begun, stepped, searched, searchedIn, inRows, stepOn, searchedOn}
+use Rattle.question.specs.Lines.{lines, asked, finished, stepped}
 use Rattle.question.proofs.Stored.{lines-asked}
-use Rattle.question.proofs.Taking.{step-is, if-so, if-not}
 
 -- a question after n steps of its search
 unfoldable pub reached : ℕ → Weights → List Held → ℕ → Question
@@ -98,7 +95,3 @@ module _ (k : ℕ) (small : k ≤ 16) (w : Weights) (hs : List Held) where
   -- a search that has not ended has not taken all its steps
   pub goes-further : (n : ℕ) → n ≤ steps (searchOf w) k hs → finished (reached k w hs n) ≡ false → n < steps (searchOf w) k hs
   goes-further n h f = ⊎-elim (λ l. l) (λ e. clash (ap (ended (searchOf w) k hs) e ∙ ends (searchOf w) k hs) (sym (reached-end n (within n h)) ∙ f)) (lt-or-eq h)
-
-  -- and one that has, has
-  pub has-ended : (n : ℕ) → n ≤ steps (searchOf w) k hs → finished (reached k w hs n) ≡ true → n ≡ steps (searchOf w) k hs
-  has-ended n h f = ⊎-elim (λ l. clash (sym (reached-end n (within n h)) ∙ f) (goes-on (searchOf w) k hs n l)) (λ e. e) (lt-or-eq h)

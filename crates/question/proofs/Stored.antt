@@ -142,12 +142,6 @@ pub length-lines : (q : Question) → Roomy (q .numbers) (q .scores) → length 
 length-lines q r =
     ap length (sym (shown-lines q r (shown q) refl)) ∙ length-front (q .numbers) (q .scores) r (shown q) (omega arith)
 
-pub cut-lines : (q : Question) → Roomy (q .numbers) (q .scores) → (n : ℕ) → n ≡ shown q → (m : ℕ) → m ≡ min (q .k) n → take m (take n (linesOf (q .numbers) (q .scores))) ≡ take (q .k) (lines q)
-cut-lines q r n e m f =
-    ap (take m) (shown-lines q r n e)
-    ∙ ap (λ j. take j (lines q)) (f ∙ ap (min (q .k)) (e ∙ sym (length-lines q r)))
-    ∙ sym (take-min (q .k) (lines q))
-
 pub all-lines : (q : Question) → Roomy (q .numbers) (q .scores) → (n : ℕ) → n ≡ shown q → (m : ℕ) → m ≡ n → take m (take n (linesOf (q .numbers) (q .scores))) ≡ lines q
 all-lines q r n e m f =
     let l = take n (linesOf (q .numbers) (q .scores)) in

@@ -1,28 +1,27 @@
 -- The cells that reach a score are the first of the visiting order, since it falls by their best possible scores; so a look at all cells finds how many they are and which comes after them.
 -- Assumes nothing.
 use mathlib.Core.Path.{_≡_, refl, sym, ap, ap₂, _∙_, subst}
-use mathlib.Core.Logic.{⊎-elim, _↔_}
-use mathlib.Core.Bool.{Bool, true, false, cond, not, _||_}
-use mathlib.Core.List.{List, []}
+use mathlib.Core.Logic.{_↔_}
+use mathlib.Core.Bool.{Bool, true, false, not, _||_}
+use mathlib.Core.List.{[]}
 use Prim.Native.Nat.{ℕ, _+_, _≤_, _<_}
 use native.Mathlib.Omega.{arith}
-use borrow.Author.Tests.{le-leb, lt-leb, le-ltb, not-true, not-false, leb-true, leb-false}
+use borrow.Author.Tests.{le-ltb, not-true, not-false, leb-true, leb-false}
 use lib.Dec.{leb, ltb}
 use lib.IntN.{ℤ}
 use lib.ListN.{length, drop}
 use lib.Signed.{ltZ}
 use Rattle.ranking.specs.Best.{_∈_, only}
-use Rattle.ranking.specs.Cells.{bestScore, before, count, cells, visiting, cellAt, reaching, reachOf}
+use Rattle.ranking.specs.Cells.{bestScore, before, count, cells, visiting, reaching, reachOf}
 use Rattle.ranking.specs.Scan.{met}
-use Rattle.ranking.specs.declared.Reach.{Reach}
 use Rattle.ranking.specs.declared.Sought.{Sought}
 use Rattle.ranking.specs.declared.Weights.{Weights}
 use Rattle.ranking.proofs.Tests.{Tested, passed, failed, tested, clash, or-left, or-right}
-use Rattle.ranking.proofs.Lists.{First, Other, pairwise-map, pairwise-only, only-in, only-of, fails-left, left-fails, lt-or-eq}
+use Rattle.ranking.proofs.Lists.{First, Other, pairwise-map, pairwise-only, only-in, only-of, fails-left, left-fails}
 use Rattle.ranking.proofs.Best.{ahead, length-same}
 use Rattle.ranking.proofs.Search.{ltb-strict}
 use Rattle.ranking.proofs.Whole.{ltZ-strict}
-use Rattle.ranking.proofs.Cells.{more, greater-by, greater-tie, Numbers, less, equal, numbers, less-by, before-best, cells-distinct, cells-in, visiting-in, visiting-of, visiting-same, visiting-falling, visiting-distinct}
+use Rattle.ranking.proofs.Cells.{more, greater-by, greater-tie, Numbers, less, equal, numbers, less-by, before-best, cells-distinct, visiting-in, visiting-same, visiting-falling, visiting-distinct}
 use Rattle.ranking.proofs.Scan.{Scanned, scanned-none, scanned-take, scanned-leave, scanned-left, counted-yes, counted-no}
 
 -- what one cell more comes to

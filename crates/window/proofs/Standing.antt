@@ -2,13 +2,13 @@
 -- Assumes nothing.
 use mathlib.Core.Path.{_≡_, sym, ap, _∙_, subst}
 use mathlib.Core.Logic.{_⊎_, inl, inr, ⊎-elim}
-use mathlib.Core.Bool.{true}
+use mathlib.Core.Bool.{true, false}
 use mathlib.Core.List.{List, map, List·Memᴰ·head, List·Memᴰ·not-nil, List·Memᴰ·cases-cons, Memᴰ·map, Memᴰ·of-map}
 use Prim.Native.Nat.{ℕ, zero, suc, _+_, _-_, _%_, _≤_, _<_}
-use native.Mathlib.Nat.{mod-lt, not-suc-le-zero, le-of-suc-le-suc}
+use native.Mathlib.Nat.{add-zero, add-suc, mod-lt, not-suc-le-zero, le-of-suc-le-suc}
 use native.Mathlib.Omega.{arith}
-use borrow.Author.Tests.{eqb-true, eqb-false}
-use lib.Dec.{eqb}
+use borrow.Author.Tests.{eq-eqb, eqb-true, eqb-false, le-ltb}
+use lib.Dec.{eqb, ltb}
 use lib.ListN.{getD}
 use Rattle.ranking.specs.Best.{_∈_, best}
 use Rattle.ranking.specs.Standing.{Held, Entry, above, entry, Permitted}
@@ -51,6 +51,16 @@ module _ (w : Window) where
       go (failed f) rest =
           ⊎-elim (λ e. (n, omega arith, eqb-false _ _ f, e)) (λ q. more (rest q)) (List·Memᴰ·cases-cons (rw (f, standing) at k))
 
+  -- rows that hold nothing add nothing
+  pub standing-end : (n m : ℕ) → ((r : ℕ) → n ≤ r → r < n + m → getD (w .numbers) r 0 ≡ 0) → standing w n ≡ standing w (n + m)
+  standing-end n zero none = ap (standing w) (sym (add-zero n))
+  standing-end n (suc m) none =
+      let last : eqb (getD (w .numbers) (n + m) 0) 0 ≡ true = eq-eqb (getD (w .numbers) (n + m) 0) 0 (none (n + m) (omega arith) (omega arith)) in
+      standing-end n m (λ r h l. none r h (less r l)) ∙ sym (ap (standing w) (add-suc n m) ∙ rw (last, standing))
+    where
+      less : (r : ℕ) → r < n + m → r < n + suc m
+      less r l = omega arith
+
 module _ (w : Window) (fit : fitWindow w ≡ true) where
   facts : Fit w
   facts = fit-facts w fit
@@ -63,6 +73,21 @@ module _ (w : Window) (fit : fitWindow w ≡ true) where
 
   in-ring : (m : ℕ) → rowOf (w .size) m < 1024
   in-ring m = omega (arith, mod-lt (m - 1) (ranges .ring .some), ranges .within)
+
+  -- From row N on a fit window holds nothing.
+  pub standing-size : standing w (w .size) ≡ standing w 1024
+  standing-size = standing-end w (w .size) (1024 - w .size) (λ r h l. empty r h (all r l)) ∙ ap (standing w) whole-ring
+    where
+      whole-ring : w .size + (1024 - w .size) ≡ 1024
+      whole-ring = omega (arith, ranges .within)
+
+      all : (r : ℕ) → r < w .size + (1024 - w .size) → r < 1024
+      all r l = omega (arith, ranges .within)
+
+      empty : (r : ℕ) → w .size ≤ r → r < 1024 → getD (w .numbers) r 0 ≡ 0
+      empty r h l =
+          let past : ltb r (w .size) ≡ false = le-ltb r (w .size) h in
+          row r l .as-due ∙ rw (past, due)
 
   -- the values that stand in a row are whole
   whole : (r : ℕ) → r < 1024 → reportIn w r ≡ record { number = getD (w .numbers) r 0; loss = getD (w .losses) r 0; shake = getD (w .shakes) r 0 }

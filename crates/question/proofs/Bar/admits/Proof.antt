@@ -1,12 +1,11 @@
 -- Each branch is a case of the definition.
 -- Assumes nothing.
-use mathlib.Core.Path.{_≡_, sym, ap, _∙_}
+use mathlib.Core.Path.{sym, _∙_}
 use Prim.Native.Nat.{ℕ}
 use borrow.Author.Tests.{eq-eqb, ne-eqb}
 use borrow.Author.Needs.{needs}
 use lib.IntN.{ℤ}
-use mir.Syntax.{w32}
-use Rattle.ranking.specs.Standing.{Entry, above}
+use Rattle.ranking.specs.Standing.{Entry}
 use Rattle.question.proofs.Placed.{ranked-kept}
 use Rattle.question.proofs.Finding.{admits-none, admits-room, admits-full}
 use Rattle.question.proofs.Bar.admits.Statement.{statement}

@@ -1,6 +1,6 @@
 -- The first of the lines, as many as there are and k.
 -- Assumes nothing.
-use mathlib.Core.Path.{_≡_, ap, _∙_}
+use mathlib.Core.Path.{ap, _∙_}
 use Prim.Native.Nat.{min}
 use borrow.Author.Needs.{needs}
 use Rattle.question.proofs.Stored.{roomy}

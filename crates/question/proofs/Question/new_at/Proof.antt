@@ -1,14 +1,13 @@
 -- The line at the rank is read, if there is one.
 -- Assumes nothing.
-use mathlib.Core.Path.{_≡_, sym, ap, _∙_, subst}
-use Prim.Native.Nat.{_≤_, _<_}
+use mathlib.Core.Path.{sym, ap, _∙_}
+use Prim.Native.Nat.{_<_}
 use native.Mathlib.Omega.{arith}
 use borrow.Author.Needs.{needs}
 use lib.IntN.{pos}
 use lib.ListN.{getD}
 use Rattle.ranking.specs.Standing.{Entry, above}
 use Rattle.question.specs.Lines.{lines}
-use Rattle.question.specs.Inner.{rankIn, newIn}
 use Rattle.question.proofs.Stored.{roomy, lineAt, line-at, shown-lines, length-lines}
 use Rattle.question.proofs.Placed.{ranked-kept, new-there, new-last}
 use Rattle.question.proofs.Question.new_at.Statement.{statement}

@@ -2,7 +2,6 @@
 -- Assumes nothing.
 use mathlib.Core.Path.{refl, _∙_}
 use native.Mathlib.Omega.{arith}
-use borrow.Author.Needs.{needs}
 use Rattle.question.proofs.Finding.{searched-arrays}
 use Rattle.question.proofs.Question.searched.Statement.{statement}
 use Rattle.question.proofs.Question.searched.Tie as tie
