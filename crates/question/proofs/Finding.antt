@@ -29,7 +29,7 @@ use Rattle.window.specs.Rows.{reportIn, standing}
 use Rattle.question.specs.declared.Question.{Question}
 use Rattle.question.specs.declared.Bar.{Bar}
 use Rattle.question.specs.declared.Searched.{Searched}
-use Rattle.question.specs.Lines.{lines, asked, searched, searchedIn, inRows, rowsOf, searchedOn}
+use Rattle.question.specs.Lines.{lines, asked, searched, searchedIn, inRows, rowsOf, searchedOn, searchedFirst}
 use Rattle.question.specs.Inner.{shown, joined, at, barOf, admits, gathered, endedOf}
 use Rattle.question.proofs.Stored.{Roomy, lines-asked, length-lines, last-line}
 use Rattle.question.proofs.Taking.{if-so, if-not, joined-best}
@@ -240,21 +240,18 @@ module _ (q : Question) (bar : Bar) (is : bar ≡ barOf q) where
 -- ---- the search of a window's rows
 
 module _ (q : Question) (w : Window) where
-  pub searched-wide : 16 < q .k → searchedOn q w ≡ record { steps = 0; question = q }
-  unfolding searchedOn
-  searched-wide h = if-not (searchedIn q (inRows w)) (record { steps = 0; question = q }) (lt-leb (q .k) 16 h)
+  pub first-wide : 16 < q .k → (n : ℕ) → searchedFirst q w n ≡ record { steps = 0; question = q }
+  unfolding searchedFirst
+  first-wide h n = if-not (searchedIn q (standing w n)) (record { steps = 0; question = q }) (lt-leb (q .k) 16 h)
 
-  searched-small : q .k ≤ 16 → searchedOn q w ≡ searchedIn q (inRows w)
-  unfolding searchedOn
-  searched-small h = if-so (searchedIn q (inRows w)) (record { steps = 0; question = q }) (le-leb (q .k) 16 h)
-
-  all-rows : standing w 1024 ≡ inRows w
-  unfolding inRows
-  all-rows = refl
+  pub first-small : q .k ≤ 16 → (n : ℕ) → endedOf (gathered q w n) ≡ searchedFirst q w n
+  unfolding searchedFirst
+  first-small h n = ended-searched q h w n ∙ sym (if-so (searchedIn q (standing w n)) (record { steps = 0; question = q }) (le-leb (q .k) 16 h))
 
   -- some rows are enough, where what stands in them is all that stands
-  pub searched-rows : q .k ≤ 16 → (n : ℕ) → standing w n ≡ standing w 1024 → endedOf (gathered q w n) ≡ searchedOn q w
-  searched-rows small n e = ended-searched q small w n ∙ ap (searchedIn q) (e ∙ all-rows) ∙ sym (searched-small small)
+  pub searched-rows : (n : ℕ) → standing w n ≡ standing w 1024 → searchedFirst q w n ≡ searchedOn q w
+  unfolding searchedFirst searchedOn inRows
+  searched-rows n e = ap (λ hs. cond (leb (q .k) 16) (searchedIn q hs) (record { steps = 0; question = q })) e
 
 -- the arrays are all that a search reads of a window
 standing-same : (w v : Window) → w .losses ≡ v .losses → w .shakes ≡ v .shakes → w .numbers ≡ v .numbers → (n : ℕ) → standing w n ≡ standing v n

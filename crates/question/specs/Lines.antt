@@ -108,6 +108,10 @@ stepOn q w = cond (leb (q .k) 16 && ltb (q .next) 256) (stepped q (inRows w)) q
 unfoldable pub searchedOn : Question → Window → Searched
 searchedOn q w = cond (leb (q .k) 16) (searchedIn q (inRows w)) (record { steps = 0; question = q })
 
+-- The same over what stands in the first n rows.
+unfoldable pub searchedFirst : Question → Window → ℕ → Searched
+searchedFirst q w n = cond (leb (q .k) 16) (searchedIn q (standing w n)) (record { steps = 0; question = q })
+
 -- Three arrays as the rows of a window.
 abbrev pub rowsOf : List ℕ → List ℕ → List ℕ → Window
 rowsOf losses shakes numbers =

@@ -6,7 +6,7 @@ ghost use Rattle.window.specs.Rows.{standing};
 ghost use lib.ListN.{take, drop};
 ghost use Rattle.ranking.specs.Best.{best};
 ghost use Rattle.ranking.specs.Standing.{above};
-ghost use Rattle.question.specs.Lines.{asked, linesOf, lines, emptySlot, withEntry, cutToK, finished, begun, stepOn, rowsOf, searchedOn, stepsTaken, isMarked, marksOf};
+ghost use Rattle.question.specs.Lines.{asked, linesOf, lines, emptySlot, withEntry, cutToK, finished, begun, stepOn, rowsOf, searchedOn, searchedFirst, stepsTaken, isMarked, marksOf};
 ghost use Rattle.question.specs.Calls.{allOf, holdsNumber, heldAs, falls, blank, rangesFit, fitQuestion, stepCall, beginCall};
 ghost use Rattle.question.specs.Inner.{pushed, shown, kept, rankIn, newIn, within, joined, taking, listTaken, at, barOf, admits, gathered, endedOf};
 use ranking::Grid;
@@ -304,7 +304,7 @@ impl Question {
         self.searched_in(&window.losses, &window.shakes, &window.numbers, 1024)
     }
 
-    // The same for a caller that lends the rows and knows that from row `rows` on none holds a report.
+    // The same over the reports in the first `rows` rows alone, for a caller that lends them.
     pub fn searched_in<'a>(
         self,
         losses: &'a [u16; 1024],
@@ -312,12 +312,7 @@ impl Question {
         numbers: &'a [u32; 1024],
         rows: usize,
     ) -> Searched
-        requires { ⌜
-            (rows ≤ 1024)
-            × (standing (rowsOf (now losses) (now shakes) (now numbers)) rows
-            ≡ standing (rowsOf (now losses) (now shakes) (now numbers)) 1024)
-            ⌝ }
-        ensures { λ r. ⌜ r ≡ searchedOn self (rowsOf (now (losses .entry)) (now (shakes .entry)) (now (numbers .entry))) ⌝ }
+        ensures { λ r. ⌜ r ≡ searchedFirst self (rowsOf (now (losses .entry)) (now (shakes .entry)) (now (numbers .entry))) (min rows 1024) ⌝ }
     {
         if Question::LINES < self.k {
             return Searched {
@@ -325,7 +320,7 @@ impl Question {
                 question: self,
             };
         }
-        let list = self.gathered(losses, shakes, numbers, rows);
+        let list = self.gathered(losses, shakes, numbers, rows_of(rows));
         list.ended()
     }
 
@@ -590,6 +585,17 @@ fn fewer(a: u8, b: u8) -> u8
     ensures { λ r. ⌜ r ≡ min a b ⌝ }
 {
     if a < b { a } else { b }
+}
+
+// That many rows, or all.
+fn rows_of(rows: usize) -> usize
+    ensures { λ r. ⌜ r ≡ min rows 1024 ⌝ }
+{
+    if rows < Window::ROWS {
+        rows
+    } else {
+        Window::ROWS
+    }
 }
 
 // An unused place is 0.
