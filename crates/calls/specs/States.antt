@@ -64,15 +64,15 @@ pub record HandsBack (q : Question) (counts list : List ℕ) (scores : List ℤ)
   pub listed : list₁ ≡ sets list 0 (q .numbers)
   pub scored : scores₁ ≡ sets scores 0 (q .scores)
 
--- Answers as one number.
+-- Answers as one number: 2^56 times the refusal, 2^44 times the loss, 2^32 times the shake, or the steps of a search.
 abbrev pub placedNumber : Placed → ℕ
 placedNumber p = p .refusal * 65536 + p .steps
 
 abbrev pub shownNumber : Shown → ℕ
 shownNumber s = s .refusal * 256 + s .len
 
-abbrev pub inOne : (refusal steps number : ℕ) → ℕ
-inOne refusal steps number = refusal * 281474976710656 + steps * 4294967296 + number
+abbrev pub told : (code loss shake own : ℕ) → ℕ
+told code loss shake own = code * 72057594037927936 + loss % 4096 * 17592186044416 + shake % 4096 * 4294967296 + own
 
 abbrev pub enteredNumber : Entered → ℕ → ℕ
-enteredNumber e at = inOne (e .refusal) (getD (e .steps) at 0) (e .number)
+enteredNumber e at = told (e .refusal) 0 (getD (e .steps) at 0) (e .number)

@@ -6,8 +6,15 @@ ghost use lib.ListN.{getD, set};
 ghost use lib.Seq.{sets};
 ghost use Rattle.board.specs.Calls.{setCall, removeCall, readCall, enterCall};
 ghost use Rattle.board.specs.Work.{slotAt};
-ghost use Rattle.calls.specs.States.{windowOf, questionOf, stepLent, beginLent, boardLent, HandsBack, placedNumber, shownNumber, slotIn, inOne, enteredNumber};
+ghost use Rattle.calls.specs.States.{windowOf, questionOf, stepLent, beginLent, boardLent, HandsBack, placedNumber, shownNumber, slotIn, told, enteredNumber};
+
+mod frames;
+
 use board::Board;
+pub use frames::calls_frame;
+pub use frames::calls_note;
+pub use frames::calls_payload;
+pub use frames::calls_send;
 use question::Question;
 use ranking::Weights;
 use window::Window;
@@ -123,7 +130,7 @@ pub extern "C" fn calls_read(
     (done.refusal as u16) * 256 + (done.len as u16)
 }
 
-// Enters a report on the board: the refusal's number times 2^48, the steps of the question's search times 2^32, the report's number;
+// Enters a report on the board: the refusal's number, the steps of the question's search in the place of a shake, and the report's number;
 // and the question as it is left.
 #[no_mangle]
 pub extern "C" fn calls_enter(
@@ -152,14 +159,17 @@ pub extern "C" fn calls_enter(
     hand_back(left, counts, list, scores);
     let all_steps = done.steps;
     let steps = all_steps[at];
-    one_number(done.refusal, steps, done.number)
+    told(done.refusal, 0, steps, done.number)
 }
 
-// What an entry answers, in one number.
-fn one_number(refusal: u8, steps: u16, number: u32) -> u64
-    ensures { λ r. ⌜ r ≡ inOne refusal steps number ⌝ }
+// An answer in one number: a refusal's number, loss and shake by their low 12 bits, a report's number.
+fn told(code: u8, loss: u16, shake: u16, number: u32) -> u64
+    ensures { λ r. ⌜ r ≡ told code loss shake number ⌝ }
 {
-    (refusal as u64) * 281474976710656 + (steps as u64) * 4294967296 + (number as u64)
+    (code as u64) * 72057594037927936
+        + ((loss % 4096) as u64) * 17592186044416
+        + ((shake % 4096) as u64) * 4294967296
+        + (number as u64)
 }
 
 // The slot that the question stands in.

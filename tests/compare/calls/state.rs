@@ -308,14 +308,14 @@ impl State {
         }
     }
 
-    /// The refusal times 2^48, the steps of the question's search times 2^32, and the report's number.
+    /// The refusal times 2^56, the steps of the question's search times 2^32, and the report's number.
     pub fn enter(&mut self, loss: u16, shake: u16, slip: Slip) -> u64 {
         let full = self.entered == 1_000_000;
         let over = loss > 4095 || shake > 4095;
         let first = slip == Slip::ElevenBeforeTwelve && full;
         let refusals = [(!self.board_fit(slip), 24), (first, 11), (over, 12), (full, 11)];
         if let Some(r) = refusals.iter().find(|r| r.0) {
-            return r.1 << 48;
+            return r.1 << 56;
         }
         let number = self.entered + 1;
         let mut steps = 0;

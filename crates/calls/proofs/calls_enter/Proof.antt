@@ -35,8 +35,8 @@ mul-steps c = search needs
 array-read-steps : tie.Need-array-read-steps
 array-read-steps c = search needs
 
-one-number-requires : tie.Need-one-number-requires
-one-number-requires c κs = search needs
+told-requires : tie.Need-told-requires
+told-requires c κs = search needs
 
 same-length : tie.Need-same-length
 same-length c = search needs
@@ -56,7 +56,7 @@ returns c =
     ∙ (λ i. boardLent (now (a .counts)) (now (a .losses)) (now (a .shakes)) (now (a .numbers)) (toZ-ofZ (start .fits .loss) i) (toZ-ofZ (start .fits .shake) i) (now (a .list)) (now (a .scores))) in
     let at = c .before .before .before .before .before .before .before .before .before .before .before .before .before .before .before .before .before .before .before .slot-in .ensures in
     let done = c .before .before .before .before .before .before .before .before .before .before .before .before .before .before .enter .ensures ∙ (λ i. enterCall (board i) (a .lost) (a .shaken)) in
-    (c .one-number .ensures ∙ (λ i. enteredNumber (done i) (at i)), handed (λ i. slotAt (done i .board) (at i)) (c .before .before .before .before .before .before .before .hand-back .ensures))
+    (c .told .ensures ∙ (λ i. enteredNumber (done i) (at i)), handed (λ i. slotAt (done i .board) (at i)) (c .before .before .before .before .before .before .before .hand-back .ensures))
 
 pub calls-enter-spec : {M : Type 1} → statement M
 calls-enter-spec =
@@ -70,7 +70,7 @@ calls-enter-spec =
     hand-back-requires
     mul-steps
     array-read-steps
-    one-number-requires
+    told-requires
     same-length
     same-length-2
     same-length-3
