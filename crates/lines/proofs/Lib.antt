@@ -1,0 +1,4 @@
+-- Laws that the crates above cite.
+pub mod Words
+pub mod Numbers
+pub mod ReadBack
