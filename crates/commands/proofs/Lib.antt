@@ -1,1 +1,3 @@
 -- Laws that the crates above cite.
+pub mod Reading
+pub mod Writing

@@ -59,7 +59,7 @@ unfoldable pub noMore : ℕ → List ℕ → Bool
 noMore n line = eqb (length (tailAt n line)) 0
 
 -- The place of the first test that fails, where the first place is n; 0 where none fails.
-abbrev pub firstFalse : ℕ → List Bool → ℕ
+unfoldable pub firstFalse : ℕ → List Bool → ℕ
 firstFalse n [] = 0
 firstFalse n (false ∷ ts) = n
 firstFalse n (true ∷ ts) = firstFalse (suc n) ts

@@ -10,7 +10,7 @@ ghost use lib.Seq.{sets};
 ghost use Rattle.lines.specs.Words.{tailAt};
 ghost use Rattle.commands.specs.Lines.{kindOf, firstFalse, valueAt, weightAt, noMore, oneSlot, windowOf, questionOf, removeOf, showOf, reportOf, commandOf, noteIn};
 ghost use Rattle.commands.specs.Items.{questionItem, framesIn, itemsOf, answerOf, reportItems, reportAnswer};
-use joining::bench::Bench;
+use joining::Bench;
 use lines::Number;
 use report::Report;
 use report::Written;
@@ -123,8 +123,8 @@ impl Command {
             Kind::Question => question(line),
             Kind::Remove => remove(line),
             Kind::Show => show(line),
-            Kind::Report => sending(line, false),
-            Kind::Noted => sending(line, true),
+            Kind::Report => one_report(line, false),
+            Kind::Noted => one_report(line, true),
             Kind::Unknown => Command::Wrong(Fault {
                 kind: Kind::Unknown,
                 word: 0,
@@ -294,7 +294,7 @@ fn has_note(line: &[u8], noted: bool) -> bool
     if noted { true } else { !no_more(line, 5) }
 }
 
-fn sending(line: &[u8], noted: bool) -> Command
+fn one_report(line: &[u8], noted: bool) -> Command
     ensures { λ r. ⌜ r ≡ reportOf noted (now (line .entry)) ⌝ }
 {
     let sender = value(line, 1, 255);

@@ -5,14 +5,13 @@ use mathlib.Core.Bool.{Bool, true, false, cond, _&&_}
 use mathlib.Core.List.{List, [], _∷_, _++_}
 use Prim.Native.Nat.{ℕ, _+_, _-_, _*_, _%_, _≤_, _<_}
 use native.Mathlib.Numerals.{add-one}
-use native.Mathlib.Nat.{mul-le-mul}
 use native.Mathlib.Omega.{arith}
-use borrow.Author.Tests.{lt-ltb, le-ltb, le-leb, lt-leb, ne-eqb}
-use lib.Dec.{leb, ltb}
+use borrow.Author.Tests.{leb-true, lt-ltb, le-ltb, le-leb, lt-leb}
+use lib.Dec.{leb, ltb, eqb}
 use lib.ListN.{length, getD, drop, drop-of-length-le}
 use lib.Seq.{drop-cons}
 use Rattle.lines.specs.declared.Number.{Number}
-use Rattle.lines.specs.Numbers.{known, unknown, digitOf, withDigit, numberOn, numberIn, negated}
+use Rattle.lines.specs.Numbers.{known, unknown, digitOf, withDigit, numberOn, numberIn, negated, shortIn}
 
 -- ---- a digit more
 
@@ -61,3 +60,42 @@ negated-one n t h = rw (t, le-leb (n .value) 32768 h)
 pub some-byte : (s : List ℕ) → 0 < getD s 0 0 → 1 ≤ length s
 some-byte [] h = absurd (omega arith)
 some-byte (b ∷ s) h = omega arith
+
+-- ---- how large
+
+with-most : (base most : ℕ) (n : Number) (b : ℕ) → withDigit base most n b .value ≤ most
+unfolding withDigit
+with-most base most n b =
+    by-test (n .known) (ltb (digitOf b) base) (n .value * base + digitOf b) (leb (n .value * base + digitOf b) most) refl
+  where
+    by-test : (s t : Bool) (v : ℕ) (u : Bool) → leb v most ≡ u → cond (s && (t && u)) (known v) unknown .value ≤ most
+    by-test true true v true e = leb-true v most e
+    by-test true true v false e = omega arith
+    by-test true false v u e = omega arith
+    by-test false t v u e = omega arith
+
+on-most : (base most : ℕ) (n : Number) (s : List ℕ) → n .value ≤ most → numberOn base most n s .value ≤ most
+unfolding numberOn
+on-most base most n [] h = h
+on-most base most n (b ∷ s) h = on-most base most (withDigit base most n b) s (with-most base most n b)
+
+-- A number that was read is at most `most`, and one with a sign fits two bytes.
+pub number-most : (base most : ℕ) (s : List ℕ) → numberIn base most s .value ≤ most
+unfolding numberIn
+number-most base most s = by-test (eqb (length s) 0) (numberOn base most (known 0) s) (on-most base most (known 0) s (omega arith))
+  where
+    by-test : (t : Bool) (n : Number) → n .value ≤ most → cond t unknown n .value ≤ most
+    by-test true n h = omega arith
+    by-test false n h = h
+
+pub short-most : (s : List ℕ) → shortIn s .value ≤ 65535
+unfolding shortIn negated
+short-most s = by-test (eqb (getD s 0 0) 45) (numberIn 10 32768 (drop 1 s)) (numberIn 10 32767 s) (omega (arith, number-most 10 32767 s))
+  where
+    below : (t : Bool) (v : ℕ) → cond t (known ((65536 - v) % 65536)) unknown .value ≤ 65535
+    below true v = omega arith
+    below false v = omega arith
+
+    by-test : (t : Bool) (n m : Number) → m .value ≤ 65535 → cond t (negated n) m .value ≤ 65535
+    by-test true n m h = below (n .known && leb (n .value) 32768) (n .value)
+    by-test false n m h = h
