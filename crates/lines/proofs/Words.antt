@@ -12,8 +12,8 @@ use lib.ListN.{length, getD, take, drop, length-drop, drop-of-length-le}
 use lib.Seq.{drop-cons, drop-drop, take-all}
 use Rattle.wire.specs.Bytes.{same}
 use Rattle.lines.specs.declared.Run.{Run}
-use Rattle.lines.specs.declared.Run.the-variants.{Blanks, Letters}
-use Rattle.lines.specs.Words.{counted, run, trimmed, behindWord, tailAt}
+use Rattle.lines.specs.declared.Run.the-variants.{Blanks, Letters, Until}
+use Rattle.lines.specs.Words.{counted, run, lineEnd, trimmed, behindWord, tailAt}
 
 pub run-more : (kind : Run) (s : List ℕ) (i : ℕ) → i < length s → counted kind (getD s i 0) ≡ true
     → i + run kind (drop i s) ≡ i + 1 + run kind (drop (i + 1) s)
@@ -47,6 +47,11 @@ run-behind kind s w e = e ∙ ap (run kind) (all-behind s w)
 
 pub run-fits : (kind : Run) (s : List ℕ) (w : ℕ) {n : ℕ} → w ≤ length s → n ≡ run kind (drop w s) → w + n ≤ length s
 run-fits kind s w h e = omega (arith, e, run-within kind (drop w s), length-drop w s)
+
+-- A line ends within the text.
+pub line-within : (s : List ℕ) (at : ℕ) → at ≤ length s → (at ≤ lineEnd at s) × (lineEnd at s ≤ length s)
+unfolding lineEnd
+line-within s at h = (omega arith, run-fits (Until 10) s at h refl)
 
 -- Over a word and the blanks behind it.
 pub over-word : (s : List ℕ) {w n : ℕ} → w ≡ run Letters s → n ≡ run Blanks (drop w s) → drop (w + n) s ≡ trimmed (behindWord s)

@@ -1,5 +1,5 @@
 -- A line of text as words between blanks.
-use Prim.Native.Nat.{ℕ, zero, suc}
+use Prim.Native.Nat.{ℕ, zero, suc, _+_}
 use mathlib.Core.List.{List, [], _∷_}
 use mathlib.Core.Bool.{Bool, cond, not}
 use lib.ListN.{take, drop}
@@ -17,6 +17,10 @@ counted (Until end) b = not (eqb b end)
 unfoldable pub run : Run → List ℕ → ℕ
 run kind [] = 0
 run kind (b ∷ s) = cond (counted kind b) (suc (run kind s)) 0
+
+-- Where the line that starts at `at` ends: at the next byte 10, or with the text.
+unfoldable pub lineEnd : ℕ → List ℕ → ℕ
+lineEnd at s = at + run (Until 10) (drop at s)
 
 -- Without the blanks at the front, and without the letters there.
 unfoldable pub trimmed : List ℕ → List ℕ
