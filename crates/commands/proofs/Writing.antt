@@ -4,25 +4,24 @@ use mathlib.Core.Path.{_≡_, refl, sym, _∙_, ap, subst}
 use mathlib.Core.Bool.{Bool, true, false, cond}
 use mathlib.Core.Option.{Option}
 use mathlib.Core.List.{List, [], _∷_, _++_, append-assoc, append-nil}
-use Prim.Native.Nat.{ℕ, zero, suc, _+_, _-_, _*_, _/_, _≤_, _<_}
+use Prim.Native.Nat.{ℕ, zero, suc, _+_, _*_, _/_, _≤_}
 use native.Mathlib.Numerals.{add-one}
 use native.Mathlib.Omega.{arith}
 use borrow.Author.Tests.{eqb-true, eqb-false, leb-true}
 use lib.Dec.{eqb, leb, ltb}
-use lib.ListN.{length, take, drop, set, replicate, length-append, length-take, length-drop, length-replicate}
+use lib.ListN.{length, take, drop, set, replicate, length-append, length-take, length-drop}
 use lib.Seq.{sets, drop-drop, take-at, drop-at}
 use Rattle.wire.specs.Bytes.{bytes, field}
 use Rattle.wire.proofs.Fields.{length-field}
 use Rattle.wire.proofs.Numbers.{length-bytes}
 use Rattle.wire.proofs.Stores.{sets-append}
 use Rattle.report.specs.declared.Report.{Report}
-use Rattle.report.specs.declared.Written.{Written}
 use Rattle.report.specs.declared.Written.the-variants as writing
 use Rattle.report.specs.Payload.{payload, size, given, fault}
 use Rattle.report.proofs.Places.{size-payload}
 use Rattle.joining.specs.Frame.{Frame}
 use Rattle.joining.specs.Joining.{packets}
-use Rattle.joining.specs.Bench.{identifier, frames, packetsFrom, frameBytes, roomFor, sendRefusal, sendAnswer, sent, opening, carrier, packetData}
+use Rattle.joining.specs.Bench.{identifier, frames, packetsFrom, frameBytes, roomFor, sendRefusal, sendAnswer, sent}
 use Rattle.joining.proofs.Sending.{length-data, length-announcement}
 use Rattle.commands.specs.declared.Sending.{Sending}
 use Rattle.commands.specs.declared.Command.{Command}

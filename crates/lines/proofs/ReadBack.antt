@@ -2,7 +2,7 @@
 -- Assumes nothing.
 use mathlib.Core.Path.{_≡_, refl, sym, _∙_, ap}
 use mathlib.Core.List.{List, [], _∷_, _++_}
-use Prim.Native.Nat.{ℕ, zero, suc, _+_, _-_, _*_, _/_, _%_, _≤_, _<_}
+use Prim.Native.Nat.{ℕ, suc, _+_, _-_, _*_, _/_, _%_, _≤_, _<_}
 use native.Mathlib.Omega.{arith}
 use borrow.Author.Tests.{le-leb, ne-eqb}
 use lib.ListN.{length, getD}
@@ -11,7 +11,7 @@ use Rattle.text.specs.Text.{decimal, signed}
 use Rattle.text.proofs.Decimal.{Digits, by-tens, decimal-one, decimal-more, decimal-digits}
 use Rattle.text.proofs.Lengths.{length-some}
 use Rattle.lines.specs.declared.Number.{Number}
-use Rattle.lines.specs.Numbers.{known, digitOf, withDigit, numberOn, numberIn, negated, shortIn}
+use Rattle.lines.specs.Numbers.{known, digitOf, withDigit, numberOn, numberIn, shortIn}
 use Rattle.lines.proofs.Numbers.{with-one, negated-one}
 
 digit-back : (d : ℕ) → d < 10 → digitOf (48 + d) ≡ d

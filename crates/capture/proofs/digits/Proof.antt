@@ -1,10 +1,8 @@
 -- `capture::digits` meets its contract: a part to the end.
 -- Assumes nothing.
-use mathlib.Core.Path.{_≡_, refl, sym, _∙_, ap}
 use denote.Ref.{now}
 use Rattle.capture.proofs.Texts.{data-behind}
 use borrow.Author.Needs.{needs}
-use native.Mathlib.Omega.{arith}
 use Rattle.capture.proofs.digits.Statement.{statement}
 use Rattle.capture.proofs.digits.Tie as tie
 

@@ -1,17 +1,13 @@
 -- `capture::eight` meets its contract: what is stored and the pairs that are left make all the bytes.
 -- Assumes nothing.
-use mathlib.Core.Path.{_≡_, refl, sym, _∙_, ap}
-use Prim.Native.Nat.{_≤_, _-_, _+_, _*_, _/_, _%_}
-use lib.ListN.{length, drop, take}
+use mathlib.Core.Path.{_≡_, refl, sym}
+use Prim.Native.Nat.{_≤_, _-_, _+_, _*_, _/_}
+use lib.ListN.{length, drop, replicate, length-set}
 use denote.Ref.{now}
-use lib.ListN.{replicate, length-set, set}
 use native.Mathlib.Numerals.{add-one}
 use lib.Seq.{sets}
 use Rattle.capture.proofs.Texts.{bytes-more, bytes-end, pair-most}
 use Rattle.capture.specs.Capture.{bytesIn}
-use Prim.Native.Nat.{ℕ, _≤_, _<_, _-_, _+_, _*_, _/_}
-use Rattle.lines.proofs.Numbers.{number-most}
-use Rattle.capture.proofs.Texts.{bytes-more, bytes-end}
 use borrow.Author.Needs.{needs}
 use native.Mathlib.Omega.{arith}
 use Rattle.capture.proofs.eight.Statement.{statement}

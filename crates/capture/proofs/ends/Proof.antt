@@ -1,10 +1,9 @@
 -- `capture::ends` meets its contract: its tests in their order.
 -- Assumes nothing.
-use mathlib.Core.Path.{_≡_, refl, sym, _∙_, ap}
+use mathlib.Core.Path.{sym, _∙_}
 use denote.Ref.{now}
 use Rattle.capture.proofs.Texts.{ends-late, ends-here, ends-received, ends-other}
 use borrow.Author.Needs.{needs}
-use native.Mathlib.Omega.{arith}
 use Rattle.capture.proofs.ends.Statement.{statement}
 use Rattle.capture.proofs.ends.Tie as tie
 

@@ -1,13 +1,12 @@
 -- `capture::hexadecimal` meets its contract: the pairs that are passed are bytes, so the rest decides.
 -- Assumes nothing.
-use mathlib.Core.Path.{_≡_, refl, sym, _∙_, ap}
+use mathlib.Core.Path.{_≡_, refl, sym, _∙_}
 use Prim.Native.Nat.{_≤_, _-_, _+_, _*_, _/_, _%_}
-use lib.ListN.{length, drop, take}
+use lib.ListN.{length, drop}
 use denote.Ref.{now}
 use borrow.Author.Tests.{not-true, not-false}
 use Rattle.capture.proofs.Texts.{hex-odd, hex-more, hex-stop, hex-end}
 use Rattle.capture.specs.Capture.{hexIn}
-use Prim.Native.Nat.{ℕ, _≤_, _<_, _-_, _+_, _*_, _/_}
 use borrow.Author.Needs.{needs}
 use native.Mathlib.Omega.{arith}
 use Rattle.capture.proofs.hexadecimal.Statement.{statement}

@@ -1,6 +1,6 @@
 -- `capture::identifier` meets its contract: the number of digits decides.
 -- Assumes nothing.
-use mathlib.Core.Path.{_≡_, refl, sym, _∙_, ap}
+use mathlib.Core.Path.{sym, _∙_}
 use denote.Ref.{now}
 use lib.Seq.{length-take-le}
 use Rattle.capture.proofs.Texts.{id-open, id-short, id-long, id-other}

@@ -1,10 +1,9 @@
 -- `capture::is_time` meets its contract: its tests in their order.
 -- Assumes nothing.
-use mathlib.Core.Path.{_≡_, refl, sym, _∙_, ap}
+use mathlib.Core.Path.{sym, _∙_}
 use denote.Ref.{now}
 use Rattle.capture.proofs.Texts.{time-opens, time-empty, time-closes}
 use borrow.Author.Needs.{needs}
-use native.Mathlib.Omega.{arith}
 use Rattle.capture.proofs.is_time.Statement.{statement}
 use Rattle.capture.proofs.is_time.Tie as tie
 

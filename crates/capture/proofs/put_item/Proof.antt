@@ -1,14 +1,12 @@
 -- `capture::put_item` meets its contract: the identifier and the data stand in a row.
 -- Assumes nothing.
-use mathlib.Core.Path.{_≡_, refl, sym, _∙_, ap}
+use mathlib.Core.Path.{_≡_, _∙_}
 use denote.Ref.{now}
 use lib.ListN.{replicate}
 use lib.Seq.{sets}
 use Rattle.capture.proofs.Texts.{value-stored}
 use Rattle.capture.specs.Capture.{itemIn, dataText, bytesIn}
-use Rattle.capture.specs.Capture.{itemIn, dataText}
 use borrow.Author.Needs.{needs}
-use native.Mathlib.Omega.{arith}
 use Rattle.capture.proofs.put_item.Statement.{statement}
 use Rattle.capture.proofs.put_item.Tie as tie
 

@@ -1,11 +1,10 @@
 -- `capture::write` meets its contract: a case for each sort of line.
 -- Assumes nothing.
-use mathlib.Core.Path.{_≡_, refl, sym, _∙_, ap}
+use mathlib.Core.Path.{sym, _∙_}
 use denote.Ref.{now}
 use Rattle.capture.specs.declared.Sort.the-variants as sort
 use Rattle.capture.proofs.Frames.{line-sixteen, items-are}
 use borrow.Author.Needs.{needs}
-use native.Mathlib.Omega.{arith}
 use Rattle.capture.proofs.write.Statement.{statement}
 use Rattle.capture.proofs.write.Tie as tie
 

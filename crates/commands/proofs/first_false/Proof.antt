@@ -1,10 +1,7 @@
 -- `commands::first_false` meets its contract: a test for each place.
 -- Assumes nothing.
-use mathlib.Core.Path.{_≡_, refl, sym, _∙_, ap}
 use borrow.Author.Tests.{not-true, not-false}
 use Rattle.commands.proofs.Reading.{first-one, first-two, first-three, first-four, first-five, first-none}
-use borrow.Author.Needs.{needs}
-use native.Mathlib.Omega.{arith}
 use Rattle.commands.proofs.first_false.Statement.{statement}
 use Rattle.commands.proofs.first_false.Tie as tie
 

@@ -1,8 +1,6 @@
 -- `commands::has_note` meets its contract: a test for each case.
 -- Assumes nothing.
-use mathlib.Core.Path.{_≡_, refl, sym, _∙_, ap}
 use borrow.Author.Needs.{needs}
-use native.Mathlib.Omega.{arith}
 use Rattle.commands.proofs.has_note.Statement.{statement}
 use Rattle.commands.proofs.has_note.Tie as tie
 

@@ -1,9 +1,7 @@
 -- `commands::no_more` meets its contract: what is left has no bytes.
 -- Assumes nothing.
-use mathlib.Core.Path.{_≡_, refl, sym, _∙_, ap}
 use Rattle.commands.specs.Lines.{noMore}
 use borrow.Author.Needs.{needs}
-use native.Mathlib.Omega.{arith}
 use Rattle.commands.proofs.no_more.Statement.{statement}
 use Rattle.commands.proofs.no_more.Tie as tie
 

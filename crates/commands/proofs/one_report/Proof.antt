@@ -1,6 +1,5 @@
 -- `commands::one_report` meets its contract: each answer is what the definition says.
 -- Assumes nothing.
-use mathlib.Core.Path.{_≡_, refl, sym, _∙_, ap}
 use denote.Ref.{now}
 use Rattle.commands.proofs.Reading.{report-wrong, report-right, value-most}
 use borrow.Author.Needs.{needs}

@@ -1,14 +1,12 @@
 -- `commands::put_frames` meets its contract: after i turns the items of i frames are stored.
 -- Assumes nothing.
-use mathlib.Core.Path.{_≡_, refl, sym, _∙_, ap}
-use Prim.Native.Nat.{ℕ, _≤_, _-_, _+_, _*_, _/_}
-use lib.ListN.{length, drop, take}
+use mathlib.Core.Path.{_≡_, refl, _∙_}
+use Prim.Native.Nat.{_≤_, _-_, _+_, _*_}
+use lib.ListN.{length}
 use denote.Ref.{now}
 use lib.Seq.{sets, length-sets}
 use Rattle.commands.specs.Items.{framesIn}
 use Rattle.commands.proofs.Writing.{frames-more}
-use Prim.Native.Nat.{_≤_, _-_, _+_, _*_, _/_}
-use Prim.Native.Nat.{_≤_, _-_, _+_, _*_}
 use borrow.Author.Needs.{needs}
 use native.Mathlib.Omega.{arith}
 use Rattle.commands.proofs.put_frames.Statement.{statement}

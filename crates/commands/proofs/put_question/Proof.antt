@@ -1,11 +1,9 @@
 -- `commands::put_question` meets its contract: the four parts of the value stand in a row.
 -- Assumes nothing.
-use mathlib.Core.Path.{_≡_, refl, sym, _∙_, ap}
-use denote.Ref.{now}
+use mathlib.Core.Path.{_∙_}
 use Rattle.commands.specs.Items.{questionItem}
 use Rattle.commands.proofs.Writing.{question-stored}
 use borrow.Author.Needs.{needs}
-use native.Mathlib.Omega.{arith}
 use Rattle.commands.proofs.put_question.Statement.{statement}
 use Rattle.commands.proofs.put_question.Tie as tie
 

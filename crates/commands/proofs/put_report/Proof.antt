@@ -1,14 +1,10 @@
 -- `commands::put_report` meets its contract: the frames that the bench sender wrote, cut into items, or its refusal.
 -- Assumes nothing.
-use mathlib.Core.Path.{_≡_, refl, sym, _∙_, ap}
-use Prim.Native.Nat.{ℕ, _≤_, _-_, _+_, _*_, _/_}
-use lib.ListN.{length, drop, take}
+use mathlib.Core.Path.{refl, sym, _∙_}
+use Prim.Native.Nat.{ℕ}
 use denote.Ref.{now}
 use lib.ListN.{replicate, length-replicate}
-use lib.Seq.{sets}
-use Rattle.commands.specs.Items.{reportItems}
 use Rattle.commands.proofs.Writing.{items-sent, items-counted, items-refused}
-use Prim.Native.Nat.{_≤_, _-_, _+_, _*_, _/_}
 use borrow.Author.Needs.{needs}
 use native.Mathlib.Omega.{arith}
 use Rattle.commands.proofs.put_report.Statement.{statement}

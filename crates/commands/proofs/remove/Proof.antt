@@ -1,10 +1,8 @@
 -- `commands::remove` meets its contract: the slot, or the word that is wrong.
 -- Assumes nothing.
-use mathlib.Core.Path.{_≡_, refl, sym, _∙_, ap}
 use denote.Ref.{now}
 use Rattle.commands.proofs.Reading.{remove-wrong, remove-right}
 use borrow.Author.Needs.{needs}
-use native.Mathlib.Omega.{arith}
 use Rattle.commands.proofs.remove.Statement.{statement}
 use Rattle.commands.proofs.remove.Tie as tie
 

@@ -1,10 +1,8 @@
 -- `commands::show` meets its contract: the slot, or the word that is wrong.
 -- Assumes nothing.
-use mathlib.Core.Path.{_≡_, refl, sym, _∙_, ap}
 use denote.Ref.{now}
 use Rattle.commands.proofs.Reading.{show-wrong, show-right}
 use borrow.Author.Needs.{needs}
-use native.Mathlib.Omega.{arith}
 use Rattle.commands.proofs.show.Statement.{statement}
 use Rattle.commands.proofs.show.Tie as tie
 

@@ -1,9 +1,8 @@
 -- `commands::value` meets its contract: the word, read.
 -- Assumes nothing.
-use mathlib.Core.Path.{_≡_, refl, sym, _∙_, ap}
+use mathlib.Core.Path.{_∙_}
 use Rattle.commands.specs.Lines.{valueAt}
 use borrow.Author.Needs.{needs}
-use native.Mathlib.Omega.{arith}
 use Rattle.commands.proofs.value.Statement.{statement}
 use Rattle.commands.proofs.value.Tie as tie
 

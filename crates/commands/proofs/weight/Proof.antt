@@ -1,9 +1,8 @@
 -- `commands::weight` meets its contract: the word, read.
 -- Assumes nothing.
-use mathlib.Core.Path.{_≡_, refl, sym, _∙_, ap}
+use mathlib.Core.Path.{_∙_}
 use Rattle.commands.specs.Lines.{weightAt}
 use borrow.Author.Needs.{needs}
-use native.Mathlib.Omega.{arith}
 use Rattle.commands.proofs.weight.Statement.{statement}
 use Rattle.commands.proofs.weight.Tie as tie
 

@@ -1,9 +1,6 @@
 -- `commands::write` meets its contract: what the line stands for is written.
 -- Assumes nothing.
-use mathlib.Core.Path.{_≡_, refl, sym, _∙_, ap}
-use denote.Ref.{now}
 use borrow.Author.Needs.{needs}
-use native.Mathlib.Omega.{arith}
 use Rattle.commands.proofs.write.Statement.{statement}
 use Rattle.commands.proofs.write.Tie as tie
 

@@ -1,6 +1,5 @@
 -- `lines::digit` meets its contract: a case for each range of bytes.
 -- Assumes nothing.
-use mathlib.Core.Path.{_≡_, refl, sym, _∙_, ap}
 use borrow.Author.Tests.{le-leb, lt-leb}
 use Rattle.lines.specs.Numbers.{digitOf}
 use borrow.Author.Needs.{needs}

@@ -1,12 +1,11 @@
 -- `lines::equal` meets its contract: what is passed is the same, so the rest decides.
 -- Assumes nothing.
-use mathlib.Core.Path.{_≡_, refl, sym, _∙_, ap}
-use Prim.Native.Nat.{_≤_, _-_, _+_}
+use mathlib.Core.Path.{_≡_, refl, sym, _∙_}
+use Prim.Native.Nat.{_≤_, _-_}
 use lib.ListN.{length, drop}
 use denote.Ref.{now}
 use Rattle.wire.specs.Bytes.{same}
 use Rattle.lines.proofs.Words.{same-lengths, same-more, same-stop, same-end}
-use borrow.Author.Needs.{needs}
 use native.Mathlib.Omega.{arith}
 use Rattle.lines.proofs.equal.Statement.{statement}
 use Rattle.lines.proofs.equal.Tie as tie

@@ -1,6 +1,5 @@
 -- `lines::line_end` meets its contract: past the end of the text there is no run.
 -- Assumes nothing.
-use mathlib.Core.Path.{_≡_, refl, sym, _∙_, ap}
 use denote.Ref.{now}
 use Rattle.lines.specs.declared.Run.the-variants.{Until}
 use Rattle.lines.specs.Words.{lineEnd}

@@ -1,13 +1,9 @@
 -- `lines::next` meets its contract: it passes the word and the blanks behind it.
 -- Assumes nothing.
-use mathlib.Core.Path.{_≡_, refl, sym, _∙_, ap}
-use Prim.Native.Nat.{_≤_, _-_, _+_}
-use lib.ListN.{length, drop}
+use lib.ListN.{length}
 use denote.Ref.{now}
 use Rattle.lines.proofs.Words.{run-within, run-behind, run-fits, over-word}
 use Rattle.lines.specs.declared.Run.the-variants.{Blanks, Letters}
-use Rattle.lines.specs.Words.{run}
-use Rattle.lines.proofs.Words.{run-within, over-word, all-behind}
 use borrow.Author.Needs.{needs}
 use native.Mathlib.Omega.{arith}
 use Rattle.lines.proofs.next.Statement.{statement}

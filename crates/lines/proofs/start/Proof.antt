@@ -1,14 +1,11 @@
 -- `lines::start` meets its contract: each turn passes one word more.
 -- Assumes nothing.
-use mathlib.Core.Path.{_≡_, refl, sym, _∙_, ap}
-use Prim.Native.Nat.{_≤_, _-_, _+_}
-use lib.ListN.{length, drop}
+use mathlib.Core.Path.{_≡_, _∙_}
+use Prim.Native.Nat.{_≤_, _-_}
+use lib.ListN.{length, drop, length-drop}
 use denote.Ref.{now}
-use lib.ListN.{length-drop}
 use Rattle.lines.proofs.Words.{run-within, next-tail, all-behind}
 use Rattle.lines.specs.declared.Run.the-variants.{Blanks}
-use Rattle.lines.specs.Words.{tailAt, trimmed, behindWord}
-use Rattle.lines.proofs.Words.{run-within, next-tail}
 use Rattle.lines.specs.Words.{tailAt, trimmed}
 use borrow.Author.Needs.{needs}
 use native.Mathlib.Omega.{arith}

@@ -1,10 +1,9 @@
 -- `lines::tail` meets its contract: a part to the end.
 -- Assumes nothing.
-use mathlib.Core.Path.{_≡_, refl, sym, _∙_, ap}
+use mathlib.Core.Path.{_∙_}
 use denote.Ref.{now}
 use Rattle.lines.proofs.Words.{all-behind}
 use borrow.Author.Needs.{needs}
-use native.Mathlib.Omega.{arith}
 use Rattle.lines.proofs.tail.Statement.{statement}
 use Rattle.lines.proofs.tail.Tie as tie
 

@@ -1,8 +1,8 @@
 -- `lines::word` meets its contract: a part as long as the word.
 -- Assumes nothing.
-use mathlib.Core.Path.{_≡_, refl, sym, _∙_, ap}
-use Prim.Native.Nat.{_≤_, _-_, _+_}
-use lib.ListN.{length, drop}
+use mathlib.Core.Path.{_≡_}
+use Prim.Native.Nat.{_-_, _+_}
+use lib.ListN.{length}
 use denote.Ref.{now}
 use Rattle.lines.proofs.Words.{run-behind, run-fits}
 use Rattle.lines.specs.declared.Run.the-variants.{Letters}

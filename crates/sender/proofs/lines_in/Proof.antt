@@ -1,6 +1,5 @@
 -- `sender::lines_in` is safe and ends: each turn goes past the end of a line.
 -- Assumes nothing.
-use mathlib.Core.Path.{_≡_}
 use Prim.Native.Nat.{_≤_, _-_, _+_}
 use lib.ListN.{length}
 use denote.Ref.{now}

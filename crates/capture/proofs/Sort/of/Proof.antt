@@ -1,12 +1,11 @@
 -- `capture::Sort::of` meets its contract: its tests in their order.
 -- Assumes nothing.
-use mathlib.Core.Path.{_≡_, refl, sym, _∙_, ap}
+use mathlib.Core.Path.{_∙_, ap}
 use denote.Ref.{now}
 use borrow.Author.Tests.{not-true, not-false}
 use Rattle.capture.proofs.Frames.{line-empty, line-no-time, line-no-end, line-frame}
 use Rattle.capture.specs.Capture.{sortOfFrame}
 use borrow.Author.Needs.{needs}
-use native.Mathlib.Omega.{arith}
 use Rattle.capture.proofs.Sort.of.Statement.{statement}
 use Rattle.capture.proofs.Sort.of.Tie as tie
 

@@ -1,11 +1,9 @@
 -- `capture::Sort::of_frame` meets its contract: its tests in their order.
 -- Assumes nothing.
-use mathlib.Core.Path.{_≡_, refl, sym, _∙_, ap}
 use denote.Ref.{now}
 use borrow.Author.Tests.{not-true, not-false}
 use Rattle.capture.proofs.Frames.{frame-no-id, frame-fd, frame-remote, frame-long, frame-no-digits, frame-error, frame-short, frame-whole, frame-length, size}
 use borrow.Author.Needs.{needs}
-use native.Mathlib.Omega.{arith}
 use Rattle.capture.proofs.Sort.of_frame.Statement.{statement}
 use Rattle.capture.proofs.Sort.of_frame.Tie as tie
 

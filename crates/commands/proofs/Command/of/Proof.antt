@@ -1,11 +1,10 @@
 -- `commands::Command::of` meets its contract: a case for each kind of line.
 -- Assumes nothing.
-use mathlib.Core.Path.{_≡_, refl, sym, _∙_, ap}
+use mathlib.Core.Path.{_∙_}
 use denote.Ref.{now}
 use Rattle.commands.specs.declared.Kind.the-variants as kind
 use Rattle.commands.proofs.Reading.{by-first}
 use borrow.Author.Needs.{needs}
-use native.Mathlib.Omega.{arith}
 use Rattle.commands.proofs.Command.of.Statement.{statement}
 use Rattle.commands.proofs.Command.of.Tie as tie
 

@@ -1,13 +1,12 @@
 -- `commands::Command::put` meets its contract: a case for each command.
 -- Assumes nothing.
-use mathlib.Core.Path.{_≡_, refl, sym, _∙_, ap}
+use mathlib.Core.Path.{refl}
 use denote.Ref.{now}
 use Rattle.wire.specs.Bytes.{field, head, bytes}
 use Rattle.commands.specs.declared.Command.the-variants as command
 use Rattle.commands.specs.Items.{questionItem}
 use Rattle.commands.proofs.Writing.{put-is}
 use borrow.Author.Needs.{needs}
-use native.Mathlib.Omega.{arith}
 use Rattle.commands.proofs.Command.put.Statement.{statement}
 use Rattle.commands.proofs.Command.put.Tie as tie
 

@@ -1,12 +1,11 @@
 -- `commands::Kind::of` meets its contract: its tests in their order.
 -- Assumes nothing.
-use mathlib.Core.Path.{_≡_, refl, sym, _∙_, ap}
+use mathlib.Core.Path.{sym, _∙_}
 use denote.Ref.{now}
 use lib.ListN.{length}
 use borrow.Author.Tests.{eq-eqb, ne-eqb}
 use Rattle.commands.specs.Lines.{kindOf}
 use borrow.Author.Needs.{needs}
-use native.Mathlib.Omega.{arith}
 use Rattle.commands.proofs.Kind.of.Statement.{statement}
 use Rattle.commands.proofs.Kind.of.Tie as tie
 

@@ -1,9 +1,7 @@
 -- `lines::Line::add` meets its contract: the piece is stored, and the size counted.
 -- Assumes nothing.
-use mathlib.Core.Path.{_≡_, refl, sym, _∙_, ap}
 use Rattle.lines.specs.Gathering.{added}
 use borrow.Author.Needs.{needs}
-use native.Mathlib.Omega.{arith}
 use Rattle.lines.proofs.Line.add.Statement.{statement}
 use Rattle.lines.proofs.Line.add.Tie as tie
 

@@ -1,12 +1,9 @@
 -- `lines::Number::negative` meets its contract: its tests in their order.
 -- Assumes nothing.
-use mathlib.Core.Path.{_≡_, refl, sym, _∙_, ap}
+use mathlib.Core.Path.{_∙_}
 use borrow.Author.Tests.{not-true, not-false}
 use Rattle.lines.proofs.Numbers.{negated-unknown, negated-over, negated-one}
-use borrow.Author.Tests.{not-true, not-false, le-leb, lt-leb}
-use Rattle.lines.specs.Numbers.{negated}
 use borrow.Author.Needs.{needs}
-use native.Mathlib.Omega.{arith}
 use Rattle.lines.proofs.Number.negative.Statement.{statement}
 use Rattle.lines.proofs.Number.negative.Tie as tie
 

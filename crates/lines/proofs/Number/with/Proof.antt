@@ -1,6 +1,6 @@
 -- `lines::Number::with` meets its contract: its tests in their order.
 -- Assumes nothing.
-use mathlib.Core.Path.{_≡_, refl, sym, _∙_, ap}
+use mathlib.Core.Path.{_∙_}
 use borrow.Author.Tests.{not-true, not-false}
 use Rattle.lines.proofs.Numbers.{with-unknown, with-other, with-over, with-one}
 use borrow.Author.Needs.{needs}

@@ -1,10 +1,9 @@
 -- `lines::Run::counts` meets its contract: a comparison for each kind.
 -- Assumes nothing.
-use mathlib.Core.Path.{_≡_, refl, sym, _∙_, ap}
+use mathlib.Core.Path.{sym, ap}
 use Rattle.lines.specs.declared.Run.{Run}
 use Rattle.lines.specs.Words.{counted}
 use borrow.Author.Needs.{needs}
-use native.Mathlib.Omega.{arith}
 use Rattle.lines.proofs.Run.counts.Statement.{statement}
 use Rattle.lines.proofs.Run.counts.Tie as tie
 

@@ -1,6 +1,6 @@
 -- `lines::Run::length` meets its contract: what was passed and the run that is left make the whole run.
 -- Assumes nothing.
-use mathlib.Core.Path.{_≡_, refl, sym, _∙_, ap}
+use mathlib.Core.Path.{_≡_, sym, _∙_}
 use Prim.Native.Nat.{_≤_, _-_, _+_}
 use lib.ListN.{length, drop}
 use denote.Ref.{now}
