@@ -1,3 +1,4 @@
 -- Laws that the crates above cite.
 pub mod Texts
 pub mod Frames
+pub mod Outcomes

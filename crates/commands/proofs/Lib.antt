@@ -1,3 +1,4 @@
 -- Laws that the crates above cite.
 pub mod Reading
 pub mod Writing
+pub mod Outcomes

@@ -3,3 +3,4 @@ pub mod Words
 pub mod Numbers
 pub mod ReadBack
 pub mod Pieces
+pub mod Outcomes
