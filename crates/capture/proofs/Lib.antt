@@ -1,0 +1,5 @@
+-- Laws that the crates above cite.
+pub mod Texts
+pub mod Frames
+pub mod Outcomes
+pub mod Examples

@@ -1,0 +1,2 @@
+-- Captured frames as text: what the functions of `capture` are held to.
+pub mod Capture

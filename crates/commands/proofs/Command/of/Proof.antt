@@ -1,0 +1,142 @@
+-- `commands::Command::of` meets its contract: a case for each kind of line.
+-- Assumes nothing.
+use mathlib.Core.Path.{_∙_}
+use denote.Ref.{now}
+use Rattle.commands.specs.declared.Kind.the-variants as kind
+use Rattle.commands.proofs.Reading.{by-first}
+use borrow.Author.Needs.{needs}
+use Rattle.commands.proofs.Command.of.Statement.{statement}
+use Rattle.commands.proofs.Command.of.Tie as tie
+
+word-requires : tie.Need-word-requires
+word-requires c κs = search needs
+
+of-requires : tie.Need-of-requires
+of-requires c κs = search needs
+
+enum-told : tie.Need-enum-told
+enum-told c = search needs
+
+enum-told-2 : tie.Need-enum-told-2
+enum-told-2 c = search needs
+
+window-requires : tie.Need-window-requires
+window-requires c κs = search needs
+
+enum-told-3 : tie.Need-enum-told-3
+enum-told-3 c = search needs
+
+question-requires : tie.Need-question-requires
+question-requires c κs = search needs
+
+enum-told-4 : tie.Need-enum-told-4
+enum-told-4 c = search needs
+
+remove-requires : tie.Need-remove-requires
+remove-requires c κs = search needs
+
+enum-told-5 : tie.Need-enum-told-5
+enum-told-5 c = search needs
+
+show-requires : tie.Need-show-requires
+show-requires c κs = search needs
+
+enum-told-6 : tie.Need-enum-told-6
+enum-told-6 c = search needs
+
+one-report-requires : tie.Need-one-report-requires
+one-report-requires c κs = search needs
+
+enum-told-7 : tie.Need-enum-told-7
+enum-told-7 c = search needs
+
+one-report-requires-2 : tie.Need-one-report-requires-2
+one-report-requires-2 c κs = search needs
+
+enum-told-8 : tie.Need-enum-told-8
+enum-told-8 c = search needs
+
+returns : tie.Need-returns
+returns c =
+    let t = c in
+    let k = t .before .before in
+    let w = k .before in
+    by-first (now (w .before .before .args .line)) (now (w .word .result)) (k .of .result) kind.Nothing (w .word .ensures) (k .of .ensures) (t .enum-told .given .1)
+
+returns-2 : tie.Need-returns-2
+returns-2 c =
+    let t = c .before in
+    let k = t .before .before in
+    let w = k .before in
+    c .window .ensures ∙ by-first (now (w .before .before .args .line)) (now (w .word .result)) (k .of .result) kind.Window (w .word .ensures) (k .of .ensures) (t .enum-told2 .given .1)
+
+returns-3 : tie.Need-returns-3
+returns-3 c =
+    let t = c .before in
+    let k = t .before .before in
+    let w = k .before in
+    c .question .ensures ∙ by-first (now (w .before .before .args .line)) (now (w .word .result)) (k .of .result) kind.Question (w .word .ensures) (k .of .ensures) (t .enum-told3 .given .1)
+
+returns-4 : tie.Need-returns-4
+returns-4 c =
+    let t = c .before in
+    let k = t .before .before in
+    let w = k .before in
+    c .remove .ensures ∙ by-first (now (w .before .before .args .line)) (now (w .word .result)) (k .of .result) kind.Remove (w .word .ensures) (k .of .ensures) (t .enum-told4 .given .1)
+
+returns-5 : tie.Need-returns-5
+returns-5 c =
+    let t = c .before in
+    let k = t .before .before in
+    let w = k .before in
+    c .show .ensures ∙ by-first (now (w .before .before .args .line)) (now (w .word .result)) (k .of .result) kind.Show (w .word .ensures) (k .of .ensures) (t .enum-told5 .given .1)
+
+returns-6 : tie.Need-returns-6
+returns-6 c =
+    let t = c .before in
+    let k = t .before .before in
+    let w = k .before in
+    c .one-report .ensures ∙ by-first (now (w .before .before .args .line)) (now (w .word .result)) (k .of .result) kind.Report (w .word .ensures) (k .of .ensures) (t .enum-told6 .given .1)
+
+returns-7 : tie.Need-returns-7
+returns-7 c =
+    let t = c .before in
+    let k = t .before .before in
+    let w = k .before in
+    c .one-report2 .ensures ∙ by-first (now (w .before .before .args .line)) (now (w .word .result)) (k .of .result) kind.Noted (w .word .ensures) (k .of .ensures) (t .enum-told7 .given .1)
+
+returns-8 : tie.Need-returns-8
+returns-8 c =
+    let t = c in
+    let k = t .before .before in
+    let w = k .before in
+    by-first (now (w .before .before .args .line)) (now (w .word .result)) (k .of .result) kind.Unknown (w .word .ensures) (k .of .ensures) (t .enum-told8 .given .1)
+
+pub of-spec : {M : Type 1} → statement M
+of-spec =
+    tie.close
+    (tie.spec
+    word-requires
+    of-requires
+    enum-told
+    enum-told-2
+    window-requires
+    enum-told-3
+    question-requires
+    enum-told-4
+    remove-requires
+    enum-told-5
+    show-requires
+    enum-told-6
+    one-report-requires
+    enum-told-7
+    one-report-requires-2
+    enum-told-8
+    returns
+    returns-2
+    returns-3
+    returns-4
+    returns-5
+    returns-6
+    returns-7
+    returns-8)

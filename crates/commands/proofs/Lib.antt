@@ -1,0 +1,5 @@
+-- Laws that the crates above cite.
+pub mod Reading
+pub mod Writing
+pub mod Outcomes
+pub mod Examples

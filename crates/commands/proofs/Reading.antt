@@ -1,0 +1,135 @@
+-- A line's command from its words: each equation replaces what a call answered by what the definition says.
+-- Assumes nothing.
+use mathlib.Core.Path.{_≡_}
+use mathlib.Core.Bool.{Bool, true, false, not, _||_}
+use mathlib.Core.List.{List, [], _∷_}
+use Prim.Native.Nat.{ℕ, _≤_}
+use borrow.Author.Tests.{eq-eqb, ne-eqb}
+use Rattle.lines.specs.declared.Number.{Number}
+use Rattle.lines.specs.Words.{wordAt}
+use Rattle.lines.proofs.Numbers.{number-most, short-most}
+use Rattle.commands.specs.declared.Kind.{Kind}
+use Rattle.commands.specs.declared.Kind.the-variants as kind
+use Rattle.commands.specs.declared.Slot.{Slot}
+use Rattle.commands.specs.declared.Command.{Command}
+use Rattle.commands.specs.declared.Command.the-variants as command
+use Rattle.commands.specs.Lines.{kindOf, firstFalse, valueAt, weightAt, noMore, unless, windowOf, questionOf, oneSlot, removeOf, showOf, reportOf, byKind, commandOf}
+
+-- ---- which test fails first
+
+module _ (a b c d e : Bool) where
+  abbrev five : List Bool
+  five = a ∷ b ∷ c ∷ d ∷ e ∷ []
+
+  pub first-one : a ≡ false → _≡_ {A = ℕ} 1 (firstFalse 1 five)
+  unfolding firstFalse
+  first-one f = rw f
+
+  pub first-two : a ≡ true → b ≡ false → _≡_ {A = ℕ} 2 (firstFalse 1 five)
+  unfolding firstFalse
+  first-two p f = rw (p, f)
+
+  pub first-three : a ≡ true → b ≡ true → c ≡ false → _≡_ {A = ℕ} 3 (firstFalse 1 five)
+  unfolding firstFalse
+  first-three p q f = rw (p, q, f)
+
+  pub first-four : a ≡ true → b ≡ true → c ≡ true → d ≡ false → _≡_ {A = ℕ} 4 (firstFalse 1 five)
+  unfolding firstFalse
+  first-four p q r f = rw (p, q, r, f)
+
+  pub first-five : a ≡ true → b ≡ true → c ≡ true → d ≡ true → e ≡ false → _≡_ {A = ℕ} 5 (firstFalse 1 five)
+  unfolding firstFalse
+  first-five p q r s f = rw (p, q, r, s, f)
+
+  pub first-none : a ≡ true → b ≡ true → c ≡ true → d ≡ true → e ≡ true → _≡_ {A = ℕ} 0 (firstFalse 1 five)
+  unfolding firstFalse
+  first-none p q r s t = rw (p, q, r, s, t)
+
+-- ---- wrong, or not
+
+wrong : (w : ℕ) (k : Kind) (c : Command) → (w ≡ 0 → ⊥) → command.Wrong (record { kind = k; word = w }) ≡ unless w k c
+wrong w k c h = rw (ne-eqb w 0 h)
+
+right : (w : ℕ) (k : Kind) (c : Command) → w ≡ 0 → c ≡ unless w k c
+right w k c h = rw (eq-eqb w 0 h)
+
+module _ (line : List ℕ) (v : Number) (m : Bool) (w : ℕ) (one : v ≡ valueAt 1 65535 line) (end : m ≡ noMore 2 line)
+    (first : w ≡ firstFalse 1 (v .known ∷ m ∷ true ∷ true ∷ true ∷ [])) where
+  pub window-wrong : (w ≡ 0 → ⊥) → command.Wrong (record { kind = kind.Window; word = w }) ≡ windowOf line
+  unfolding windowOf
+  window-wrong h = rw (← one, ← end, ← first) (wrong w kind.Window (command.Window (v .value)) h)
+
+  pub window-right : w ≡ 0 → command.Window (v .value) ≡ windowOf line
+  unfolding windowOf
+  window-right h = rw (← one, ← end, ← first) (right w kind.Window (command.Window (v .value)) h)
+
+pub slot-is : (line : List ℕ) (v : Number) (m : Bool) (w : ℕ) → v ≡ valueAt 1 255 line → m ≡ noMore 2 line
+    → w ≡ firstFalse 1 (v .known ∷ m ∷ true ∷ true ∷ true ∷ []) → _≡_ {A = Slot} (record { wrong = w; slot = v .value }) (oneSlot line)
+unfolding oneSlot
+slot-is line v m w one end first = rw (← one, ← end, ← first)
+
+module _ (line : List ℕ) (s : Slot) (e : s ≡ oneSlot line) where
+  pub remove-wrong : (s .wrong ≡ 0 → ⊥) → command.Wrong (record { kind = kind.Remove; word = s .wrong }) ≡ removeOf line
+  unfolding removeOf
+  remove-wrong h = rw (← e) (wrong (s .wrong) kind.Remove (command.Remove (s .slot)) h)
+
+  pub remove-right : s .wrong ≡ 0 → command.Remove (s .slot) ≡ removeOf line
+  unfolding removeOf
+  remove-right h = rw (← e) (right (s .wrong) kind.Remove (command.Remove (s .slot)) h)
+
+  pub show-wrong : (s .wrong ≡ 0 → ⊥) → command.Wrong (record { kind = kind.Show; word = s .wrong }) ≡ showOf line
+  unfolding showOf
+  show-wrong h = rw (← e) (wrong (s .wrong) kind.Show (command.Show (s .slot)) h)
+
+  pub show-right : s .wrong ≡ 0 → command.Show (s .slot) ≡ showOf line
+  unfolding showOf
+  show-right h = rw (← e) (right (s .wrong) kind.Show (command.Show (s .slot)) h)
+
+module _ (line : List ℕ) (s k a b : Number) (m : Bool) (w : ℕ) (slot : s ≡ valueAt 1 255 line) (most : k ≡ valueAt 2 255 line)
+    (loss : a ≡ weightAt 3 line) (shake : b ≡ weightAt 4 line) (end : m ≡ noMore 5 line)
+    (first : w ≡ firstFalse 1 (s .known ∷ k .known ∷ a .known ∷ b .known ∷ m ∷ [])) where
+  abbrev asked : Command
+  asked = command.Question (record { slot = s .value; k = k .value; a = a .value; b = b .value })
+
+  pub question-wrong : (w ≡ 0 → ⊥) → command.Wrong (record { kind = kind.Question; word = w }) ≡ questionOf line
+  unfolding questionOf
+  question-wrong h = rw (← slot, ← most, ← loss, ← shake, ← end, ← first) (wrong w kind.Question asked h)
+
+  pub question-right : w ≡ 0 → asked ≡ questionOf line
+  unfolding questionOf
+  question-right h = rw (← slot, ← most, ← loss, ← shake, ← end, ← first) (right w kind.Question asked h)
+
+module _ (line : List ℕ) (always : Bool) (s l k n : Number) (w : ℕ) (sender : s ≡ valueAt 1 255 line) (loss : l ≡ valueAt 2 65535 line)
+    (shake : k ≡ valueAt 3 65535 line) (number : n ≡ valueAt 4 4294967295 line)
+    (first : w ≡ firstFalse 1 (s .known ∷ l .known ∷ k .known ∷ n .known ∷ true ∷ [])) where
+  abbrev sent : Bool → Command
+  sent noted =
+      command.Report (record {
+        sender = s .value;
+        report = record { loss = l .value; shake = k .value; number = n .value };
+        noted = noted;
+      })
+
+  pub report-wrong : (w ≡ 0 → ⊥) → command.Wrong (record { kind = kind.Report; word = w }) ≡ reportOf always line
+  unfolding reportOf
+  report-wrong h = rw (← sender, ← loss, ← shake, ← number, ← first) (wrong w kind.Report (sent (always || not (noMore 5 line))) h)
+
+  pub report-right : (noted : Bool) → noted ≡ (always || not (noMore 5 line)) → w ≡ 0 → sent noted ≡ reportOf always line
+  unfolding reportOf
+  report-right noted e h =
+      rw (← sender, ← loss, ← shake, ← number, ← first, ← e) (right w kind.Report (sent noted) h)
+
+-- ---- how large
+
+pub value-most : (n most : ℕ) (line : List ℕ) (v : Number) → v ≡ valueAt n most line → v .value ≤ most
+unfolding valueAt
+value-most n most line v e = rw e (number-most 10 most (wordAt n line))
+
+pub weight-most : (n : ℕ) (line : List ℕ) (v : Number) → v ≡ weightAt n line → v .value ≤ 65535
+unfolding weightAt
+weight-most n line v e = rw e (short-most (wordAt n line))
+
+-- The line's command by its first word.
+pub by-first : (line word : List ℕ) (k v : Kind) → word ≡ wordAt 0 line → k ≡ kindOf word → k ≡ v → byKind v line ≡ commandOf line
+unfolding commandOf
+by-first line word k v e f g = rw (← g, f, e)

@@ -1,0 +1,27 @@
+-- `commands::write` meets its contract: what the line stands for is written.
+-- Assumes nothing.
+use borrow.Author.Needs.{needs}
+use Rattle.commands.proofs.write.Statement.{statement}
+use Rattle.commands.proofs.write.Tie as tie
+
+of-requires : tie.Need-of-requires
+of-requires c κs = search needs
+
+tail-requires : tie.Need-tail-requires
+tail-requires c κs = search needs
+
+put-requires : tie.Need-put-requires
+put-requires c κs = search needs
+
+same-length : tie.Need-same-length
+same-length c = search needs
+
+returns : tie.Need-returns
+returns c =
+    let p = c .before .before in
+    let t = p .before .before in
+    let o = t .before in
+    rw (← t .tail .ensures, ← o .of .ensures) (p .put .ensures)
+
+pub write-spec : {M : Type 1} → statement M
+write-spec = tie.close (tie.spec of-requires tail-requires put-requires same-length returns)

@@ -1,0 +1,128 @@
+-- What a line of the bench sender's text stands for.
+use Prim.Native.Nat.{ℕ, suc}
+use mathlib.Core.List.{List, [], _∷_}
+use mathlib.Core.Bool.{Bool, true, false, cond, not, _||_}
+use lib.ListN.{length, getD}
+use lib.Dec.{eqb}
+use Rattle.wire.specs.Bytes.{same}
+use Rattle.lines.specs.declared.Number.{Number}
+use Rattle.lines.specs.Words.{tailAt, wordAt}
+use Rattle.lines.specs.Numbers.{numberIn, shortIn}
+use Rattle.commands.specs.declared.Kind.{Kind}
+use Rattle.commands.specs.declared.Kind.the-variants as kind
+use Rattle.commands.specs.declared.Slot.{Slot}
+use Rattle.commands.specs.declared.Command.{Command}
+use Rattle.commands.specs.declared.Command.the-variants as command
+
+-- The words window, question, remove, show, report and noted, in ASCII.
+abbrev pub window : List ℕ
+window = 119 ∷ 105 ∷ 110 ∷ 100 ∷ 111 ∷ 119 ∷ []
+
+abbrev pub question : List ℕ
+question = 113 ∷ 117 ∷ 101 ∷ 115 ∷ 116 ∷ 105 ∷ 111 ∷ 110 ∷ []
+
+abbrev pub remove : List ℕ
+remove = 114 ∷ 101 ∷ 109 ∷ 111 ∷ 118 ∷ 101 ∷ []
+
+abbrev pub show : List ℕ
+show = 115 ∷ 104 ∷ 111 ∷ 119 ∷ []
+
+abbrev pub report : List ℕ
+report = 114 ∷ 101 ∷ 112 ∷ 111 ∷ 114 ∷ 116 ∷ []
+
+abbrev pub noted : List ℕ
+noted = 110 ∷ 111 ∷ 116 ∷ 101 ∷ 100 ∷ []
+
+-- The kind of line that its first word names. No word, and one that starts with #, say nothing.
+unfoldable pub kindOf : List ℕ → Kind
+kindOf w =
+    cond (eqb (length w) 0) kind.Nothing
+    (cond (eqb (getD w 0 0) 35) kind.Nothing
+    (cond (same w window) kind.Window
+    (cond (same w question) kind.Question
+    (cond (same w remove) kind.Remove
+    (cond (same w show) kind.Show
+    (cond (same w report) kind.Report
+    (cond (same w noted) kind.Noted
+    kind.Unknown)))))))
+
+-- The decimal number that is word n of a line, where it is at most `most`.
+unfoldable pub valueAt : ℕ → ℕ → List ℕ → Number
+valueAt n most line = numberIn 10 most (wordAt n line)
+
+-- The weight that is word n, as two bytes hold it.
+unfoldable pub weightAt : ℕ → List ℕ → Number
+weightAt n line = shortIn (wordAt n line)
+
+-- Nothing stands behind the first n words.
+unfoldable pub noMore : ℕ → List ℕ → Bool
+noMore n line = eqb (length (tailAt n line)) 0
+
+-- The place of the first test that fails, where the first place is n; 0 where none fails.
+unfoldable pub firstFalse : ℕ → List Bool → ℕ
+firstFalse n [] = 0
+firstFalse n (false ∷ ts) = n
+firstFalse n (true ∷ ts) = firstFalse (suc n) ts
+
+-- The command, or which word of the line is wrong.
+abbrev pub unless : ℕ → Kind → Command → Command
+unless wrong k c = cond (eqb wrong 0) c (command.Wrong (record { kind = k; word = wrong }))
+
+-- `window N`: N fits two bytes.
+unfoldable pub windowOf : List ℕ → Command
+windowOf line =
+    unless (firstFalse 1 (valueAt 1 65535 line .known ∷ noMore 2 line ∷ true ∷ true ∷ true ∷ [])) kind.Window
+    (command.Window (valueAt 1 65535 line .value))
+
+-- `question SLOT K A B`: a slot and a k that fit a byte, two weights that fit two.
+unfoldable pub questionOf : List ℕ → Command
+questionOf line =
+    unless
+    (firstFalse 1 (valueAt 1 255 line .known ∷ valueAt 2 255 line .known ∷ weightAt 3 line .known ∷ weightAt 4 line .known ∷ noMore 5 line ∷ []))
+    kind.Question
+    (command.Question (record { slot = valueAt 1 255 line .value; k = valueAt 2 255 line .value; a = weightAt 3 line .value; b = weightAt 4 line .value }))
+
+-- One slot that fits a byte, and nothing behind it.
+unfoldable pub oneSlot : List ℕ → Slot
+oneSlot line =
+    record {
+      wrong = firstFalse 1 (valueAt 1 255 line .known ∷ noMore 2 line ∷ true ∷ true ∷ true ∷ []);
+      slot = valueAt 1 255 line .value;
+    }
+
+-- `remove SLOT`, and `show SLOT`.
+unfoldable pub removeOf : List ℕ → Command
+removeOf line = unless (oneSlot line .wrong) kind.Remove (command.Remove (oneSlot line .slot))
+
+unfoldable pub showOf : List ℕ → Command
+showOf line = unless (oneSlot line .wrong) kind.Show (command.Show (oneSlot line .slot))
+
+-- `report SENDER LOSS SHAKE NUMBER`, and what stands behind is its note; `noted` has a note also where nothing does.
+unfoldable pub reportOf : Bool → List ℕ → Command
+reportOf always line =
+    unless
+    (firstFalse 1 (valueAt 1 255 line .known ∷ valueAt 2 65535 line .known ∷ valueAt 3 65535 line .known ∷ valueAt 4 4294967295 line .known ∷ true ∷ []))
+    kind.Report
+    (command.Report (record {
+      sender = valueAt 1 255 line .value;
+      report = record { loss = valueAt 2 65535 line .value; shake = valueAt 3 65535 line .value; number = valueAt 4 4294967295 line .value };
+      noted = always || not (noMore 5 line);
+    }))
+
+abbrev pub byKind : Kind → List ℕ → Command
+byKind kind.Nothing line = command.Nothing
+byKind kind.Window line = windowOf line
+byKind kind.Question line = questionOf line
+byKind kind.Remove line = removeOf line
+byKind kind.Show line = showOf line
+byKind kind.Report line = reportOf false line
+byKind kind.Noted line = reportOf true line
+byKind kind.Unknown line = command.Wrong (record { kind = kind.Unknown; word = 0 })
+
+-- What a line stands for.
+unfoldable pub commandOf : List ℕ → Command
+commandOf line = byKind (kindOf (wordAt 0 line)) line
+
+-- A report's note: all that stands behind the first five words.
+abbrev pub noteIn : List ℕ → List ℕ
+noteIn line = tailAt 5 line

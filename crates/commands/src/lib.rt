@@ -1,0 +1,365 @@
+// The bench sender's text: what a line stands for, and the log items that are written for it.
+// A line is `window N`, `question SLOT K A B`, `remove SLOT`, `show SLOT`, `report SENDER LOSS SHAKE NUMBER`, with a note
+// behind it perhaps, or `noted` for a report whose note may be empty. Empty lines and those that start with # say nothing.
+ghost use mathlib.Core.Path.{_≡_};
+ghost use mathlib.Core.List.{[], _∷_};
+ghost use mathlib.Core.Bool.{Bool, not, _||_};
+ghost use Prim.Native.Nat.{_*_, _≤_};
+ghost use lib.ListN.{length, take};
+ghost use lib.Seq.{sets};
+ghost use Rattle.lines.specs.Words.{tailAt};
+ghost use Rattle.commands.specs.Lines.{kindOf, firstFalse, valueAt, weightAt, noMore, oneSlot, windowOf, questionOf, removeOf, showOf, reportOf, commandOf, noteIn};
+ghost use Rattle.commands.specs.Items.{questionItem, framesIn, itemsOf, answerOf, reportItems, reportAnswer};
+use joining::Bench;
+use lines::Number;
+use report::Report;
+use report::Written;
+
+// What the first word of a line asks for.
+pub enum Kind {
+    Nothing,
+    Window,
+    Question,
+    Remove,
+    Show,
+    Report,
+    Noted,
+    Unknown,
+}
+
+impl Kind {
+    pub fn of(word: &[u8]) -> Kind
+        ensures { λ r. ⌜ r ≡ kindOf (now (word .entry)) ⌝ }
+    {
+        if word.len() == 0 {
+            return Kind::Nothing;
+        }
+        if wire::byte(word, 0) == b'#' {
+            return Kind::Nothing;
+        }
+        if lines::equal(word, b"window") {
+            return Kind::Window;
+        }
+        if lines::equal(word, b"question") {
+            return Kind::Question;
+        }
+        if lines::equal(word, b"remove") {
+            return Kind::Remove;
+        }
+        if lines::equal(word, b"show") {
+            return Kind::Show;
+        }
+        if lines::equal(word, b"report") {
+            return Kind::Report;
+        }
+        if lines::equal(word, b"noted") {
+            return Kind::Noted;
+        }
+        Kind::Unknown
+    }
+}
+
+// What is wrong with a line: the kind of line, and which word behind the first; none where the first is.
+pub struct Fault {
+    pub kind: Kind,
+    pub word: u8,
+}
+
+// A question that is to be set. Weights are as two bytes hold them.
+pub struct Asking {
+    pub slot: u8,
+    pub k: u8,
+    pub a: u16,
+    pub b: u16,
+}
+
+// A report that is to be sent, and whether a note goes with it.
+pub struct Sending {
+    pub sender: u8,
+    pub report: Report,
+    pub noted: bool,
+}
+
+// What a line stands for.
+pub enum Command {
+    Nothing,
+    Window(u16),
+    Question(Asking),
+    Remove(u8),
+    Show(u8),
+    Report(Sending),
+    Wrong(Fault),
+}
+
+// What came of a line: how many bytes its items take, or what is wrong with it, or the bench sender's refusal.
+pub enum Answer {
+    Items(usize),
+    Wrong(Fault),
+    Refused(u8),
+}
+
+// Writes the items of a line to the front of `room`; a wrong line writes none. What lies past the room's end is not stored.
+pub fn write(line: &[u8], room: &mut [u8]) -> Answer
+    ensures { λ r. ⌜ r ≡ answerOf (commandOf (now (line .entry))) (noteIn (now (line .entry))) ⌝ }
+    ensures { λ _. ⌜ now (room .exit) ≡ sets (now (room .entry)) 0 (itemsOf (commandOf (now (line .entry))) (noteIn (now (line .entry)))) ⌝ }
+{
+    let command = Command::of(line);
+    let note = lines::tail(line, 5);
+    command.put(note, room)
+}
+
+impl Command {
+    // Bytes that are enough for any line's items: an announcement and 12 packets, 15 bytes each.
+    pub const LARGEST: usize = 195;
+
+    // What a line stands for.
+    pub fn of(line: &[u8]) -> Command
+        ensures { λ r. ⌜ r ≡ commandOf (now (line .entry)) ⌝ }
+    {
+        let kind = Kind::of(lines::word(line, 0));
+        match kind {
+            Kind::Nothing => Command::Nothing,
+            Kind::Window => window(line),
+            Kind::Question => question(line),
+            Kind::Remove => remove(line),
+            Kind::Show => show(line),
+            Kind::Report => one_report(line, false),
+            Kind::Noted => one_report(line, true),
+            Kind::Unknown => Command::Wrong(Fault {
+                kind: Kind::Unknown,
+                word: 0,
+            }),
+        }
+    }
+
+    // Writes a command's items to the front of `room`; `note` is read for a report that has one.
+    pub fn put(self, note: &[u8], room: &mut [u8]) -> Answer
+        ensures { λ r. ⌜ r ≡ answerOf self (now (note .entry)) ⌝ }
+        ensures { λ _. ⌜ now (room .exit) ≡ sets (now (room .entry)) 0 (itemsOf self (now (note .entry))) ⌝ }
+    {
+        match self {
+            Command::Nothing => Answer::Items(0),
+            Command::Window(n) => {
+                wire::put_field16(room, 0, 16, n);
+                Answer::Items(5)
+            }
+            Command::Question(q) => {
+                put_question(room, q);
+                Answer::Items(9)
+            }
+            Command::Remove(slot) => {
+                let value = [slot];
+                wire::put_field(room, 0, 19, &value);
+                Answer::Items(4)
+            }
+            Command::Show(slot) => {
+                let value = [slot];
+                wire::put_field(room, 0, 20, &value);
+                Answer::Items(4)
+            }
+            Command::Report(s) => put_report(room, s, note),
+            Command::Wrong(f) => Answer::Wrong(f),
+        }
+    }
+}
+
+// ---- reading
+
+// The decimal number that is word n, if it is at most `most`.
+fn value(line: &[u8], n: u8, most: u32) -> Number
+    ensures { λ r. ⌜ r ≡ valueAt n most (now (line .entry)) ⌝ }
+{
+    Number::read(lines::word(line, n), 10, most)
+}
+
+// The weight that is word n.
+fn weight(line: &[u8], n: u8) -> Number
+    ensures { λ r. ⌜ r ≡ weightAt n (now (line .entry)) ⌝ }
+{
+    Number::short(lines::word(line, n))
+}
+
+// Whether nothing stands behind the first n words.
+fn no_more(line: &[u8], n: u8) -> bool
+    ensures { λ r. ⌜ r ≡ noMore n (now (line .entry)) ⌝ }
+{
+    let rest = lines::tail(line, n);
+    rest.len() == 0
+}
+
+// Which of five tests fails first, counted from 1; 0 where none does.
+fn first_false(a: bool, b: bool, c: bool, d: bool, e: bool) -> u8
+    ensures { λ r. ⌜ r ≡ firstFalse 1 (a ∷ b ∷ c ∷ d ∷ e ∷ []) ⌝ }
+{
+    if !a {
+        return 1;
+    }
+    if !b {
+        return 2;
+    }
+    if !c {
+        return 3;
+    }
+    if !d {
+        return 4;
+    }
+    if !e {
+        return 5;
+    }
+    0
+}
+
+fn window(line: &[u8]) -> Command
+    ensures { λ r. ⌜ r ≡ windowOf (now (line .entry)) ⌝ }
+{
+    let n = value(line, 1, 65535);
+    let wrong = first_false(n.known, no_more(line, 2), true, true, true);
+    if wrong != 0 {
+        return Command::Wrong(Fault {
+            kind: Kind::Window,
+            word: wrong,
+        });
+    }
+    Command::Window(n.value as u16)
+}
+
+fn question(line: &[u8]) -> Command
+    ensures { λ r. ⌜ r ≡ questionOf (now (line .entry)) ⌝ }
+{
+    let slot = value(line, 1, 255);
+    let k = value(line, 2, 255);
+    let a = weight(line, 3);
+    let b = weight(line, 4);
+    let wrong = first_false(slot.known, k.known, a.known, b.known, no_more(line, 5));
+    if wrong != 0 {
+        return Command::Wrong(Fault {
+            kind: Kind::Question,
+            word: wrong,
+        });
+    }
+    Command::Question(Asking {
+        slot: slot.value as u8,
+        k: k.value as u8,
+        a: a.value as u16,
+        b: b.value as u16,
+    })
+}
+
+// A slot, or which word is wrong.
+struct Slot {
+    wrong: u8,
+    slot: u8,
+}
+
+fn one_slot(line: &[u8]) -> Slot
+    ensures { λ r. ⌜ r ≡ oneSlot (now (line .entry)) ⌝ }
+{
+    let slot = value(line, 1, 255);
+    Slot {
+        wrong: first_false(slot.known, no_more(line, 2), true, true, true),
+        slot: slot.value as u8,
+    }
+}
+
+fn remove(line: &[u8]) -> Command
+    ensures { λ r. ⌜ r ≡ removeOf (now (line .entry)) ⌝ }
+{
+    let s = one_slot(line);
+    if s.wrong != 0 {
+        return Command::Wrong(Fault {
+            kind: Kind::Remove,
+            word: s.wrong,
+        });
+    }
+    Command::Remove(s.slot)
+}
+
+fn show(line: &[u8]) -> Command
+    ensures { λ r. ⌜ r ≡ showOf (now (line .entry)) ⌝ }
+{
+    let s = one_slot(line);
+    if s.wrong != 0 {
+        return Command::Wrong(Fault {
+            kind: Kind::Show,
+            word: s.wrong,
+        });
+    }
+    Command::Show(s.slot)
+}
+
+// Whether a note goes with a report: where `noted` an empty one too.
+fn has_note(line: &[u8], noted: bool) -> bool
+    ensures { λ r. ⌜ r ≡ (noted || not (noMore 5 (now (line .entry)))) ⌝ }
+{
+    if noted { true } else { !no_more(line, 5) }
+}
+
+fn one_report(line: &[u8], noted: bool) -> Command
+    ensures { λ r. ⌜ r ≡ reportOf noted (now (line .entry)) ⌝ }
+{
+    let sender = value(line, 1, 255);
+    let loss = value(line, 2, 65535);
+    let shake = value(line, 3, 65535);
+    let number = value(line, 4, 4294967295);
+    let wrong = first_false(sender.known, loss.known, shake.known, number.known, true);
+    if wrong != 0 {
+        return Command::Wrong(Fault {
+            kind: Kind::Report,
+            word: wrong,
+        });
+    }
+    Command::Report(Sending {
+        sender: sender.value as u8,
+        report: Report {
+            loss: loss.value as u16,
+            shake: shake.value as u16,
+            number: number.value,
+        },
+        noted: has_note(line, noted),
+    })
+}
+
+// ---- writing
+
+fn put_question(room: &mut [u8], q: Asking)
+    ensures { λ _. ⌜ now (room .exit) ≡ sets (now (room .entry)) 0 (questionItem q) ⌝ }
+{
+    let mut value = [0u8; 6];
+    wire::put(&mut value, 0, q.slot);
+    wire::put(&mut value, 1, q.k);
+    wire::put16(&mut value, 2, q.a);
+    wire::put16(&mut value, 4, q.b);
+    wire::put_field(room, 0, 17, &value);
+}
+
+fn put_report(room: &mut [u8], s: Sending, note: &[u8]) -> Answer
+    ensures { λ r. ⌜ r ≡ reportAnswer s (now (note .entry)) ⌝ }
+    ensures { λ _. ⌜ now (room .exit) ≡ sets (now (room .entry)) 0 (reportItems s (now (note .entry))) ⌝ }
+{
+    let mut frames = [0u8; Bench::LARGEST];
+    let report = s.report;
+    let written = Bench::send(&mut frames, s.sender, report, s.noted, note);
+    match written {
+        Written::Bytes(n) => {
+            let count = n / Bench::FRAME;
+            put_frames(room, &frames, count);
+            Answer::Items(15 * count)
+        }
+        Written::Refused(code) => Answer::Refused(code),
+    }
+}
+
+// Stores the first `count` frames as items.
+fn put_frames(room: &mut [u8], frames: &[u8], count: usize)
+    requires { ⌜ 12 * count ≤ length (now frames) ⌝ }
+    requires { ⌜ length (now frames) ≤ 156 ⌝ }
+    ensures { λ _. ⌜ now (room .exit) ≡ sets (now (room .entry)) 0 (framesIn count (now (frames .entry))) ⌝ }
+{
+    let mut i: usize = 0;
+    while i < count {
+        let start = Bench::FRAME * i;
+        let end = start + Bench::FRAME;
+        wire::put_field(room, 15 * i, 18, &frames[start..end]);
+        i += 1;
+    }
+}

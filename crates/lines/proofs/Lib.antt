@@ -1,0 +1,6 @@
+-- Laws that the crates above cite.
+pub mod Words
+pub mod Numbers
+pub mod ReadBack
+pub mod Pieces
+pub mod Outcomes

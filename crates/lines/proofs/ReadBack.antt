@@ -1,0 +1,63 @@
+-- A number that `text` writes is read back as that number: each step takes the last digit off.
+-- Assumes nothing.
+use mathlib.Core.Path.{_≡_, refl, sym, _∙_, ap}
+use mathlib.Core.List.{List, [], _∷_, _++_}
+use Prim.Native.Nat.{ℕ, suc, _+_, _-_, _*_, _/_, _%_, _≤_, _<_}
+use native.Mathlib.Omega.{arith}
+use borrow.Author.Tests.{le-leb, ne-eqb}
+use lib.ListN.{length, getD}
+use lib.IntN.{ℤ, pos, negsuc}
+use Rattle.text.specs.Text.{decimal, signed}
+use Rattle.text.proofs.Decimal.{Digits, by-tens, decimal-one, decimal-more, decimal-digits}
+use Rattle.text.proofs.Lengths.{length-some}
+use Rattle.lines.specs.declared.Number.{Number}
+use Rattle.lines.specs.Numbers.{known, digitOf, withDigit, numberOn, numberIn, shortIn}
+use Rattle.lines.proofs.Numbers.{with-one, negated-one}
+
+digit-back : (d : ℕ) → d < 10 → digitOf (48 + d) ≡ d
+unfolding digitOf
+digit-back d h = rw (le-leb 48 (48 + d) (omega arith), le-leb (48 + d) 57 (omega arith)) (omega arith)
+
+on-append : (base most : ℕ) (n : Number) (s : List ℕ) (b : ℕ) → numberOn base most n (s ++ b ∷ []) ≡ withDigit base most (numberOn base most n s) b
+unfolding numberOn
+on-append base most n [] b = refl
+on-append base most n (a ∷ s) b = on-append base most (withDigit base most n a) s b
+
+with-back : (most n d : ℕ) → d < 10 → n * 10 + d ≤ most → withDigit 10 most (known n) (48 + d) ≡ known (n * 10 + d)
+with-back most n d h room =
+    let e : digitOf (48 + d) ≡ d = digit-back d h in
+    sym (with-one 10 most (known n) (48 + d) refl (rw e h) (rw e room)) ∙ rw e
+
+digits-back : (most n : ℕ) → n ≤ most → numberOn 10 most (known 0) (decimal n) ≡ known n
+unfolding numberOn
+digits-back most =
+    by-tens (λ n. n ≤ most → numberOn 10 most (known 0) (decimal n) ≡ known n)
+    (λ n h room. rw (decimal-one n h) (with-back most 0 n h (omega arith) ∙ ap known (omega arith)))
+    (λ n h rest room.
+    rw (decimal-more n h, on-append, rest (omega arith)) (with-back most (n / 10) (n % 10) (omega arith) (omega arith) ∙ ap known (omega arith)))
+
+-- The text of a number that is at most `most` is read as that number.
+pub number-back : (most n : ℕ) → n ≤ most → numberIn 10 most (decimal n) ≡ known n
+unfolding numberIn
+number-back most n h = rw (ne-eqb (length (decimal n)) 0 (λ e. omega (arith, length-some n))) (digits-back most n h)
+
+-- A digit is no minus.
+no-minus : (s : List ℕ) → Digits s → getD s 0 0 ≡ 45 → ⊥
+no-minus [] d e = omega arith
+no-minus (b ∷ s) d e = omega (arith, d .0)
+
+-- What two bytes hold for a number.
+abbrev pub held : ℤ → ℕ
+held (pos n) = n
+held (negsuc n) = (65536 - suc n) % 65536
+
+-- From -32,768 to 32,767.
+abbrev pub InShort : ℤ → Type 0
+InShort (pos n) = n ≤ 32767
+InShort (negsuc n) = suc n ≤ 32768
+
+-- The same of a number that may be negative.
+pub short-back : (z : ℤ) → InShort z → shortIn (signed z) ≡ known (held z)
+unfolding shortIn signed
+short-back (pos n) h = rw (ne-eqb (getD (decimal n) 0 0) 45 (no-minus (decimal n) (decimal-digits n))) (number-back 32767 n h)
+short-back (negsuc n) h = rw (number-back 32768 (suc n) h) (sym (negated-one (known (suc n)) refl h))
