@@ -15,3 +15,5 @@ pub mod LentOutcomes
 pub mod Machine
 pub mod BenchOutcomes
 pub mod HeldPayload
+pub mod Places
+pub mod Placed

@@ -4,3 +4,4 @@ pub mod Joining
 pub mod Bench
 pub mod Run
 pub mod Driver
+pub mod Room

@@ -1,14 +1,18 @@
 // Frames of the bus joined into reports: a session for each sender, by the broadcast rules of SAE J1939-21.
 ghost use mathlib.Core.Path.{_≡_};
 ghost use mathlib.Core.Bool.{true};
-ghost use Prim.Native.Nat.{_≤_};
-ghost use lib.ListN.{length};
+ghost use mathlib.Core.List.{[]};
+ghost use Prim.Native.Nat.{_-_, _*_, _≤_};
+ghost use lib.ListN.{length, take, drop};
+ghost use lib.Seq.{sets};
+ghost use Rattle.report.specs.Payload.{readPayload};
 ghost use Rattle.joining.specs.Frame.{foreign, frameRefusal, senderIn};
-ghost use Rattle.joining.specs.Joining.{packets, carries, freshSession, isOpen, fit, closed, opened, stored, finishes, refused, sound, announce, packet, take-frame, sizeHeld, payloadHeld};
+ghost use Rattle.joining.specs.Joining.{packets, carries, freshSession, isOpen, fit, closed, opened, stored, finishes, yields, refused, sound, announce, packet, take-frame, sizeHeld, payloadHeld};
 
 mod bench;
 mod bus;
 mod lent;
+mod room;
 
 pub use bench::Bench;
 pub use bus::Bus;
@@ -158,19 +162,7 @@ impl Session {
     pub fn fit(self) -> bool
         ensures { λ r. ⌜ r ≡ fit self ⌝ }
     {
-        let size = self.size;
-        let count = self.count;
-        let next = self.next;
-        if size == 0 {
-            return count == 0 && next == 0;
-        }
-        if !carries(size as u16) {
-            return false;
-        }
-        if count as u16 != packets(size as u16) {
-            return false;
-        }
-        0 < next && next <= count
+        numbers_fit(self.size, self.count, self.next)
     }
 
     // Takes a frame of this session's sender. The order of refusals is 1, 2, 3, 24, then 4 to 7 or 8 to 10.
@@ -203,6 +195,22 @@ impl Session {
     {
         wire::front(bytes, size_held(bytes))
     }
+}
+
+// Whether a session's size, count and next packet are fit.
+fn numbers_fit(size: u8, count: u8, next: u8) -> bool
+    ensures { λ r. ⌜ r ≡ fit (record { bytes = []; size = size; count = count; next = next }) ⌝ }
+{
+    if size == 0 {
+        return count == 0 && next == 0;
+    }
+    if !carries(size as u16) {
+        return false;
+    }
+    if count as u16 != packets(size as u16) {
+        return false;
+    }
+    0 < next && next <= count
 }
 
 // How many packets carry a payload of this size.
@@ -328,24 +336,30 @@ fn stored(s: Session, data: &[u8]) -> [u8; 84]
     ensures { λ r. ⌜ r ≡ stored s (now («data» .entry)) ⌝ }
 {
     let mut bytes = s.bytes;
-    let at = Session::PART * ((s.next - 1) as usize);
-    let left = (s.size as usize) - at;
-    if left < Session::PART {
-        wire::put_all(&mut bytes, at, &data[1..1 + left]);
-    } else {
-        wire::put_all(&mut bytes, at, &data[1..]);
-    }
+    store(&mut bytes, s.size, s.next, data);
     bytes
+}
+
+// Stores the bytes of packet `next` in their place, those past the size left out.
+fn store(bytes: &mut [u8], size: u8, next: u8, data: &[u8])
+    requires { ⌜ (1 ≤ next) × (7 * (next - 1) ≤ size) ⌝ }
+    requires { ⌜ length (now «data») ≡ 8 ⌝ }
+    ensures { λ _. ⌜ now (bytes .exit) ≡ sets (now (bytes .entry)) (7 * (next - 1)) (take (size - 7 * (next - 1)) (drop 1 (now («data» .entry)))) ⌝ }
+{
+    let at = Session::PART * ((next - 1) as usize);
+    let left = (size as usize) - at;
+    if left < Session::PART {
+        wire::put_all(bytes, at, &data[1..1 + left]);
+    } else {
+        wire::put_all(bytes, at, &data[1..]);
+    }
 }
 
 // What the last packet answers, and the session that it closes.
 fn finished(bytes: [u8; 84], size: u8) -> Taken
     ensures { λ r. ⌜ r ≡ finishes bytes size ⌝ }
 {
-    let answer = match Payload::read(wire::front(&bytes, size as usize)) {
-        Reading::Accepted(report) => Answer::Complete(report),
-        Reading::Refused(number) => Answer::Refused(number),
-    };
+    let answer = answered(wire::front(&bytes, size as usize));
     Taken {
         answer,
         session: Session {
@@ -354,6 +368,16 @@ fn finished(bytes: [u8; 84], size: u8) -> Taken
             count: 0,
             next: 0,
         },
+    }
+}
+
+// What a whole payload is answered: its report, or the reader's refusal.
+fn answered(payload: &[u8]) -> Answer
+    ensures { λ r. ⌜ r ≡ yields (readPayload (now (payload .entry))) ⌝ }
+{
+    match Payload::read(payload) {
+        Reading::Accepted(report) => Answer::Complete(report),
+        Reading::Refused(number) => Answer::Refused(number),
     }
 }
 

@@ -1,4 +1,4 @@
--- `joining::finished` meets its contract: the answer is the reader's.
+-- `joining::finished` meets its contract: the answer is that of the payload's bytes, and the session is closed.
 -- Assumes nothing.
 use borrow.Author.Needs.{needs}
 use Rattle.joining.proofs.finished.Statement.{statement}
@@ -10,29 +10,11 @@ slice-aggregate-front c = search needs
 front-requires : tie.Need-front-requires
 front-requires c κs = search needs
 
-read-requires : tie.Need-read-requires
-read-requires c κs = search needs
-
-enum-known-report : tie.Need-enum-known-report
-enum-known-report c = search needs
-
-enum-known-number : tie.Need-enum-known-number
-enum-known-number c = search needs
+answered-requires : tie.Need-answered-requires
+answered-requires c κs = search needs
 
 returns : tie.Need-returns
-returns c = rw (← c .before .before .before .before .front .ensures, ← c .before .before .before .read .ensures, c .before .report .given .1)
-
-returns-2 : tie.Need-returns-2
-returns-2 c = rw (← c .before .before .before .before .front .ensures, ← c .before .before .before .read .ensures, c .before .number .given .1)
+returns c = rw (c .answered .ensures, c .before .front .ensures)
 
 pub finished-spec : {M : Type 1} → statement M
-finished-spec =
-    tie.close
-    (tie.spec
-    slice-aggregate-front
-    front-requires
-    read-requires
-    enum-known-report
-    enum-known-number
-    returns
-    returns-2)
+finished-spec = tie.close (tie.spec slice-aggregate-front front-requires answered-requires returns)

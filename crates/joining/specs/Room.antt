@@ -1,0 +1,43 @@
+-- All sessions in one array of bytes that a caller lends: 87 bytes for each sender, in their order.
+use Prim.Native.Nat.{ℕ, zero, suc, _*_}
+use mathlib.Core.Bool.{cond, not}
+use mathlib.Core.List.{List, [], _∷_, _++_}
+use lib.ListN.{getD, take, drop}
+use lib.Dec.{eqb}
+use Rattle.wire.specs.Bytes.{number, part}
+use Rattle.joining.specs.declared.Session.{Session}
+use Rattle.joining.specs.Joining.{sizeIn, sound, carries}
+
+-- A session as 87 bytes: its 84 payload bytes, then size, count and next packet.
+abbrev pub sessionBytes : Session → List ℕ
+sessionBytes s = s .bytes ++ (s .size ∷ s .count ∷ s .next ∷ [])
+
+-- The session that stands at the front of bytes.
+abbrev pub sessionAt : List ℕ → Session
+sessionAt p = record { bytes = take 84 p; size = getD p 84 0; count = getD p 85 0; next = getD p 86 0 }
+
+-- The session of sender k: the 87 bytes from 87 k on.
+abbrev pub sessionIn : List ℕ → ℕ → Session
+sessionIn room k = sessionAt (drop (87 * k) room)
+
+-- The sessions of the first n senders.
+unfoldable pub sessionsOf : ℕ → List ℕ → List Session
+sessionsOf zero room = []
+sessionsOf (suc n) room = sessionAt room ∷ sessionsOf n (drop 87 room)
+
+-- "Each sender 0 to 253 has a session of its own."
+abbrev pub sessionsIn : List ℕ → List Session
+sessionsIn room = sessionsOf 254 room
+
+-- Sessions as bytes, one after the other.
+unfoldable pub roomOf : List Session → List ℕ
+roomOf [] = []
+roomOf (s ∷ ss) = sessionBytes s ++ roomOf ss
+
+-- Why an announcement opens no session: refusals 4, 5, 6 and 7 in their order, or 0.
+unfoldable pub announcementRefusal : List ℕ → ℕ
+announcementRefusal d =
+    cond (not (eqb (getD d 0 0) 32)) 4
+    (cond (not (sound d)) 5
+    (cond (not (eqb (number (part 5 3 d)) 65300)) 6
+    (cond (not (carries (sizeIn d))) 7 0)))

@@ -1,0 +1,247 @@
+// The sessions of all senders in bytes that a caller lends: a frame changes its sender's 87 bytes where they stand.
+ghost use mathlib.Core.Path.{_≡_};
+ghost use mathlib.Core.Bool.{true};
+ghost use mathlib.Core.List.{[], _∷_, _++_};
+ghost use Prim.Native.Nat.{_+_, _≤_};
+ghost use lib.ListN.{length, take, drop, replicate};
+ghost use lib.Seq.{sets};
+ghost use Rattle.joining.specs.Frame.{frameRefusal};
+ghost use Rattle.joining.specs.Joining.{fit, opened, finishes, announce, packet, take-frame};
+ghost use Rattle.joining.specs.Run.{sessionsAfter, answerTo};
+ghost use Rattle.joining.specs.Room.{sessionAt, sessionBytes, sessionsIn, roomOf, announcementRefusal};
+use crate::Answer;
+use crate::Bus;
+use crate::Frame;
+use crate::Session;
+
+impl Bus {
+    // The bytes of all sessions and of one: the payload's, then size, count and next packet.
+    pub const ROOM: usize = 22098;
+
+    pub const PLACE: usize = 87;
+
+    pub const SIZE: usize = 84;
+
+    pub const COUNT: usize = 85;
+
+    pub const NEXT: usize = 86;
+
+    // Takes a frame, as its sender's session does, and advances that session where it stands. Other bytes are not touched.
+    pub fn take(room: &mut [u8; 22098], id: u32, data: &[u8]) -> Answer
+        ensures { λ r. ⌜ r ≡ answerTo (sessionsIn (now (room .entry))) (record { identifier = id; data-bytes = now («data» .entry) }) ⌝ }
+        ensures { λ _. ⌜ now (room .exit) ≡ roomOf (sessionsAfter (sessionsIn (now (room .entry))) (record { identifier = id; data-bytes = now («data» .entry) })) ⌝ }
+    {
+        take_in(room, id, data)
+    }
+
+    // Stores the sessions' bytes, one session after the other.
+    pub fn fill(room: &mut [u8; 22098], sessions: [Session; 254])
+        ensures { λ _. ⌜ now (room .exit) ≡ roomOf sessions ⌝ }
+    {
+        fill_in(room, sessions);
+    }
+
+    // The sessions that stand in the bytes.
+    pub fn read(room: &[u8; 22098]) -> [Session; 254]
+        ensures { λ r. ⌜ r ≡ sessionsIn (now (room .entry)) ⌝ }
+    {
+        let none = Session::fresh();
+        let mut sessions = [none; 254];
+        let mut k = 0;
+        while k < Bus::SENDERS {
+            let session = session_at(room, Bus::PLACE * k);
+            sessions[k] = session;
+            k += 1;
+        }
+        sessions
+    }
+}
+
+// `Bus::take` on a part of that length.
+fn take_in(room: &mut [u8], id: u32, data: &[u8]) -> Answer
+    requires { ⌜ length (now room) ≡ 22098 ⌝ }
+    ensures { λ r. ⌜ r ≡ answerTo (sessionsIn (now (room .entry))) (record { identifier = id; data-bytes = now («data» .entry) }) ⌝ }
+    ensures { λ _. ⌜ now (room .exit) ≡ roomOf (sessionsAfter (sessionsIn (now (room .entry))) (record { identifier = id; data-bytes = now («data» .entry) })) ⌝ }
+{
+    let n = crate::frame_refusal(id, data);
+    if n != 0 {
+        return Answer::Refused(n);
+    }
+    advance_in(room, Bus::PLACE * ((id % 256) as usize), id, data)
+}
+
+// `Bus::fill` on a part of that length.
+fn fill_in(room: &mut [u8], sessions: [Session; 254])
+    requires { ⌜ length (now room) ≡ 22098 ⌝ }
+    ensures { λ _. ⌜ now (room .exit) ≡ roomOf sessions ⌝ }
+{
+    let mut k = 0;
+    while k < Bus::SENDERS {
+        let session = sessions[k];
+        put_session(room, Bus::PLACE * k, session);
+        k += 1;
+    }
+}
+
+// Takes a frame of the sender whose session stands in the 87 bytes from `at` on.
+fn advance_in(room: &mut [u8], at: usize, id: u32, data: &[u8]) -> Answer
+    requires { ⌜ (length (now room) ≡ 22098) × (at + 87 ≤ 22098) ⌝ }
+    requires { ⌜ frameRefusal id (now «data») ≡ 0 ⌝ }
+    ensures { λ r. ⌜ r ≡ take-frame (sessionAt (drop at (now (room .entry)))) id (now («data» .entry)) .answer ⌝ }
+    ensures { λ _. ⌜ now (room .exit) ≡ (take at (now (room .entry)) ++ sessionBytes (take-frame (sessionAt (drop at (now (room .entry)))) id (now («data» .entry)) .session)) ++ drop (at + 87) (now (room .entry)) ⌝ }
+{
+    let end = at + Bus::PLACE;
+    advance_at(&mut room[at..end], id, data)
+}
+
+// Stores a session from `at` on.
+fn put_session(room: &mut [u8], at: usize, s: Session)
+    requires { ⌜ (length (now room) ≡ 22098) × (at + 87 ≤ 22098) ⌝ }
+    ensures { λ _. ⌜ (now (room .exit) ≡ sets (now (room .entry)) at (sessionBytes s)) × (length (s .bytes) ≡ 84) ⌝ }
+{
+    let bytes = s.bytes;
+    wire::put_all(room, at, &bytes);
+    room[at + Bus::SIZE] = s.size;
+    room[at + Bus::COUNT] = s.count;
+    room[at + Bus::NEXT] = s.next;
+}
+
+// The session that stands in the 87 bytes from `at` on.
+fn session_at(room: &[u8], at: usize) -> Session
+    requires { ⌜ (length (now room) ≡ 22098) × (at + 87 ≤ 22098) ⌝ }
+    ensures { λ r. ⌜ r ≡ sessionAt (drop at (now (room .entry))) ⌝ }
+{
+    let mut bytes = [255u8; 84];
+    let end = at + Bus::SIZE;
+    wire::put_all(&mut bytes, 0, &room[at..end]);
+    Session {
+        bytes,
+        size: room[at + Bus::SIZE],
+        count: room[at + Bus::COUNT],
+        next: room[at + Bus::NEXT],
+    }
+}
+
+// Takes a frame of the sender whose session stands in `place`.
+fn advance_at(place: &mut [u8], id: u32, data: &[u8]) -> Answer
+    requires { ⌜ length (now place) ≡ 87 ⌝ }
+    requires { ⌜ frameRefusal id (now «data») ≡ 0 ⌝ }
+    ensures { λ r. ⌜ r ≡ take-frame (sessionAt (now (place .entry))) id (now («data» .entry)) .answer ⌝ }
+    ensures { λ _. ⌜ now (place .exit) ≡ sessionBytes (take-frame (sessionAt (now (place .entry))) id (now («data» .entry)) .session) ⌝ }
+{
+    if !crate::numbers_fit(place[Bus::SIZE], place[Bus::COUNT], place[Bus::NEXT]) {
+        return Answer::Refused(Session::UNFIT);
+    }
+    if id / 65536 % 256 == Frame::ANNOUNCEMENT {
+        announced_at(place, data)
+    } else {
+        packet_at(place, data)
+    }
+}
+
+// Stores a session's three numbers.
+fn put_numbers(place: &mut [u8], size: u8, count: u8, next: u8)
+    requires { ⌜ length (now place) ≡ 87 ⌝ }
+    ensures { λ _. ⌜ now (place .exit) ≡ take 84 (now (place .entry)) ++ (size ∷ count ∷ next ∷ []) ⌝ }
+{
+    place[Bus::SIZE] = size;
+    place[Bus::COUNT] = count;
+    place[Bus::NEXT] = next;
+}
+
+// An announcement of the session's sender.
+fn announced_at(place: &mut [u8], data: &[u8]) -> Answer
+    requires { ⌜ length (now place) ≡ 87 ⌝ }
+    ensures { λ r. ⌜ r ≡ announce (sessionAt (now (place .entry))) (now («data» .entry)) .answer ⌝ }
+    ensures { λ _. ⌜ now (place .exit) ≡ sessionBytes (announce (sessionAt (now (place .entry))) (now («data» .entry)) .session) ⌝ }
+{
+    let n = announcement_refusal(data);
+    if n == 0 {
+        open_at(place, wire::read16(data, 1));
+        return Answer::Kept;
+    }
+    if n != Session::NOT_AN_ANNOUNCEMENT {
+        put_numbers(place, 0, 0, 0);
+    }
+    Answer::Refused(n)
+}
+
+// Why an announcement opens no session, or 0.
+fn announcement_refusal(data: &[u8]) -> u8
+    ensures { λ r. ⌜ r ≡ announcementRefusal (now («data» .entry)) ⌝ }
+{
+    if wire::byte(data, 0) != Session::BROADCAST {
+        return Session::NOT_AN_ANNOUNCEMENT;
+    }
+    if !crate::sound(data) {
+        return Session::BAD_SIZE;
+    }
+    if wire::read24(data, 5) != Session::GROUP {
+        return Session::OTHER_GROUP;
+    }
+    if !crate::carries(wire::read16(data, 1)) {
+        return Session::OTHER_SIZE;
+    }
+    0
+}
+
+// Opens the session for a payload of this size, replacing what was under way.
+fn open_at(place: &mut [u8], size: u16)
+    requires { ⌜ length (now place) ≡ 87 ⌝ }
+    requires { ⌜ size ≤ 84 ⌝ }
+    ensures { λ _. ⌜ now (place .exit) ≡ sessionBytes (opened size) ⌝ }
+{
+    clear(place);
+    put_numbers(place, size as u8, crate::packets(size) as u8, 1);
+}
+
+// Sets the payload bytes to 255.
+fn clear(place: &mut [u8])
+    requires { ⌜ length (now place) ≡ 87 ⌝ }
+    ensures { λ _. ⌜ take 84 (now (place .exit)) ≡ replicate 84 255 ⌝ }
+{
+    let mut i = 0;
+    while i < Bus::SIZE {
+        place[i] = 255;
+        i += 1;
+    }
+}
+
+// A data packet of the session's sender.
+fn packet_at(place: &mut [u8], data: &[u8]) -> Answer
+    requires { ⌜ length (now place) ≡ 87 ⌝ }
+    requires { ⌜ fit (sessionAt (now place)) ≡ true ⌝ }
+    requires { ⌜ length (now «data») ≡ 8 ⌝ }
+    ensures { λ r. ⌜ r ≡ packet (sessionAt (now (place .entry))) (now («data» .entry)) .answer ⌝ }
+    ensures { λ _. ⌜ now (place .exit) ≡ sessionBytes (packet (sessionAt (now (place .entry))) (now («data» .entry)) .session) ⌝ }
+{
+    let size = place[Bus::SIZE];
+    let count = place[Bus::COUNT];
+    let next = place[Bus::NEXT];
+    if size == 0 {
+        return Answer::Refused(Session::NOT_OPEN);
+    }
+    if wire::byte(data, 0) != next {
+        put_numbers(place, 0, 0, 0);
+        return Answer::Refused(Session::OUT_OF_SEQUENCE);
+    }
+    crate::store(place, size, next, data);
+    if next < count {
+        put_numbers(place, size, count, next + 1);
+        return Answer::Kept;
+    }
+    finish_at(place, size)
+}
+
+// What the last packet answers; it closes the session.
+fn finish_at(place: &mut [u8], size: u8) -> Answer
+    requires { ⌜ length (now place) ≡ 87 ⌝ }
+    requires { ⌜ size ≤ 84 ⌝ }
+    ensures { λ r. ⌜ r ≡ finishes (take 84 (now (place .entry))) size .answer ⌝ }
+    ensures { λ _. ⌜ now (place .exit) ≡ sessionBytes (finishes (take 84 (now (place .entry))) size .session) ⌝ }
+{
+    let end = size as usize;
+    let answer = crate::answered(&place[..end]);
+    put_numbers(place, 0, 0, 0);
+    answer
+}
