@@ -17,3 +17,4 @@ pub mod BenchOutcomes
 pub mod HeldPayload
 pub mod Places
 pub mod Placed
+pub mod Rooms

@@ -23,6 +23,12 @@ use Rattle.joining.proofs.bus.Bus.fresh.Kinds as bus-fresh-kinds
 use Rattle.joining.proofs.bus.Bus.fresh.Reads as bus-fresh-reads
 use Rattle.joining.proofs.bus.Bus.hear.Kinds as hear-kinds
 use Rattle.joining.proofs.bus.Bus.hear.Reads as hear-reads
+use Rattle.joining.proofs.bus.Bus.take.Kinds as take-kinds
+use Rattle.joining.proofs.bus.Bus.take.Reads as take-reads
+use Rattle.joining.proofs.bus.Bus.fill.Kinds as fill-kinds
+use Rattle.joining.proofs.bus.Bus.fill.Reads as fill-reads
+use Rattle.joining.proofs.bus.Bus.read.Kinds as read-kinds
+use Rattle.joining.proofs.bus.Bus.read.Reads as read-reads
 
 sender-once : OneAnswer 1 sender-kinds.ps sender-kinds.r sender-reads.Post
 sender-once κs a x y s t p q = p ∙ sym q
@@ -53,3 +59,15 @@ hear-leaves-once κs a x y s t p q =
     p .1 .1
     ∙ ap (λ (n : ℕ). sets (now (a .1 .1 .0)) 0 (allBytes (answersAt (a .0 .sessions) (framesIn n (now (a .1 .0)))))) (p .0 ∙ sym (q .0))
     ∙ sym (q .1 .1)
+
+take-once : OneAnswer 2 take-kinds.ps take-kinds.r take-reads.Post
+take-once κs a x y s t p q = p .0 ∙ sym (q .0)
+
+take-leaves-once : OneLeft 2 take-kinds.ps take-kinds.r take-reads.Post (List ℕ) (λ κs s. now (s .0))
+take-leaves-once κs a x y s t p q = p .1 ∙ sym (q .1)
+
+fill-leaves-once : OneLeft 1 fill-kinds.ps fill-kinds.r fill-reads.Post (List ℕ) (λ κs s. now (s .0))
+fill-leaves-once κs a x y s t p q = p ∙ sym q
+
+read-once : OneAnswer 1 read-kinds.ps read-kinds.r read-reads.Post
+read-once κs a x y s t p q = p ∙ sym q

@@ -18,7 +18,7 @@ use Rattle.joining.specs.Frame.{Frame, senderOf, frameRefusal, isAnnounc
 use Rattle.joining.specs.Joining.{carries, sizeIn, sound, isClosed, isOpen, fit, opened, closed, place, stored, advanced, finishes, refused, announce, packet, take-frame}
 use Rattle.joining.specs.Run.{nobody, sessionsAfter, answerTo}
 use Rattle.joining.specs.Room.{sessionAt, sessionBytes, sessionsOf, sessionsIn, roomOf, announcementRefusal}
-use Rattle.joining.proofs.Fitness.{Open, open-numbers, fit-other}
+use Rattle.joining.proofs.Fitness.{Open}
 use Rattle.joining.proofs.Frames.{sound-frame}
 use Rattle.joining.proofs.Places.{take-sets, session-of, put-session, room-of-sessions}
 
@@ -82,9 +82,6 @@ module _ (s : Session) (d : List ℕ) where
   pub none-open : s .size ≡ 0 → packet s d ≡ refused 8 s
   unfolding packet
   none-open e = rw (eq-eqb _ _ e)
-
-  pub opened-by : fit s ≡ true → (s .size ≡ 0 → ⊥) → Open s
-  opened-by f o = open-numbers s (sym (fit-other s o) ∙ f)
 
   module _ (o : s .size ≡ 0 → ⊥) {b : ℕ} (e : b ≡ getD d 0 0) where
     pub stray : (b ≡ s .next → ⊥) → packet s d ≡ refused 9 (closed s)

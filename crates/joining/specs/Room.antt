@@ -6,7 +6,9 @@ use lib.ListN.{getD, take, drop}
 use lib.Dec.{eqb}
 use Rattle.wire.specs.Bytes.{number, part}
 use Rattle.joining.specs.declared.Session.{Session}
+use Rattle.joining.specs.Frame.{Frame}
 use Rattle.joining.specs.Joining.{sizeIn, sound, carries}
+use Rattle.joining.specs.Run.{sessionsAfter}
 
 -- A session as 87 bytes: its 84 payload bytes, then size, count and next packet.
 abbrev pub sessionBytes : Session → List ℕ
@@ -33,6 +35,11 @@ sessionsIn room = sessionsOf 254 room
 unfoldable pub roomOf : List Session → List ℕ
 roomOf [] = []
 roomOf (s ∷ ss) = sessionBytes s ++ roomOf ss
+
+-- The room that a run of frames leaves, taken one after the other.
+unfoldable pub roomAt : List ℕ → List Frame → List ℕ
+roomAt room [] = room
+roomAt room (f ∷ fs) = roomAt (roomOf (sessionsAfter (sessionsIn room) f)) fs
 
 -- Why an announcement opens no session: refusals 4, 5, 6 and 7 in their order, or 0.
 unfoldable pub announcementRefusal : List ℕ → ℕ

@@ -6,7 +6,7 @@ ghost use Prim.Native.Nat.{_+_, _≤_};
 ghost use lib.ListN.{length, take, drop, replicate};
 ghost use lib.Seq.{sets};
 ghost use Rattle.joining.specs.Frame.{frameRefusal};
-ghost use Rattle.joining.specs.Joining.{fit, opened, finishes, announce, packet, take-frame};
+ghost use Rattle.joining.specs.Joining.{fit, closed, opened, finishes, announce, packet, take-frame};
 ghost use Rattle.joining.specs.Run.{sessionsAfter, answerTo};
 ghost use Rattle.joining.specs.Room.{sessionAt, sessionBytes, sessionsIn, roomOf, announcementRefusal};
 use crate::Answer;
@@ -149,6 +149,14 @@ fn put_numbers(place: &mut [u8], size: u8, count: u8, next: u8)
     place[Bus::NEXT] = next;
 }
 
+// Closes the session; its payload bytes stay.
+fn close_at(place: &mut [u8])
+    requires { ⌜ length (now place) ≡ 87 ⌝ }
+    ensures { λ _. ⌜ now (place .exit) ≡ sessionBytes (closed (sessionAt (now (place .entry)))) ⌝ }
+{
+    put_numbers(place, 0, 0, 0);
+}
+
 // An announcement of the session's sender.
 fn announced_at(place: &mut [u8], data: &[u8]) -> Answer
     requires { ⌜ length (now place) ≡ 87 ⌝ }
@@ -161,7 +169,7 @@ fn announced_at(place: &mut [u8], data: &[u8]) -> Answer
         return Answer::Kept;
     }
     if n != Session::NOT_AN_ANNOUNCEMENT {
-        put_numbers(place, 0, 0, 0);
+        close_at(place);
     }
     Answer::Refused(n)
 }
@@ -222,7 +230,7 @@ fn packet_at(place: &mut [u8], data: &[u8]) -> Answer
         return Answer::Refused(Session::NOT_OPEN);
     }
     if wire::byte(data, 0) != next {
-        put_numbers(place, 0, 0, 0);
+        close_at(place);
         return Answer::Refused(Session::OUT_OF_SEQUENCE);
     }
     crate::store(place, size, next, data);
@@ -242,6 +250,6 @@ fn finish_at(place: &mut [u8], size: u8) -> Answer
 {
     let end = size as usize;
     let answer = crate::answered(&place[..end]);
-    put_numbers(place, 0, 0, 0);
+    close_at(place);
     answer
 }

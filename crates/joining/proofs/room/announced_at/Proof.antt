@@ -32,8 +32,8 @@ returns c =
     let e = sym (c .before .before .before .before .before .before .announcement-refusal .ensures) ∙ c .before .before .before .before .before .if1 .taken in
     step (opens (sessionAt (now (c .before .before .before .before .before .before .before .before .before .args .place))) (now (c .before .before .before .before .before .before .before .before .before .args .«data»)) e .0) refl (c .before .before .open-at .ensures ∙ ap (λ (n : ℕ). sessionBytes (opened n)) (c .before .before .before .read16 .ensures))
 
-put-numbers-requires : tie.Need-put-numbers-requires
-put-numbers-requires c κs = search needs
+close-at-requires : tie.Need-close-at-requires
+close-at-requires c κs = search needs
 
 same-length-2 : tie.Need-same-length-2
 same-length-2 c = search needs
@@ -41,7 +41,7 @@ same-length-2 c = search needs
 returns-2 : tie.Need-returns-2
 returns-2 c =
     let e = c .before .before .before .before .before .before .announcement-refusal .ensures in
-    step (closes (sessionAt (now (c .before .before .before .before .before .before .before .before .before .args .place))) (now (c .before .before .before .before .before .before .before .before .before .args .«data»)) (λ z. c .before .before .before .before .before .if1 .left (e ∙ z)) (λ z. c .before .before .before .before .if2 .taken (e ∙ z))) (ap Refused e) (c .before .before .put-numbers .ensures)
+    step (closes (sessionAt (now (c .before .before .before .before .before .before .before .before .before .args .place))) (now (c .before .before .before .before .before .before .before .before .before .args .«data»)) (λ z. c .before .before .before .before .before .if1 .left (e ∙ z)) (λ z. c .before .before .before .before .if2 .taken (e ∙ z))) (ap Refused e) (c .before .before .close-at .ensures)
 
 returns-3 : tie.Need-returns-3
 returns-3 c =
@@ -57,7 +57,7 @@ announced-at-spec =
     open-at-requires
     same-length
     returns
-    put-numbers-requires
+    close-at-requires
     same-length-2
     returns-2
     returns-3)

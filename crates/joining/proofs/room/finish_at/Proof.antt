@@ -21,8 +21,8 @@ slice-aggregate-answered c = let s = c .before .before in sym (length-take-le (s
 answered-requires : tie.Need-answered-requires
 answered-requires c κs = search needs
 
-put-numbers-requires : tie.Need-put-numbers-requires
-put-numbers-requires c κs = search needs
+close-at-requires : tie.Need-close-at-requires
+close-at-requires c κs = search needs
 
 same-length : tie.Need-same-length
 same-length c = search needs
@@ -30,7 +30,7 @@ same-length c = search needs
 returns : tie.Need-returns
 returns c =
     let s = c .before .before .before .before .before .before .before in
-    (c .before .before .before .before .answered .ensures ∙ ap (λ (l : List ℕ). yields (readPayload l)) (sym (take-take (s .args .size) 84 (now (s .args .place)) (s .pre .1))), c .before .before .put-numbers .ensures)
+    (c .before .before .before .before .answered .ensures ∙ ap (λ (l : List ℕ). yields (readPayload l)) (sym (take-take (s .args .size) 84 (now (s .args .place)) (s .pre .1))), c .before .before .close-at .ensures)
 
 pub finish-at-spec : {M : Type 1} → statement M
 finish-at-spec =
@@ -39,6 +39,6 @@ finish-at-spec =
     slice-reshare-prefix-answered
     slice-aggregate-answered
     answered-requires
-    put-numbers-requires
+    close-at-requires
     same-length
     returns)

@@ -7,8 +7,9 @@ use Prim.Native.Nat.{ℕ, _+_}
 use native.Mathlib.Omega.{arith}
 use Rattle.joining.specs.Joining.{finishes}
 use Rattle.joining.specs.Room.{sessionAt, sessionBytes}
+use Rattle.joining.proofs.Reached.{fit-open}
 use Rattle.joining.proofs.Places.{whole}
-use Rattle.joining.proofs.Placed.{step, none-open, opened-by, stray, kept, last, due, stored-at, stored-long}
+use Rattle.joining.proofs.Placed.{step, none-open, stray, kept, last, due, stored-at, stored-long}
 use borrow.Author.Needs.{needs}
 use Rattle.joining.proofs.room.packet_at.Statement.{statement}
 use Rattle.joining.proofs.room.packet_at.Tie as tie
@@ -32,8 +33,8 @@ returns c =
 byte-requires : tie.Need-byte-requires
 byte-requires c κs = search needs
 
-put-numbers-requires : tie.Need-put-numbers-requires
-put-numbers-requires c κs = search needs
+close-at-requires : tie.Need-close-at-requires
+close-at-requires c κs = search needs
 
 same-length : tie.Need-same-length
 same-length c = search needs
@@ -43,14 +44,14 @@ returns-2 c =
     let s = c .before .before .before .before .before .before .before .before .before .before .before .before in
     let p = now (s .args .place) in
     let d = now (s .args .«data») in
-    step (stray (sessionAt p) d (c .before .before .before .before .before .before .if1 .left) (c .before .before .before .before .before .byte .ensures) (c .before .before .before .before .if2 .taken)) refl (c .before .before .put-numbers .ensures)
+    step (stray (sessionAt p) d (c .before .before .before .before .before .before .if1 .left) (c .before .before .before .before .before .byte .ensures) (c .before .before .before .before .if2 .taken)) refl (c .before .before .close-at .ensures)
 
 store-requires : tie.Need-store-requires
 store-requires c κs =
     let s = c .before .before .before .before .before .before .before .before .before in
     let p = now (s .args .place) in
     let d = now (s .args .«data») in
-    let o = opened-by (sessionAt p) d (s .pre .1 .0) (c .before .before .before .if1 .left) in
+    let o = fit-open (sessionAt p) (s .pre .1 .0) (c .before .before .before .if1 .left) in
     ((o .first, due (sessionAt p) o), s .pre .1 .1)
 
 add-put-numbers : tie.Need-add-put-numbers
@@ -58,11 +59,11 @@ add-put-numbers c =
     let s = c .before .before .before .before .before .before .before .before .before .before .before .before .before .before in
     let p = now (s .args .place) in
     let d = now (s .args .«data») in
-    let o = opened-by (sessionAt p) d (s .pre .1 .0) (c .before .before .before .before .before .before .before .before .if1 .left) in
+    let o = fit-open (sessionAt p) (s .pre .1 .0) (c .before .before .before .before .before .before .before .before .if1 .left) in
     omega (arith, o .last, o .count, o .high)
 
-put-numbers-requires-2 : tie.Need-put-numbers-requires-2
-put-numbers-requires-2 c κs = search needs
+put-numbers-requires : tie.Need-put-numbers-requires
+put-numbers-requires c κs = search needs
 
 same-length-2 : tie.Need-same-length-2
 same-length-2 c = search needs
@@ -72,19 +73,19 @@ returns-3 c =
     let s = c .before .before .before .before .before .before .before .before .before .before .before .before .before .before .before .before .before in
     let p = now (s .args .place) in
     let d = now (s .args .«data») in
-    let o = opened-by (sessionAt p) d (s .pre .1 .0) (c .before .before .before .before .before .before .before .before .before .before .before .if1 .left) in
+    let o = fit-open (sessionAt p) (s .pre .1 .0) (c .before .before .before .before .before .before .before .before .before .before .before .if1 .left) in
     let numbers : List ℕ = sessionAt p .size ∷ sessionAt p .count ∷ (sessionAt p .next + 1) ∷ [] in
     step
     (kept (sessionAt p) d (c .before .before .before .before .before .before .before .before .before .before .before .if1 .left) (c .before .before .before .before .before .before .before .before .before .before .byte .ensures) (c .before .before .before .before .before .before .before .before .before .if2 .left) (c .before .before .before .before .if3 .taken))
     refl
-    (c .before .before .put-numbers2 .ensures ∙ ap (λ (l : List ℕ). l ++ numbers) (stored-at p d o (c .before .before .before .before .before .before .before .store .ensures)))
+    (c .before .before .put-numbers .ensures ∙ ap (λ (l : List ℕ). l ++ numbers) (stored-at p d o (c .before .before .before .before .before .before .before .store .ensures)))
 
 finish-at-requires : tie.Need-finish-at-requires
 finish-at-requires c κs =
     let s = c .before .before .before .before .before .before .before .before .before .before .before .before .before .before in
     let p = now (s .args .place) in
     let d = now (s .args .«data») in
-    let o = opened-by (sessionAt p) d (s .pre .1 .0) (c .before .before .before .before .before .before .before .before .if1 .left) in
+    let o = fit-open (sessionAt p) (s .pre .1 .0) (c .before .before .before .before .before .before .before .before .if1 .left) in
     (stored-long p d (s .pre .0) (c .before .before .before .before .store .ensures), o .high)
 
 same-length-3 : tie.Need-same-length-3
@@ -95,7 +96,7 @@ returns-4 c =
     let s = c .before .before .before .before .before .before .before .before .before .before .before .before .before .before .before .before .before in
     let p = now (s .args .place) in
     let d = now (s .args .«data») in
-    let o = opened-by (sessionAt p) d (s .pre .1 .0) (c .before .before .before .before .before .before .before .before .before .before .before .if1 .left) in
+    let o = fit-open (sessionAt p) (s .pre .1 .0) (c .before .before .before .before .before .before .before .before .before .before .before .if1 .left) in
     let bytes = stored-at p d o (c .before .before .before .before .before .before .before .store .ensures) in
     step
     (last (sessionAt p) d (c .before .before .before .before .before .before .before .before .before .before .before .if1 .left) (c .before .before .before .before .before .before .before .before .before .before .byte .ensures) (c .before .before .before .before .before .before .before .before .before .if2 .left) (c .before .before .before .before .if3 .left))
@@ -111,12 +112,12 @@ packet-at-spec =
     slice-read-next
     returns
     byte-requires
-    put-numbers-requires
+    close-at-requires
     same-length
     returns-2
     store-requires
     add-put-numbers
-    put-numbers-requires-2
+    put-numbers-requires
     same-length-2
     returns-3
     finish-at-requires
