@@ -67,7 +67,7 @@ take-leaves-once : OneLeft 2 take-kinds.ps take-kinds.r take-reads.Post (List �
 take-leaves-once κs a x y s t p q = p .1 ∙ sym (q .1)
 
 fill-leaves-once : OneLeft 1 fill-kinds.ps fill-kinds.r fill-reads.Post (List ℕ) (λ κs s. now (s .0))
-fill-leaves-once κs a x y s t p q = p ∙ sym q
+fill-leaves-once κs a x y s t p q = p .0 ∙ sym (q .0)
 
 read-once : OneAnswer 1 read-kinds.ps read-kinds.r read-reads.Post
 read-once κs a x y s t p q = p ∙ sym q

@@ -1,6 +1,6 @@
 -- A room that frames are taken in is that of the sessions which the rules lead to: every session keeps its 84 bytes, so that its place can be read back.
 -- Assumes nothing.
-use mathlib.Core.Path.{_≡_, refl, sym, _∙_, ap}
+use mathlib.Core.Path.{_≡_, refl, sym, _∙_, ap, subst}
 use mathlib.Core.Bool.{Bool, true, false, cond, not, false≢true}
 use mathlib.Core.List.{List, [], _∷_, _++_}
 use Prim.Native.Nat.{ℕ, zero, suc, _+_, _*_, _-_, _≤_, _<_}
@@ -52,6 +52,17 @@ sized-get : (ss : List Session) (k : ℕ) → Sized ss → k < length ss → len
 sized-get [] k h l = absurd (omega (arith, l))
 sized-get (s ∷ ss) zero h l = h .0
 sized-get (s ∷ ss) (suc k) h l = sized-get ss k (h .1) (omega arith)
+
+pub sized-more : (k : ℕ) (ss : List Session) → k < length ss → Sized (take k ss) → length (getD ss k nobody .bytes) ≡ 84 → Sized (take (k + 1) ss)
+sized-more k [] h z l = absurd (omega (arith, h))
+sized-more zero (s ∷ ss) h z l = (l, none ss)
+  where
+    none : (r : List Session) → Sized (take 0 r)
+    none [] = tt
+    none (x ∷ r) = tt
+sized-more (suc k) (s ∷ ss) h z l =
+    let on : suc k + 1 ≡ suc (k + 1) = omega arith in
+    subst (λ (n : ℕ). Sized (take n (s ∷ ss))) (sym on) (z .0, sized-more k ss (omega arith) (z .1) l)
 
 sized-set : (ss : List Session) (k : ℕ) (s : Session) → Sized ss → length (s .bytes) ≡ 84 → Sized (set ss k s)
 sized-set [] k s h l = tt

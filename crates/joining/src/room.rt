@@ -34,9 +34,10 @@ impl Bus {
         take_in(room, id, data)
     }
 
-    // Stores the sessions' bytes, one session after the other.
+    // Stores the sessions' bytes, one session after the other, so that they stand there.
     pub fn fill(room: &mut [u8; 22098], sessions: [Session; 254])
         ensures { λ _. ⌜ now (room .exit) ≡ roomOf sessions ⌝ }
+        ensures { λ _. ⌜ (sessionsIn (now (room .exit)) ≡ sessions) × (length (now (room .exit)) ≡ 22098) ⌝ }
     {
         fill_in(room, sessions);
     }
@@ -74,6 +75,7 @@ fn take_in(room: &mut [u8], id: u32, data: &[u8]) -> Answer
 fn fill_in(room: &mut [u8], sessions: [Session; 254])
     requires { ⌜ length (now room) ≡ 22098 ⌝ }
     ensures { λ _. ⌜ now (room .exit) ≡ roomOf sessions ⌝ }
+    ensures { λ _. ⌜ (sessionsIn (now (room .exit)) ≡ sessions) × (length (now (room .exit)) ≡ 22098) ⌝ }
 {
     let mut k = 0;
     while k < Bus::SENDERS {

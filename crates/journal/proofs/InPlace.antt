@@ -20,9 +20,10 @@ use Rattle.window.proofs.Fitness.{size-range}
 use Rattle.question.specs.declared.Question.{Question}
 use Rattle.question.specs.declared.Searched.{Searched}
 use Rattle.ranking.specs.Cells.{score}
-use Rattle.question.specs.Lines.{searchedOn}
+use Rattle.question.specs.Lines.{searchedFirst, rowsOf}
 use Rattle.question.specs.Inner.{shown}
 use Rattle.question.proofs.Stored.{no-lines}
+use Rattle.question.proofs.Finding.{searched-rows, searched-arrays}
 use Rattle.question.proofs.Taking.{if-so, if-not}
 use Rattle.board.specs.declared.Board.{Board}
 use Rattle.board.specs.Work.{noQuestion, slotRefusal, readWork, takes, listed, lists, refreshed, outgoing, entering, isSearched, enterRefusal, enterWork, arrival}
@@ -30,9 +31,8 @@ use Rattle.board.proofs.Refusals.{zero-is, zero-not, enterable}
 use Rattle.board.proofs.Listing.{listed-not, takes-no-place, place-none}
 use Rattle.board.proofs.Filling.{Filled, filled-more, filled-all, refreshed-searched, refreshed-kept}
 use Rattle.wire.proofs.Fields.{length-part}
-use Rattle.joining.specs.Joining.{take-frame}
-use Rattle.joining.specs.Run.{nobody}
-use Rattle.joining.specs.declared.Taken.{Taken}
+use Rattle.joining.specs.Frame.{Frame}
+use Rattle.joining.specs.Run.{sessionsAfter, answerTo}
 use Rattle.joining.specs.declared.Answer.{Answer}
 use Rattle.joining.specs.declared.Answer.the-variants.{Refused, Kept, Complete}
 use Rattle.text.specs.Text.{rLine, qLine, sLine}
@@ -41,9 +41,8 @@ use Rattle.journal.specs.declared.Log.{Log}
 use Rattle.joining.specs.declared.Session.{Session}
 use Rattle.journal.specs.declared.machine.Brought.{Brought}
 use Rattle.journal.specs.declared.machine.Waiting.{Waiting}
-use Rattle.journal.specs.Log.{Outcome, nextItem, counted, withBoard, refused, quiet, unless, known, itemRefusal, showItem, sLines, enterItem, answered, frameItem, byTag, itemDone}
+use Rattle.journal.specs.Log.{Outcome, nextItem, counted, withBoard, refused, quiet, unless, known, itemRefusal, showItem, sLines, enterItem, answered, frameIn, frameItem, byTag, itemDone}
 use Rattle.journal.specs.Inner.{itemComes, shownText, brought}
-use Rattle.journal.proofs.Frames.{heard}
 use Rattle.journal.proofs.Coming.{part-part}
 use Rattle.journal.proofs.Searches.{lines-more, lines-none}
 
@@ -243,10 +242,10 @@ module _ (number gone loss shake : ℕ) (window : Window) where
           turning-more v false 0 small (sym (ap (λ r. r .question) is)) (sym (ap (λ p. lists p gone) (sym (turn-is e)) ∙ f)) (sym (ap (λ r. r .steps) is)) (none out at fits)
 
       -- The list has the report that leaves, and is searched afresh.
-      pub turning-searched : {v : Question} {found : Searched} {next : ℕ} {left : List ℕ} → v ≡ with (getD slots n noQuestion) → lists v gone ≡ true → found ≡ searchedOn v window → length out₀ < 2 ^ 64
+      pub turning-searched : {v : Question} {found : Searched} {next : ℕ} {left : List ℕ} → v ≡ with (getD slots n noQuestion) → lists v gone ≡ true → found ≡ searchedFirst v (rowsOf (window .losses) (window .shakes) (window .numbers)) 1024 → length out₀ < 2 ^ 64
           → Put out at (sLine items n (found .steps)) next left → Turning (n + 1) (set slots n (found .question)) next left
       turning-searched {v} {found} e f s small p =
-          let is = s ∙ sym (refreshed-searched v gone window f) ∙ ap (λ q. refreshed q gone window) (turn-is e) in
+          let is = s ∙ searched-rows v (rowsOf (window .losses) (window .shakes) (window .numbers)) 1024 refl ∙ searched-arrays v window ∙ sym (refreshed-searched v gone window f) ∙ ap (λ q. refreshed q gone window) (turn-is e) in
           turning-more (found .question) true (found .steps) small (ap (λ r. r .question) is) (sym (ap (λ q. lists q gone) (sym (turn-is e)) ∙ f)) (ap (λ r. r .steps) is) p
 
       -- A slot with no k and no lines stays.
@@ -277,10 +276,11 @@ entered-done log a some {window} {slots} {n} {at₀} {at} {out₀} {out} grown a
     e .is ∙ enter-so log (b .loss) (b .shake) (e .free)
     ∙ sym (λ i. record { text = cond (e .silent i) (rLine (log .items) (b .code)) [] ++ sLines (log .items) 0 (again-are i) (steps-are i); log = withBoard log (record { window = grown i; slots = slots-are i }) })
 
--- The slots and what waits have their lengths.
-pub record Sizes (slots : List Question) (next : Waiting) : Type 0 where
+-- The slots, what waits and the sessions' bytes have their lengths.
+pub record Sizes (slots : List Question) (next : Waiting) (room : List ℕ) : Type 0 where
   pub all-slots : length slots ≡ 32
   pub bytes : length (next .bytes) ≡ 15
+  pub bus : length room ≡ 22098
 
 -- ---- a whole frame
 
@@ -291,14 +291,14 @@ row-fits w window {p} q =
     let row = ap (λ (r : Place). r .row) (q ∙ if-so _ _ window) in
     omega (arith, row, mod-lt (w .entered + 1 - 1) (range .0), range .1)
 
-module _ (log : Log) (piece : List ℕ) (i : ℕ) (window : sized (log .board .window .size) ≡ true) (there : i + 15 ≤ length piece) {id items : ℕ} {bytes : List ℕ} {taken : Taken}
-    (e-id : id ≡ number (part (i + 3) 4 piece)) (e-bytes : bytes ≡ part (i + 7) 8 piece) (sender : id % 256 < 254) (e-taken : taken ≡ take-frame (getD (log .sessions) (id % 256) nobody) id bytes)
-    (e-items : items ≡ nextItem (log .items)) where
+module _ (log : Log) (piece : List ℕ) (i : ℕ) (window : sized (log .board .window .size) ≡ true) (there : i + 15 ≤ length piece) {id items : ℕ} {bytes : List ℕ} {answer : Answer} {left : List Session}
+    (e-id : id ≡ number (part (i + 3) 4 piece)) (e-bytes : bytes ≡ part (i + 7) 8 piece) (e-answer : answer ≡ answerTo (log .sessions) (record { identifier = id; data-bytes = bytes }))
+    (e-left : left ≡ sessionsAfter (log .sessions) (record { identifier = id; data-bytes = bytes })) (e-items : items ≡ nextItem (log .items)) where
   abbrev value : List ℕ
   value = part (i + 3) 12 piece
 
   abbrev pub after : Log
-  after = record { items = items; board = log .board; sessions = set (log .sessions) (id % 256) (taken .session) }
+  after = record { items = items; board = log .board; sessions = left }
 
   same-id : id ≡ number (part 0 4 value)
   same-id =
@@ -310,35 +310,37 @@ module _ (log : Log) (piece : List ℕ) (i : ℕ) (window : sized (log .board .w
       let at : i + 3 + 4 ≡ i + 7 = omega arith in
       e-bytes ∙ sym (part-part 4 8 (i + 3) 12 piece (omega arith) ∙ ap (λ (k : ℕ). part k 8 piece) at)
 
-  frame-done : itemDone log 18 value ≡ answered after (taken .answer)
+  frame-done : itemDone log 18 value ≡ answered after answer
+  unfolding frameItem
   frame-done =
-      let is = e-taken ∙ (λ j. take-frame (getD (log .sessions) (same-id j % 256) nobody) (same-id j) (same-bytes j)) in
+      let frame : _≡_ {A = Frame} (record { identifier = id; data-bytes = bytes }) (frameIn value) = λ j. record { identifier = same-id j; data-bytes = same-bytes j } in
+      let answers = e-answer ∙ ap (answerTo (log .sessions)) frame in
+      let leaves = e-left ∙ ap (sessionsAfter (log .sessions)) frame in
       frame-known log window value (length-part piece (i + 3) 12 (omega arith))
-      ∙ sym (heard (counted log) value (subst (λ (n : ℕ). n % 256 < 254) same-id sender))
-      ∙ sym (λ j. answered (record { items = e-items j; board = log .board; sessions = set (log .sessions) (same-id j % 256) (is j .session) }) (is j .answer))
+      ∙ sym (λ j. answered (record { items = e-items j; board = log .board; sessions = leaves j }) (answers j))
 
-  pub frame-none : {b : Brought} → b ≡ gives log (taken .answer) → b .number ≡ 0 → itemDone log 18 value ≡ record { text = cond (b .refused) (rLine items (b .code)) []; log = after }
+  pub frame-none : {b : Brought} → b ≡ gives log answer → b .number ≡ 0 → itemDone log 18 value ≡ record { text = cond (b .refused) (rLine items (b .code)) []; log = after }
   frame-none e z =
-      frame-done ∙ brought-none after (taken .answer) (sym (ap (λ (g : Brought). g .number) e) ∙ z)
+      frame-done ∙ brought-none after answer (sym (ap (λ (g : Brought). g .number) e) ∙ z)
       ∙ sym (ap (λ (g : Brought). record { text = cond (g .refused) (rLine items (g .code)) []; log = after }) e)
 
-  pub frame-enters : {b : Brought} → b ≡ gives log (taken .answer) → (b .number ≡ 0 → ⊥) → {new : Window} {slots : List Question} {n at₀ at : ℕ} {out₀ out : List ℕ} → new ≡ added (log .board .window) (b .loss) (b .shake)
+  pub frame-enters : {b : Brought} → b ≡ gives log answer → (b .number ≡ 0 → ⊥) → {new : Window} {slots : List Question} {n at₀ at : ℕ} {out₀ out : List ℕ} → new ≡ added (log .board .window) (b .loss) (b .shake)
       → length (log .board .slots) ≤ n → Turning (b .number) (b .oldest) (b .loss) (b .shake) new items (log .board .slots) out₀ at₀ n slots at out
-      → itemDone log 18 value ≡ record { text = cond (b .refused) (rLine items (b .code)) [] ++ told (b .number) (b .oldest) (b .loss) (b .shake) new items (log .board .slots) out₀ at₀ n; log = record { items = items; board = record { window = new; slots = slots }; sessions = set (log .sessions) (id % 256) (taken .session) } }
+      → itemDone log 18 value ≡ record { text = cond (b .refused) (rLine items (b .code)) [] ++ told (b .number) (b .oldest) (b .loss) (b .shake) new items (log .board .slots) out₀ at₀ n; log = record { items = items; board = record { window = new; slots = slots }; sessions = left } }
   frame-enters {b} e some {new} {slots} {n} {at₀} {at} {out₀} {out} grown all t =
       frame-done
       ∙ subst (λ (g : Brought). (g .number ≡ 0 → ⊥) → new ≡ added (log .board .window) (g .loss) (g .shake) → Turning (g .number) (g .oldest) (g .loss) (g .shake) new items (log .board .slots) out₀ at₀ n slots at out
-      → answered after (taken .answer) ≡ record { text = cond (g .refused) (rLine items (g .code)) [] ++ told (g .number) (g .oldest) (g .loss) (g .shake) new items (log .board .slots) out₀ at₀ n; log = record { items = items; board = record { window = new; slots = slots }; sessions = set (log .sessions) (id % 256) (taken .session) } })
-      (sym e) (λ m g u. entered-done after (taken .answer) m g all u) some grown t
+      → answered after answer ≡ record { text = cond (g .refused) (rLine items (g .code)) [] ++ told (g .number) (g .oldest) (g .loss) (g .shake) new items (log .board .slots) out₀ at₀ n; log = record { items = items; board = record { window = new; slots = slots }; sessions = left } })
+      (sym e) (λ m g u. entered-done after answer m g all u) some grown t
 
   -- The report's row takes it.
-  pub row-takes : {b : Brought} → b ≡ gives log (taken .answer) → (b .number ≡ 0 → ⊥) → {p : Place} → p ≡ placeFor (log .board .window .size) (log .board .window .entered) (log .board .window .held)
+  pub row-takes : {b : Brought} → b ≡ gives log answer → (b .number ≡ 0 → ⊥) → {p : Place} → p ≡ placeFor (log .board .window .size) (log .board .window .entered) (log .board .window .held)
       → record { losses = set (log .board .window .losses) (p .row) (b .loss); shakes = set (log .board .window .shakes) (p .row) (b .shake); numbers = set (log .board .window .numbers) (p .row) (b .number); size = log .board .window .size; entered = b .number; held = p .held } ≡ added (log .board .window) (b .loss) (b .shake)
   unfolding placeFor added
   row-takes {b} e some {p} q =
       let w = log .board .window in
-      let g = brought-some log (taken .answer) (λ z. some (ap (λ (h : Brought). h .number) e ∙ z)) in
-      let may = enterable (w .entered) (gives log (taken .answer) .loss) (gives log (taken .answer) .shake) (g .free) in
+      let g = brought-some log answer (λ z. some (ap (λ (h : Brought). h .number) e ∙ z)) in
+      let may = enterable (w .entered) (gives log answer .loss) (gives log answer .shake) (g .free) in
       let number = ap (λ (h : Brought). h .number) e ∙ g .next in
       let place = q ∙ if-so _ _ window in
       (λ j. record { losses = set (w .losses) (place j .row) (b .loss); shakes = set (w .shakes) (place j .row) (b .shake); numbers = set (w .numbers) (place j .row) (number j); size = w .size; entered = number j; held = place j .held })
@@ -366,8 +368,5 @@ show-facts have rows piece i e t =
     let both = and-both (itemComes have rows piece i 20 1) (ltb (getD piece (i + 3) 0) 32) (sym e ∙ t) in
     (comes (both .0), ltb-true (getD piece (i + 3) 0) 32 (both .1))
 
-pub frame-facts : (have rows : ℕ) (piece : List ℕ) (i : ℕ) {r : Bool} → r ≡ (itemComes have rows piece i 18 12 && ltb (number (part (i + 3) 4 piece) % 256) 254) → r ≡ true
-    → Comes have rows piece i 18 12 × (number (part (i + 3) 4 piece) % 256 < 254)
-frame-facts have rows piece i e t =
-    let both = and-both (itemComes have rows piece i 18 12) (ltb (number (part (i + 3) 4 piece) % 256) 254) (sym e ∙ t) in
-    (comes (both .0), ltb-true (number (part (i + 3) 4 piece) % 256) 254 (both .1))
+pub frame-facts : (have rows : ℕ) (piece : List ℕ) (i : ℕ) {r : Bool} → r ≡ itemComes have rows piece i 18 12 → r ≡ true → Comes have rows piece i 18 12
+frame-facts have rows piece i e t = comes (sym e ∙ t)

@@ -2,11 +2,10 @@
 ghost use mathlib.Core.Path.{_≡_};
 ghost use mathlib.Core.Bool.{cond, _&&_};
 ghost use mathlib.Core.List.{[]};
-ghost use Prim.Native.Nat.{_+_, _%_, min, _≤_};
+ghost use Prim.Native.Nat.{_+_, min, _≤_};
 ghost use lib.Dec.{ltb, eqb};
 ghost use lib.ListN.{length, getD, drop};
 ghost use lib.Seq.{sets};
-ghost use Rattle.wire.specs.Bytes.{number, part};
 ghost use Rattle.text.specs.Text.{behind, rLine};
 ghost use Rattle.journal.specs.Log.{Stores, itemDone};
 ghost use Rattle.journal.specs.Machine.{nothing, withByte, isWhole, valueEnd, valueIn, hasRoom, Feeds, endLine};
@@ -103,12 +102,14 @@ impl Log {
         let board = self.board;
         let mut window = board.window;
         let mut slots = board.slots;
-        let mut sessions = self.sessions;
+        let sessions = self.sessions;
+        let mut bus = [0u8; 22098];
+        Bus::fill(&mut bus, sessions);
         let mut next = waiting;
         let mut at: usize = 0;
         let mut i: usize = 0;
         while goes_on(piece.len(), i, out.len(), at) {
-            if !frame_comes(next.have, window.size, piece, i) {
+            if !item_comes(next.have, window.size, piece, i, Log::FRAME, Waiting::VALUE) {
                 if show_comes(next.have, window.size, piece, i) {
                     items = crate::next_item(items);
                     let shown = wire::byte(piece, i + 3);
@@ -126,10 +127,11 @@ impl Log {
                     continue;
                 }
                 let b = Board { window, slots };
+                let standing = Bus::read(&bus);
                 let log = Log {
                     items,
                     board: b,
-                    sessions,
+                    sessions: standing,
                 };
                 let done = come.item(log, out, at);
                 let left = done.log;
@@ -140,7 +142,7 @@ impl Log {
                 items = left.items;
                 window = left_window;
                 slots = left_slots;
-                sessions = left_sessions;
+                Bus::fill(&mut bus, left_sessions);
                 at = done.at;
                 next = Waiting::nothing();
                 continue;
@@ -148,12 +150,7 @@ impl Log {
             items = crate::next_item(items);
             let id = wire::read32(piece, i + 3);
             let data = &piece[i + 7..i + 15];
-            let k = (id % 256) as usize;
-            let session = sessions[k];
-            let taken = session.lend(id, data);
-            let advanced = taken.session;
-            sessions[k] = advanced;
-            let answer = taken.answer;
+            let answer = Bus::take(&mut bus, id, data);
             let brought = brings(answer, window.size, window.entered, window.held);
             at = put_refusal(out, at, items, brought.refused, brought.code);
             next = Waiting::nothing();
@@ -188,17 +185,23 @@ impl Log {
                     slots[here] = with;
                     continue;
                 }
-                let found = with.searched(window);
+                let found = with.searched_in(
+                    &window.losses,
+                    &window.shakes,
+                    &window.numbers,
+                    Window::ROWS,
+                );
                 let searched = found.question;
                 slots[here] = searched;
                 at = text::put_s(out, at, items, here as u8, found.steps);
             }
         }
-        let board = Board { window, slots };
+        let b = Board { window, slots };
+        let standing = Bus::read(&bus);
         let log = Log {
             items,
-            board,
-            sessions,
+            board: b,
+            sessions: standing,
         };
         Fed {
             log,
@@ -292,17 +295,6 @@ fn item_comes(have: u32, rows: u16, piece: &[u8], i: usize, tag: u8, size: u16) 
         return false;
     }
     wire::read16(piece, i + 1) == size
-}
-
-// Whether the next item is a frame of a sender that has a session.
-fn frame_comes(have: u32, rows: u16, piece: &[u8], i: usize) -> bool
-    requires { ⌜ i ≤ length (now piece) ⌝ }
-    ensures { λ r. ⌜ r ≡ (itemComes have rows (now (piece .entry)) i 18 12 && ltb (number (part (i + 3) 4 (now (piece .entry))) % 256) 254) ⌝ }
-{
-    if item_comes(have, rows, piece, i, Log::FRAME, Waiting::VALUE) {
-        return ((wire::read32(piece, i + 3) % 256) as usize) < Bus::SENDERS;
-    }
-    false
 }
 
 // Whether the next item shows a slot that there is.

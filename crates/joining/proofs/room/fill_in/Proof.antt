@@ -1,7 +1,7 @@
 -- `joining::room::fill_in` meets its contract: after k turns the bytes of the first k sessions are stored.
 -- Assumes nothing.
 use denote.Ref.{now}
-use mathlib.Core.Path.{_≡_, refl, sym, _∙_, ap}
+use mathlib.Core.Path.{_≡_, refl, sym, _∙_, ap, subst}
 use mathlib.Core.List.{List}
 use Prim.Native.Nat.{ℕ, _≤_, _-_, _*_}
 use native.Mathlib.Omega.{arith}
@@ -9,20 +9,21 @@ use lib.ListN.{length, take}
 use borrow.Author.Needs.{needs}
 use lib.Seq.{sets, length-sets, take-all}
 use Rattle.joining.specs.declared.Session.{Session}
-use Rattle.joining.specs.Room.{roomOf}
-use Rattle.joining.proofs.Places.{stores-more, overwritten}
+use Rattle.joining.specs.Room.{roomOf, sessionsIn}
+use Rattle.joining.proofs.Places.{Sized, stores-more, overwritten}
+use Rattle.joining.proofs.Rooms.{sized-more, read-back}
 use Rattle.joining.proofs.room.fill_in.Statement.{statement}
 use Rattle.joining.proofs.room.fill_in.Tie as tie
 
 abbrev Inv-loop : tie.InvT-loop
-Inv-loop room₀ sessions k₀ room k = (k ≤ 254) × (length (roomOf (take k sessions)) ≡ 87 * k) × (room ≡ sets room₀ 0 (roomOf (take k sessions)))
+Inv-loop room₀ sessions k₀ room k = (k ≤ 254) × (length (roomOf (take k sessions)) ≡ 87 * k) × (room ≡ sets room₀ 0 (roomOf (take k sessions))) × Sized (take k sessions)
 
 abbrev μ-loop : tie.MeasureT-loop
 μ-loop room₀ sessions k₀ room k = 254 - k
 
 loop-holds : tie.Need-loop-holds Inv-loop μ-loop
 unfolding roomOf
-loop-holds c = (omega arith, refl, refl)
+loop-holds c = (omega arith, refl, refl, tt)
 
 mul-session : tie.Need-mul-session Inv-loop μ-loop
 mul-session c = omega arith
@@ -53,7 +54,7 @@ loop-again c =
     let many : length ss ≡ 254 = search needs in
     let put = c .before .before .put-session .ensures in
     let t = stores-more (now (s .args .room)) ss (l .k) (omega (arith, many)) (put .1) (l .inv .1) (l .inv .2) (put .0) in
-    (omega arith, t .0, t .1)
+    (omega arith, t .0, t .1, sized-more (l .k) ss (omega (arith, many)) (l .inv .3) (put .1))
 
 same-length : tie.Need-same-length Inv-loop μ-loop
 same-length c =
@@ -70,7 +71,8 @@ returns c =
     let many : length ss ≡ 254 = search needs in
     let all : take (l .k) ss ≡ ss = take-all (l .k) ss (omega (arith, many)) in
     let long : length (roomOf ss) ≡ length room = ap (λ (z : List Session). length (roomOf z)) (sym all) ∙ l .inv .1 ∙ omega (arith, s .pre) in
-    l .inv .2 ∙ ap (λ (z : List Session). sets room 0 (roomOf z)) all ∙ overwritten room (roomOf ss) long
+    let filled = l .inv .2 ∙ ap (λ (z : List Session). sets room 0 (roomOf z)) all ∙ overwritten room (roomOf ss) long in
+    (filled, (ap sessionsIn filled ∙ read-back ss (subst Sized all (l .inv .3)) many, ap length filled ∙ long ∙ s .pre))
 
 pub fill-in-spec : {M : Type 1} → statement M
 fill-in-spec =
