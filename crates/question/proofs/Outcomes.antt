@@ -14,6 +14,8 @@ use Rattle.question.proofs.Question.stepped.Kinds as stepped-kinds
 use Rattle.question.proofs.Question.stepped.Reads as stepped-reads
 use Rattle.question.proofs.Question.joined.Kinds as joined-kinds
 use Rattle.question.proofs.Question.joined.Reads as joined-reads
+use Rattle.question.proofs.Question.rest_blank.Kinds as rest-blank-kinds
+use Rattle.question.proofs.Question.rest_blank.Reads as rest-blank-reads
 use Rattle.question.proofs.Question.searched.Kinds as searched-kinds
 use Rattle.question.proofs.Question.searched.Reads as searched-reads
 use Rattle.question.proofs.Question.searched_in.Kinds as searched-in-kinds
@@ -48,6 +50,9 @@ stepped-once κs a x y s t p q = p ∙ sym q
 
 joined-once : OneAnswer 0 joined-kinds.ps joined-kinds.r joined-reads.Post
 joined-once κs a x y s t p q = p ∙ sym q
+
+rest-blank-once : OneAnswer 0 rest-blank-kinds.ps rest-blank-kinds.r rest-blank-reads.Post
+rest-blank-once κs a x y s t p q = p ∙ sym q
 
 searched-once : OneAnswer 0 searched-kinds.ps searched-kinds.r searched-reads.Post
 searched-once κs a x y s t p q = p ∙ sym q

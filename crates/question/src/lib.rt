@@ -551,7 +551,7 @@ impl Question {
     }
 
     // The places past the list's end are 0.
-    fn rest_blank(self) -> bool
+    pub fn rest_blank(self) -> bool
         ensures { λ r. ⌜ r ≡ allOf blank (drop (self .len) (linesOf (self .numbers) (self .scores))) ⌝ }
     {
         let mut i = self.shown() as usize;

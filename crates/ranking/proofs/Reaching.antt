@@ -4,7 +4,9 @@ use mathlib.Core.Path.{_≡_, refl, sym, ap, ap₂, _∙_, subst}
 use mathlib.Core.Logic.{_↔_}
 use mathlib.Core.Bool.{Bool, true, false, not, _||_}
 use mathlib.Core.List.{[]}
-use Prim.Native.Nat.{ℕ, _+_, _≤_, _<_}
+use Prim.Native.Nat.{ℕ, zero, suc, _+_, _*_, _≤_, _<_}
+use native.Mathlib.Nat.{add-zero}
+use native.Mathlib.Numerals.{add-one}
 use native.Mathlib.Omega.{arith}
 use borrow.Author.Tests.{le-ltb, not-true, not-false, leb-true, leb-false}
 use lib.Dec.{leb, ltb}
@@ -13,7 +15,7 @@ use lib.ListN.{length, drop}
 use lib.Signed.{ltZ}
 use Rattle.ranking.specs.Best.{_∈_, only}
 use Rattle.ranking.specs.Cells.{bestScore, before, count, cells, visiting, reaching, reachOf}
-use Rattle.ranking.specs.Scan.{met}
+use Rattle.ranking.specs.Scan.{met, metRow}
 use Rattle.ranking.specs.declared.Sought.{Sought}
 use Rattle.ranking.specs.declared.Weights.{Weights}
 use Rattle.ranking.proofs.Tests.{Tested, passed, failed, tested, clash, or-left, or-right}
@@ -37,6 +39,15 @@ module _ (at : Sought) (c : ℕ) (best s : ℤ) where
   pub met-later : ltZ best s ≡ true → leb 256 (at .next) || ltZ (at .best) best ≡ false → met at c best s ≡ at
   unfolding met
   met-later e f = rw (e, f)
+
+-- it counts once at most
+pub met-few : (at : Sought) (c : ℕ) (best s : ℤ) → met at c best s .cells ≤ at .cells + 1
+met-few at c best s = go (tested (ltZ best s)) (tested (leb 256 (at .next) || ltZ (at .best) best))
+  where
+    go : Tested (ltZ best s) → Tested (leb 256 (at .next) || ltZ (at .best) best) → met at c best s .cells ≤ at .cells + 1
+    go (failed e) t = subst (λ (m : Sought). m .cells ≤ at .cells + 1) (sym (met-counts at c best s e)) (omega arith)
+    go (passed e) (passed t) = subst (λ (m : Sought). m .cells ≤ at .cells + 1) (sym (met-sooner at c best s e t)) (omega arith)
+    go (passed e) (failed t) = subst (λ (m : Sought). m .cells ≤ at .cells + 1) (sym (met-later at c best s e t)) (omega arith)
 
 module _ (w : Weights) (s : ℤ) where
   -- a cell's best possible score is below the score
@@ -155,6 +166,30 @@ module _ (w : Weights) (s : ℤ) where
         go (passed e) (failed t) (failed u) =
             subst (Met (d + 1)) (sym (met-later at d (bestScore w d) s e (ap₂ (λ a b. a || b) t u)))
             (leaves e (leb-false 256 (at .next) t) (not-sooner u (leb-false 256 (at .next) t)))
+
+  -- a row's cells
+  pub row-none : (at : Sought) (row : ℕ) → at ≡ metRow w s at row 0
+  unfolding metRow
+  row-none at row = refl
+
+  pub row-more : (at : Sought) (row n : ℕ) → met (metRow w s at row n) (16 * row + n) (bestScore w (16 * row + n)) s ≡ metRow w s at row (n + 1)
+  unfolding metRow
+  row-more at row n = ap (metRow w s at row) (sym (add-one n))
+
+  row-to : (at : Sought) (row : ℕ) → row < 16 → Met (16 * row) at → (n : ℕ) → n ≤ 16 → Met (16 * row + n) (metRow w s at row n)
+  unfolding metRow
+  row-to at row h m zero l = subst (λ d. Met d at) (sym (add-zero (16 * row))) m
+  row-to at row h m (suc n) l =
+      subst (λ d. Met d (metRow w s at row (suc n))) (up (16 * row)) (met-more (16 * row + n) (metRow w s at row n) (omega arith) (row-to at row h m n (omega arith)))
+    where
+      up : (d : ℕ) → d + n + 1 ≡ d + suc n
+      up d = omega arith
+
+  pub met-row : (at : Sought) (row : ℕ) → row < 16 → Met (16 * row) at → Met (16 * (row + 1)) (metRow w s at row 16)
+  met-row at row h m = subst (λ d. Met d (metRow w s at row 16)) next (row-to at row h m 16 (omega arith))
+    where
+      next : 16 * row + 16 ≡ 16 * (row + 1)
+      next = omega arith
 
   pub met-all : (at : Sought) → Met 256 at → record { cells = at .cells; next = at .next } ≡ reachOf w s
   unfolding reachOf reaching

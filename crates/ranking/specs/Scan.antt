@@ -1,10 +1,10 @@
 -- What the inner functions of the scan over the cells answer; no public contract cites it. A number from 256 on is no cell.
 use mathlib.Core.Bool.{Bool, true, false, cond, _&&_, _||_}
-use Prim.Native.Nat.{ℕ, suc, _+_}
+use Prim.Native.Nat.{ℕ, zero, suc, _+_, _*_}
 use lib.Dec.{ltb, leb}
 use lib.IntN.{ℤ}
 use lib.Signed.{ltZ}
-use Rattle.ranking.specs.Cells.{before, placeOf}
+use Rattle.ranking.specs.Cells.{before, placeOf, bestScore}
 use Rattle.ranking.specs.declared.Sought.{Sought}
 use Rattle.ranking.specs.declared.Weights.{Weights}
 
@@ -26,3 +26,8 @@ met at c best s =
     cond (ltZ best s)
     (cond (leb 256 (at .next) || ltZ (at .best) best) (record { cells = at .cells; next = c; best = best }) at)
     (record { cells = at .cells + 1; next = at .next; best = at .best })
+
+-- the first n cells of a row, one after the other
+unfoldable pub metRow : Weights → ℤ → Sought → ℕ → ℕ → Sought
+metRow w s at row zero = at
+metRow w s at row (suc n) = met (metRow w s at row n) (16 * row + n) (bestScore w (16 * row + n)) s

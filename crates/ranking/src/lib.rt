@@ -2,10 +2,10 @@
 
 ghost use mathlib.Core.Path.{_≡_};
 ghost use mathlib.Core.Bool.{_&&_};
-ghost use Prim.Native.Nat.{_+_, _%_, _<_};
+ghost use Prim.Native.Nat.{_+_, _*_, _%_, _<_, _≤_};
 ghost use lib.IntN.{pos, _*ℤ_};
 ghost use Rattle.ranking.specs.Cells.{score, cell, corner, bestScore, greater, before, inRange, placeOf, cellAt, reachOf};
-ghost use Rattle.ranking.specs.Scan.{leads, nearer, placeAfter, met};
+ghost use Rattle.ranking.specs.Scan.{leads, nearer, placeAfter, met, metRow};
 ghost use Rattle.ranking.specs.Standing.{above};
 
 // A question's weights: a for loss, b for shake.
@@ -102,15 +102,30 @@ impl Weights {
             next: Grid::CELLS,
             best: 0,
         };
-        let mut d: u16 = 0;
-        while d < Grid::CELLS {
-            sought = sought.met(d, self.best(d as u8), score);
-            d += 1;
+        let mut row: u16 = 0;
+        while row < Grid::ROWS {
+            sought = self.row_met(sought, row, score);
+            row += 1;
         }
         Reach {
             cells: sought.cells,
             next: sought.next,
         }
+    }
+
+    // The cells of one row more.
+    fn row_met(self, sought: Sought, row: u16, score: i32) -> Sought
+        requires { ⌜ (row < 16) × (sought .cells ≤ 16 * row) ⌝ }
+        ensures { λ r. ⌜ r ≡ metRow self score sought row 16 ⌝ }
+    {
+        let mut found = sought;
+        let mut column: u16 = 0;
+        while column < Grid::COLUMNS {
+            let cell = Grid::COLUMNS * row + column;
+            found = found.met(cell, self.best(cell as u8), score);
+            column += 1;
+        }
+        found
     }
 
     // The cell that is taken next after `from`, or first where `from` is no cell.
