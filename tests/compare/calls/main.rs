@@ -191,9 +191,18 @@ fn describe(s: &State) -> String {
     )
 }
 
-fn main() {
-    let words: Vec<u64> = std::env::args().skip(1).map(|w| w.parse().expect("a number")).collect();
-    let (states, seed) = (words[0], words[1]);
+/// The refusal's number in a call's answer.
+fn refusal(call: Call, answer: u64) -> u64 {
+    match call {
+        Call::Step | Call::Begin | Call::Remove(_) => answer,
+        Call::Set(..) => answer >> 16,
+        Call::Read(_) => answer >> 8,
+        Call::Enter(..) => answer >> 56,
+    }
+}
+
+/// Compares the calls on the states of the seeds from `seed` on.
+fn compare(states: u64, seed: u64) -> bool {
     let mut answers = std::collections::BTreeMap::new();
     for n in seed..seed + states {
         let (s, calls) = draw(n);
@@ -205,20 +214,19 @@ fn main() {
                 println!("seed {}: {:?} on\n{}", n, calls[i], describe(before));
                 println!("answers {} and leaves\n{}", o.0, describe(&o.1));
                 println!("and not {} and\n{}", t.0, describe(&t.1));
-                std::process::exit(1);
+                return false;
             }
-            let refusal = match calls[i] {
-                Call::Step | Call::Begin | Call::Remove(_) => o.0,
-                Call::Set(..) => o.0 >> 16,
-                Call::Read(_) => o.0 >> 8,
-                Call::Enter(..) => o.0 >> 56,
-            };
-            *answers.entry(refusal).or_insert(0) += 1;
+            *answers.entry(refusal(calls[i], o.0)).or_insert(0) += 1;
         }
     }
     let answers: Vec<String> = answers.iter().map(|(r, n)| format!("{} of {}", n, r)).collect();
     println!("{} states, {} calls, no difference; answers by refusal number: {}", states, 4 * states, answers.join(", "));
-    let mut unnoticed = 0;
+    true
+}
+
+/// Gets each rule wrong in turn; false where one goes unnoticed.
+fn notice(states: u64, seed: u64) -> bool {
+    let mut all = true;
     for &slip in SLIPS.iter() {
         let told = (seed..seed + states).find(|&n| {
             let (s, calls) = draw(n);
@@ -226,12 +234,16 @@ fn main() {
         });
         match told {
             Some(n) => println!("{:?}: noticed at state {}", slip, n - seed + 1),
-            None => {
-                println!("{:?}: NOT NOTICED", slip);
-                unnoticed += 1;
-            }
+            None => println!("{:?}: NOT NOTICED", slip),
         }
+        all &= told.is_some();
     }
-    let well = frames::compare(states, seed) && unnoticed == 0;
+    all
+}
+
+fn main() {
+    let words: Vec<u64> = std::env::args().skip(1).map(|w| w.parse().expect("a number")).collect();
+    let (states, seed) = (words[0], words[1]);
+    let well = compare(states, seed) && notice(states, seed) && frames::compare(states, seed);
     std::process::exit(if well { 0 } else { 1 });
 }
