@@ -15,11 +15,11 @@ use crate::Frame;
 use crate::Session;
 
 impl Bus {
-    // The bytes of all sessions and of one: the payload's, then size, count and next packet.
+    // The bytes of all sessions, and of one: its payload's, then its size, count and next packet.
     pub const ROOM: usize = 22098;
 
     pub const PLACE: usize = 87;
-
+    // Where these three stand in a place.
     pub const SIZE: usize = 84;
 
     pub const COUNT: usize = 85;
@@ -58,7 +58,7 @@ impl Bus {
     }
 }
 
-// `Bus::take` on a part of that length.
+// `Bus::take` on the array as a slice.
 fn take_in(room: &mut [u8], id: u32, data: &[u8]) -> Answer
     requires { ⌜ length (now room) ≡ 22098 ⌝ }
     ensures { λ r. ⌜ r ≡ answerTo (sessionsIn (now (room .entry))) (record { identifier = id; data-bytes = now («data» .entry) }) ⌝ }
@@ -71,7 +71,7 @@ fn take_in(room: &mut [u8], id: u32, data: &[u8]) -> Answer
     advance_in(room, Bus::PLACE * ((id % 256) as usize), id, data)
 }
 
-// `Bus::fill` on a part of that length.
+// `Bus::fill` on the array as a slice.
 fn fill_in(room: &mut [u8], sessions: [Session; 254])
     requires { ⌜ length (now room) ≡ 22098 ⌝ }
     ensures { λ _. ⌜ now (room .exit) ≡ roomOf sessions ⌝ }
