@@ -94,7 +94,8 @@ impl Log {
     pub const MOST: usize = 1056;
 
     // Takes a piece of a log behind what waits, as long as `out` has room for whatever the next item prints, and stores the
-    // text from the start of `out`.
+    // text from the start of `out`. The window, the slots and the sessions are locals here and nowhere handed on, so that a frame
+    // and a slot's turn change them where they stand; every other item goes through `Log::item`.
     pub fn feed(self, waiting: Waiting, piece: &[u8], out: &mut [u8]) -> Fed
         ensures { λ r. ⌜ Feeds self waiting (now (piece .entry)) (now (out .entry)) r (now (out .exit)) ⌝ }
     {
