@@ -24,6 +24,15 @@ pub record Filled {A B : Type 0} (f : A → B) (from : List A) (n : ℕ) (l : Li
   pub whole : length l ≡ length from
   pub first : take n l ≡ take n (map f from)
 
+pub filled-none : {A B : Type 0} (f : A → B) (from : List A) (l : List B) → length l ≡ length from → Filled f from 0 l
+filled-none f from l e = record { whole = e; first = none l (map f from) }
+  where
+    none : {A : Type 0} (l m : List A) → take 0 l ≡ take 0 m
+    none [] [] = λ i. []
+    none [] (x ∷ m) = λ i. []
+    none (x ∷ l) [] = λ i. []
+    none (x ∷ l) (y ∷ m) = λ i. []
+
 pub filled-more : {A B : Type 0} (f : A → B) (from : List A) (n : ℕ) (l : List B) (d : A) (v : B) → n < length from → Filled f from n l → v ≡ f (getD from n d) → Filled f from (n + 1) (set l n v)
 filled-more f from n l d v h s e =
     record {
@@ -61,13 +70,11 @@ module _ (loss shake : ℕ) (old : List Question) (number gone : ℕ) (window : 
 
   pub turned-none : (slots : List Question) (searched : List Bool) (steps : List ℕ) → length slots ≡ length old → length searched ≡ length old → length steps ≡ length old → Turned 0 slots searched steps
   turned-none slots searched steps a b c =
-      record { slots-are = record { whole = a; first = none slots (map (λ q. refreshed (one q) gone window .question) old) }; searched-are = record { whole = b; first = none searched (map (λ q. lists (one q) gone) old) }; steps-are = record { whole = c; first = none steps (map (λ q. refreshed (one q) gone window .steps) old) } }
-    where
-      none : {A : Type 0} (l m : List A) → take 0 l ≡ take 0 m
-      none [] [] = λ i. []
-      none [] (x ∷ m) = λ i. []
-      none (x ∷ l) [] = λ i. []
-      none (x ∷ l) (y ∷ m) = λ i. []
+      record {
+        slots-are = filled-none (λ q. refreshed (one q) gone window .question) old slots a;
+        searched-are = filled-none (λ q. lists (one q) gone) old searched b;
+        steps-are = filled-none (λ q. refreshed (one q) gone window .steps) old steps c;
+      }
 
   module _ (i : ℕ) (below : i < length old) (slots : List Question) (searched : List Bool) (steps : List ℕ) (t : Turned i slots searched steps) where
     pub turned-more : (p : Question) (again : Bool) (found : Searched) → p ≡ one (getD old i noQuestion) → again ≡ lists p gone → found ≡ refreshed p gone window

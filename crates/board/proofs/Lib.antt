@@ -1,6 +1,8 @@
 -- Laws of the board, and what is proved of every reached one.
 pub mod Refusals
 pub mod Listing
+pub mod Gauges
+pub mod Seats
 pub mod Filling
 pub mod Slots
 pub mod Slot

@@ -77,20 +77,24 @@ pub lists-none : (q : Question) (number : ℕ) → number ≡ 0 → lists q numb
 unfolding lists
 lists-none q number e = rw (eq-eqb number 0 e)
 
+-- the numbers of the lines stand at the front of their array
+pub front-numbers : (q : Question) → Roomy (q .numbers) (q .scores) → (n : ℕ) → n ≡ shown q → map (λ e. e .number) (lines q) ≡ take n (q .numbers)
+front-numbers q r n e =
+    numbers-of (q .numbers) (q .scores) (q .len) (r .numbers ∙ sym (r .scores))
+    ∙ sym (ap (λ m. take m (q .numbers)) e ∙ ap (λ m. take (min (q .len) m) (q .numbers)) (sym (r .numbers)) ∙ sym (take-min (q .len) (q .numbers)))
+
 pub lists-numbers : (q : Question) (number : ℕ) → Roomy (q .numbers) (q .scores) → (number ≡ 0 → ⊥) → (n : ℕ) → n ≡ shown q → has number (take n (q .numbers)) ≡ lists q number
 unfolding lists
-lists-numbers q number r some n e =
-    rw (ne-eqb number 0 some, numbers-of (q .numbers) (q .scores) (q .len) (r .numbers ∙ sym (r .scores)))
-    (ap (has number) (ap (λ m. take m (q .numbers)) e ∙ ap (λ m. take (min (q .len) m) (q .numbers)) (sym (r .numbers)) ∙ sym (take-min (q .len) (q .numbers))))
+lists-numbers q number r some n e = rw (ne-eqb number 0 some) (ap (has number) (sym (front-numbers q r n e)))
 
 has-first : (x y : ℕ) (l : List ℕ) → y ≡ x → has x (y ∷ l) ≡ true
 has-first x y l e = rw (eq-eqb x y (sym e), has)
 
-has-later : (x y : ℕ) (l : List ℕ) → (y ≡ x → ⊥) → has x (y ∷ l) ≡ has x l
+pub has-later : (x y : ℕ) (l : List ℕ) → (y ≡ x → ⊥) → has x (y ∷ l) ≡ has x l
 has-later x y l e = rw (ne-eqb x y (λ t. e (sym t)), has)
 
 module _ (number : ℕ) (ns : List ℕ) (n i : ℕ) (fits : n ≤ length ns) (below : i < n) where
-  line-left : drop i (take n ns) ≡ getD ns i 0 ∷ drop (i + 1) (take n ns)
+  pub line-left : drop i (take n ns) ≡ getD ns i 0 ∷ drop (i + 1) (take n ns)
   line-left =
       let inside : i < length (take n ns) = omega (arith, length-take n ns) in
       drop-cons (take n ns) i 0 inside ∙ ap (λ x. x ∷ drop (suc i) (take n ns)) (getD-take n ns i 0 below) ∙ ap (λ m. getD ns i 0 ∷ drop m (take n ns)) (sym (add-one i))
@@ -101,11 +105,11 @@ module _ (number : ℕ) (ns : List ℕ) (n i : ℕ) (fits : n ≤ length ns) (be
   pub named-later : (getD ns i 0 ≡ number → ⊥) → has number (drop i (take n ns)) ≡ has number (drop (i + 1) (take n ns))
   named-later e = ap (has number) line-left ∙ has-later number (getD ns i 0) (drop (i + 1) (take n ns)) e
 
+pub none-left : (n : ℕ) (l : List ℕ) → drop n (take n l) ≡ []
+none-left zero [] = refl
+none-left zero (x ∷ l) = refl
+none-left (suc n) [] = refl
+none-left (suc n) (x ∷ l) = none-left n l
+
 pub named-nowhere : (number : ℕ) (ns : List ℕ) (n i : ℕ) → i ≡ n → has number (drop i (take n ns)) ≡ false
-named-nowhere number ns n i e = ap (λ m. has number (drop m (take n ns))) e ∙ ap (has number) (nothing n ns)
-  where
-    nothing : (n : ℕ) (l : List ℕ) → drop n (take n l) ≡ []
-    nothing zero [] = refl
-    nothing zero (x ∷ l) = refl
-    nothing (suc n) [] = refl
-    nothing (suc n) (x ∷ l) = nothing n l
+named-nowhere number ns n i e = ap (λ m. has number (drop m (take n ns))) e ∙ ap (has number) (none-left n ns)

@@ -20,6 +20,7 @@ use Rattle.board.specs.declared.Board.{Board}
 use Rattle.board.specs.declared.NewBoard.{NewBoard}
 use Rattle.board.specs.declared.Placed.{Placed}
 use Rattle.board.specs.declared.Removed.{Removed}
+use Rattle.board.specs.declared.Seated.{Seated}
 use Rattle.board.specs.declared.Shown.{Shown}
 use Rattle.board.specs.declared.Entered.{Entered}
 use Rattle.board.specs.declared.Arrival.{Arrival}
@@ -40,12 +41,14 @@ withSlot b slot q = record { window = b .window; slots = set (b .slots) slot q }
 unfoldable pub freshBoard : ℕ → NewBoard
 freshBoard n = record { refusal = freshWindow n .refusal; board = record { window = freshWindow n .window; slots = replicate 32 emptySlot } }
 
--- "13: slot over 31. 14: k not 1 to 16. 15: weight out of range. 16: slot in use."
+-- "14: k not 1 to 16. 15: weight out of range. 16: slot in use", of a slot that holds a question with that k, or 0.
+abbrev pub askRefusal : (held k : ℕ) → Weights → ℕ
+askRefusal held k weights =
+    cond (leb 1 k && leb k 16) (cond (inRange (weights .loss) && inRange (weights .shake)) (cond (eqb held 0) 0 16) 15) 14
+
+-- "13: slot over 31", then those.
 unfoldable pub setRefusal : Board → ℕ → ℕ → Weights → ℕ
-setRefusal b slot k weights =
-    cond (ltb slot 32)
-    (cond (leb 1 k && leb k 16) (cond (inRange (weights .loss) && inRange (weights .shake)) (cond (eqb (slotAt b slot .k) 0) 0 16) 15) 14)
-    13
+setRefusal b slot k weights = cond (ltb slot 32) (askRefusal (slotAt b slot .k) k weights) 13
 
 -- "A question is searched when it is set"; "setting answers the steps".
 unfoldable pub setWork : Board → ℕ → ℕ → Weights → Placed
@@ -54,6 +57,14 @@ setWork b slot k weights =
     (let found = searchedOn (asked k weights [] 0) (b .window) in
     record { refusal = 0; steps = found .steps; board = withSlot b slot (found .question) })
     (record { refusal = setRefusal b slot k weights; steps = 0; board = b })
+
+-- The same of one slot: what it holds then.
+unfoldable pub setIn : Question → ℕ → Weights → Window → Seated
+setIn q k weights w =
+    cond (eqb (askRefusal (q .k) k weights) 0)
+    (let found = searchedOn (asked k weights [] 0) w in
+    record { refusal = 0; steps = found .steps; question = found .question })
+    (record { refusal = askRefusal (q .k) k weights; steps = 0; question = q })
 
 -- "13: slot over 31. 17: slot empty (remove, read)."
 unfoldable pub slotRefusal : Board → ℕ → ℕ
@@ -65,6 +76,10 @@ removeWork b slot =
     cond (eqb (slotRefusal b slot) 0)
     (record { refusal = 0; board = withSlot b slot emptySlot })
     (record { refusal = slotRefusal b slot; board = b })
+
+-- The same of one slot: what it holds then.
+unfoldable pub emptied : Question → Question
+emptied q = cond (eqb (q .k) 0) q emptySlot
 
 -- The list as it is stored, or "a refusal answers its number, every other field 0".
 unfoldable pub readWork : Board → ℕ → Shown

@@ -1,13 +1,17 @@
 // The window with its 32 slots: standing questions that each have a list.
 ghost use mathlib.Core.Path.{_≡_};
-ghost use mathlib.Core.Bool.{false, _&&_, _||_};
+ghost use mathlib.Core.Bool.{false, _&&_};
 ghost use Prim.Native.Nat.{min, _%_, _<_};
 ghost use lib.IntN.{pos};
 ghost use lib.ListN.{replicate};
-ghost use Rattle.question.specs.Lines.{linesOf, finished};
+ghost use Rattle.question.specs.Lines.{linesOf, finished, rowsOf};
 ghost use Rattle.question.specs.Calls.{allOf, equal, blank, fitQuestion};
-ghost use Rattle.board.specs.Work.{freshBoard, setRefusal, setWork, slotRefusal, removeWork, readWork, hasPlace, takes, listed, leaving, arrival, lists, enterRefusal, enterWork, withSlot};
+ghost use Rattle.board.specs.Work.{freshBoard, setWork, setIn, slotRefusal, removeWork, emptied, askRefusal, readWork, hasPlace, takes, listed, leaving, arrival, lists, enterRefusal, enterWork, withSlot};
 ghost use Rattle.board.specs.Calls.{isEmpty, slotFit, fitBoard, setCall, removeCall, readCall, enterCall};
+
+mod gauge;
+
+pub use gauge::Gauge;
 use question::Question;
 use question::Searched;
 use ranking::Grid;
@@ -31,6 +35,13 @@ pub struct Placed {
     pub refusal: u8,
     pub steps: u16,
     pub board: Board,
+}
+
+// What setting a question in one slot answers: the steps of its search, and what the slot holds then.
+pub struct Seated {
+    pub refusal: u8,
+    pub steps: u16,
+    pub question: Question,
 }
 
 pub struct Removed {
@@ -158,24 +169,30 @@ impl Board {
     pub fn set_known(self, slot: u8, k: u8, weights: Weights) -> Placed
         ensures { λ r. ⌜ r ≡ setWork self slot k weights ⌝ }
     {
-        let refusal = self.set_refusal(slot, k, weights);
-        if refusal != 0 {
+        if Board::SLOTS <= slot {
             return Placed {
-                refusal,
+                refusal: Board::NO_SLOT,
                 steps: 0,
                 board: self,
             };
         }
-        let mut question = Question::fresh();
-        question.k = k;
-        question.weights = weights;
+        let at = slot as usize;
         let window = self.window;
-        let found = question.searched(window);
-        let placed = found.question;
+        let slots = self.slots;
+        let question = slots[at];
+        let seated = set_in(
+            question,
+            k,
+            weights,
+            &window.losses,
+            &window.shakes,
+            &window.numbers,
+        );
+        let left = seated.question;
         Placed {
-            refusal: 0,
-            steps: found.steps,
-            board: self.with_slot(slot, placed),
+            refusal: seated.refusal,
+            steps: seated.steps,
+            board: self.with_slot(slot, left),
         }
     }
 
@@ -305,28 +322,6 @@ impl Board {
         true
     }
 
-    // Why a question is not set; 0 for no reason.
-    fn set_refusal(self, slot: u8, k: u8, weights: Weights) -> u8
-        ensures { λ r. ⌜ r ≡ setRefusal self slot k weights ⌝ }
-    {
-        if Board::SLOTS <= slot {
-            return Board::NO_SLOT;
-        }
-        if k < 1 {
-            return Board::LINES_OUT_OF_RANGE;
-        }
-        if Question::LINES < k {
-            return Board::LINES_OUT_OF_RANGE;
-        }
-        if !weights.fit() {
-            return Board::WEIGHT_OUT_OF_RANGE;
-        }
-        let at = slot as usize;
-        let slots = self.slots;
-        let question = slots[at];
-        if question.k == 0 { 0 } else { Board::IN_USE }
-    }
-
     // Why a slot is not removed or read; 0 for no reason.
     fn slot_refusal(self, slot: u8) -> u8
         ensures { λ r. ⌜ r ≡ slotRefusal self slot ⌝ }
@@ -422,14 +417,61 @@ impl Arrival {
     }
 }
 
-// Whether a report's entry changes the question or has it searched: its list takes the report, or has the one that leaves.
-pub fn stirred(question: Question, oldest: u32, loss: u16, shake: u16) -> bool
-    ensures { λ r. ⌜ r ≡ (takes question (loss % 4096) (shake % 4096) || lists question oldest) ⌝ }
+// Sets a question in a slot that holds this one, and searches it over the rows that are lent. Refused 14, 15, 16.
+pub fn set_in<'a>(
+    question: Question,
+    k: u8,
+    weights: Weights,
+    losses: &'a [u16; 1024],
+    shakes: &'a [u16; 1024],
+    numbers: &'a [u32; 1024],
+) -> Seated
+    ensures { λ r. ⌜ r ≡ setIn question k weights (rowsOf (now (losses .entry)) (now (shakes .entry)) (now (numbers .entry))) ⌝ }
 {
-    if takes(question, loss, shake) {
-        return true;
+    let refusal = ask_refusal(question.k, k, weights);
+    if refusal != 0 {
+        return Seated {
+            refusal,
+            steps: 0,
+            question,
+        };
     }
-    lists(question, oldest)
+    let mut fresh = Question::fresh();
+    fresh.k = k;
+    fresh.weights = weights;
+    let found = fresh.searched_in(losses, shakes, numbers, Window::ROWS);
+    let placed = found.question;
+    Seated {
+        refusal: 0,
+        steps: found.steps,
+        question: placed,
+    }
+}
+
+// Why a question is not set in a slot that holds one of that k, or 0; 0 for no reason.
+fn ask_refusal(held: u8, k: u8, weights: Weights) -> u8
+    ensures { λ r. ⌜ r ≡ askRefusal held k weights ⌝ }
+{
+    if k < 1 {
+        return Board::LINES_OUT_OF_RANGE;
+    }
+    if Question::LINES < k {
+        return Board::LINES_OUT_OF_RANGE;
+    }
+    if !weights.fit() {
+        return Board::WEIGHT_OUT_OF_RANGE;
+    }
+    if held == 0 { 0 } else { Board::IN_USE }
+}
+
+// What a slot holds that is removed; one that is empty stays.
+pub fn emptied(question: Question) -> Question
+    ensures { λ r. ⌜ r ≡ emptied question ⌝ }
+{
+    if question.k == 0 {
+        return question;
+    }
+    Question::fresh()
 }
 
 // The question with a report more, if its list takes it. Of the values the low 12 bits count.

@@ -77,7 +77,7 @@ comes {have} {rows} {piece} {i} {tag} {size} e =
 -- ---- showing a slot, and a frame, in a log that has a window
 
 module _ (log : Log) (window : sized (log .board .window .size) ≡ true) where
-  some-rows : log .board .window .size ≡ 0 → ⊥
+  pub some-rows : log .board .window .size ≡ 0 → ⊥
   some-rows e = let range = size-range (log .board .window .size) window in absurd (omega (arith, range .0, e))
 
   frame-known : (v : List ℕ) → length v ≡ 12 → itemDone log 18 v ≡ frameItem (counted log) v
@@ -348,7 +348,7 @@ module _ (log : Log) (piece : List ℕ) (i : ℕ) (window : sized (log .board .w
 
 -- ---- a slot that is shown
 
-one-byte : (k : ℕ) (l : List ℕ) → k < length l → part k 1 l ≡ getD l k 0 ∷ []
+pub one-byte : (k : ℕ) (l : List ℕ) → k < length l → part k 1 l ≡ getD l k 0 ∷ []
 one-byte k l h = ap (take 1) (drop-cons l k 0 h) ∙ ap (λ (r : List ℕ). getD l k 0 ∷ r) (no-bytes (drop (suc k) l))
   where
     no-bytes : (r : List ℕ) → take 0 r ≡ []
@@ -362,11 +362,6 @@ show-here log piece i window there {s} e-s few e-items e-q =
     ap (itemDone log 20) (one-byte (i + 3) piece (omega arith) ∙ ap (λ (b : ℕ). b ∷ []) (sym e-s)) ∙ show-done log window s few
     ∙ sym (λ j. record { text = shownText (e-items j) s (e-q j); log = record { items = e-items j; board = log .board; sessions = log .sessions } })
 
--- What the two tests tell.
-pub show-facts : (have rows : ℕ) (piece : List ℕ) (i : ℕ) {r : Bool} → r ≡ (itemComes have rows piece i 20 1 && ltb (getD piece (i + 3) 0) 32) → r ≡ true → Comes have rows piece i 20 1 × (getD piece (i + 3) 0 < 32)
-show-facts have rows piece i e t =
-    let both = and-both (itemComes have rows piece i 20 1) (ltb (getD piece (i + 3) 0) 32) (sym e ∙ t) in
-    (comes (both .0), ltb-true (getD piece (i + 3) 0) 32 (both .1))
-
+-- What the test of a frame tells.
 pub frame-facts : (have rows : ℕ) (piece : List ℕ) (i : ℕ) {r : Bool} → r ≡ itemComes have rows piece i 18 12 → r ≡ true → Comes have rows piece i 18 12
 frame-facts have rows piece i e t = comes (sym e ∙ t)

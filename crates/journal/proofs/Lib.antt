@@ -8,6 +8,8 @@ pub mod Feeding
 pub mod Waits
 pub mod Coming
 pub mod InPlace
+pub mod Gauging
+pub mod Seating
 pub mod Writing
 pub mod Once
 pub mod Printed

@@ -8,7 +8,7 @@ use Rattle.wire.specs.Bytes.{number, part}
 use Rattle.window.specs.Rows.{sized}
 use Rattle.question.specs.declared.Question.{Question}
 use Rattle.board.specs.Work.{arrival}
-use Rattle.text.specs.Text.{rLine, qLine, listed}
+use Rattle.text.specs.Text.{rLine, qLine, sLine, listed}
 use Rattle.joining.specs.declared.Answer.{Answer}
 use Rattle.joining.specs.declared.Answer.the-variants.{Refused, Kept, Complete}
 use Rattle.journal.specs.declared.machine.Brought.{Brought}
@@ -21,6 +21,10 @@ itemComes have rows piece i tag size =
 -- What showing a slot prints that has that question in it.
 unfoldable pub shownText : (item slot : ℕ) → Question → List ℕ
 shownText item slot q = cond (eqb (q .k) 0) (rLine item 17) (qLine slot (take (q .len) (listed (q .numbers) (q .scores))))
+
+-- What setting a question prints: "`S item slot steps` for each search", or the refusal.
+unfoldable pub seatedText : (item slot refusal steps : ℕ) → List ℕ
+seatedText item slot refusal steps = cond (eqb refusal 0) (sLine item slot steps) (rLine item refusal)
 
 -- What a frame's answer brings to a window: the line of a refusal, or a report that enters.
 abbrev pub brought : Answer → (size entered held : ℕ) → Brought

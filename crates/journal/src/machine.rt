@@ -3,17 +3,18 @@ ghost use mathlib.Core.Path.{_≡_};
 ghost use mathlib.Core.Bool.{cond, _&&_};
 ghost use mathlib.Core.List.{[]};
 ghost use Prim.Native.Nat.{_+_, min, _≤_};
-ghost use lib.Dec.{ltb, eqb};
+ghost use lib.Dec.{ltb};
 ghost use lib.ListN.{length, getD, drop};
 ghost use lib.Seq.{sets};
 ghost use Rattle.text.specs.Text.{behind, rLine};
 ghost use Rattle.journal.specs.Log.{Stores, itemDone};
 ghost use Rattle.journal.specs.Machine.{nothing, withByte, isWhole, valueEnd, valueIn, hasRoom, Feeds, endLine};
-ghost use Rattle.journal.specs.Inner.{itemComes, shownText, brought};
+ghost use Rattle.journal.specs.Inner.{itemComes, shownText, seatedText, brought};
 use crate::Done;
 use crate::Log;
 use board::Arrival;
 use board::Board;
+use board::Gauge;
 use joining::Answer;
 use joining::Bus;
 use question::Question;
@@ -94,8 +95,8 @@ impl Log {
     pub const MOST: usize = 1056;
 
     // Takes a piece of a log behind what waits, as long as `out` has room for whatever the next item prints, and stores the
-    // text from the start of `out`. The window, the slots and the sessions are locals here and nowhere handed on, so that a frame
-    // and a slot's turn change them where they stand; every other item goes through `Log::item`.
+    // text from the start of `out`. The window, the slots and the sessions are locals here and nowhere handed on, so that a frame,
+    // a question set or removed and a slot's turn change them where they stand; every other item goes through `Log::item`.
     pub fn feed(self, waiting: Waiting, piece: &[u8], out: &mut [u8]) -> Fed
         ensures { λ r. ⌜ Feeds self waiting (now (piece .entry)) (now (out .entry)) r (now (out .exit)) ⌝ }
     {
@@ -103,6 +104,8 @@ impl Log {
         let board = self.board;
         let mut window = board.window;
         let mut slots = board.slots;
+        let mut gauges = Gauge::all(slots);
+        let mut used = Gauge::in_use(slots);
         let sessions = self.sessions;
         let mut bus = [0u8; 22098];
         Bus::fill(&mut bus, sessions);
@@ -111,7 +114,7 @@ impl Log {
         let mut i: usize = 0;
         while goes_on(piece.len(), i, out.len(), at) {
             if !item_comes(next.have, window.size, piece, i, Log::FRAME, Waiting::VALUE) {
-                if show_comes(next.have, window.size, piece, i) {
+                if slot_comes(next.have, window.size, piece, i, Log::SHOW, 1) {
                     items = crate::next_item(items);
                     let shown = wire::byte(piece, i + 3);
                     let s = shown as usize;
@@ -119,6 +122,46 @@ impl Log {
                     at = put_shown(out, at, items, shown, list);
                     next = Waiting::nothing();
                     i += 4;
+                    continue;
+                }
+                if slot_comes(next.have, window.size, piece, i, Log::REMOVE, 1) {
+                    items = crate::next_item(items);
+                    let s = wire::byte(piece, i + 3) as usize;
+                    let held = slots[s];
+                    at = put_refusal(out, at, items, held.k == 0, Board::EMPTY);
+                    let left = board::emptied(held);
+                    slots[s] = left;
+                    let gauge = Gauge::of(left);
+                    gauges[s] = gauge;
+                    used = Gauge::in_use(slots);
+                    next = Waiting::nothing();
+                    i += 4;
+                    continue;
+                }
+                if slot_comes(next.have, window.size, piece, i, Log::SET, 6) {
+                    items = crate::next_item(items);
+                    let value = &piece[i + 3..i + 9];
+                    let slot = wire::byte(value, 0);
+                    let s = slot as usize;
+                    let k = wire::byte(value, 1);
+                    let weights = crate::weights_in(value);
+                    let held = slots[s];
+                    let seated = board::set_in(
+                        held,
+                        k,
+                        weights,
+                        &window.losses,
+                        &window.shakes,
+                        &window.numbers,
+                    );
+                    at = put_seated(out, at, items, slot, seated.refusal, seated.steps);
+                    let left = seated.question;
+                    slots[s] = left;
+                    let gauge = Gauge::of(left);
+                    gauges[s] = gauge;
+                    used = Gauge::in_use(slots);
+                    next = Waiting::nothing();
+                    i += 9;
                     continue;
                 }
                 let come = next.with_byte(piece[i]);
@@ -143,6 +186,8 @@ impl Log {
                 items = left.items;
                 window = left_window;
                 slots = left_slots;
+                gauges = Gauge::all(slots);
+                used = Gauge::in_use(slots);
                 Bus::fill(&mut bus, left_sessions);
                 at = done.at;
                 next = Waiting::nothing();
@@ -171,19 +216,19 @@ impl Log {
             window.entered = number;
             window.held = place.held;
             let mut slot: usize = 0;
-            while slot < 32 {
+            while slot < used {
                 let here = slot;
                 slot += 1;
-                if idle(slots[here].k, slots[here].len) {
+                let gauge = gauges[here];
+                if gauge.quiet(oldest, loss, shake) {
                     continue;
                 }
                 let question = slots[here];
-                if !board::stirred(question, oldest, loss, shake) {
-                    continue;
-                }
                 let with = board::listed(question, number, loss, shake);
                 if !board::lists(with, oldest) {
                     slots[here] = with;
+                    let fresh = Gauge::of(with);
+                    gauges[here] = fresh;
                     continue;
                 }
                 let found = with.searched_in(
@@ -194,6 +239,8 @@ impl Log {
                 );
                 let searched = found.question;
                 slots[here] = searched;
+                let fresh = Gauge::of(searched);
+                gauges[here] = fresh;
                 at = text::put_s(out, at, items, here as u8, found.steps);
             }
         }
@@ -298,12 +345,12 @@ fn item_comes(have: u32, rows: u16, piece: &[u8], i: usize, tag: u8, size: u16) 
     wire::read16(piece, i + 1) == size
 }
 
-// Whether the next item shows a slot that there is.
-fn show_comes(have: u32, rows: u16, piece: &[u8], i: usize) -> bool
-    requires { ⌜ i ≤ length (now piece) ⌝ }
-    ensures { λ r. ⌜ r ≡ (itemComes have rows (now (piece .entry)) i 20 1 && ltb (getD (now (piece .entry)) (i + 3) 0) 32) ⌝ }
+// Whether the next item is one of that tag and length, for a slot that there is.
+fn slot_comes(have: u32, rows: u16, piece: &[u8], i: usize, tag: u8, size: u16) -> bool
+    requires { ⌜ (i ≤ length (now piece)) × (1 ≤ size) × (size ≤ 12) ⌝ }
+    ensures { λ r. ⌜ r ≡ (itemComes have rows (now (piece .entry)) i tag size && ltb (getD (now (piece .entry)) (i + 3) 0) 32) ⌝ }
 {
-    if item_comes(have, rows, piece, i, Log::SHOW, 1) {
+    if item_comes(have, rows, piece, i, tag, size) {
         return wire::byte(piece, i + 3) < Board::SLOTS;
     }
     false
@@ -356,6 +403,17 @@ fn not_brought(refused: bool, code: u8) -> Brought
     }
 }
 
+// Prints what setting a question in a slot answers: the line of a refusal, or of the search.
+fn put_seated(out: &mut [u8], at: usize, item: u64, slot: u8, refusal: u8, steps: u16) -> usize
+    ensures { λ r. ⌜ r ≡ behind at (seatedText item slot refusal steps) ⌝ }
+    ensures { λ _. ⌜ now (out .exit) ≡ sets (now (out .entry)) at (seatedText item slot refusal steps) ⌝ }
+{
+    if refusal == 0 {
+        return text::put_s(out, at, item, slot, steps);
+    }
+    text::put_r(out, at, item, refusal)
+}
+
 // Prints the line of a refusal, if there is one.
 fn put_refusal(out: &mut [u8], at: usize, item: u64, refused: bool, code: u8) -> usize
     ensures { λ r. ⌜ r ≡ behind at (cond refused (rLine item code) []) ⌝ }
@@ -366,11 +424,4 @@ fn put_refusal(out: &mut [u8], at: usize, item: u64, refused: bool, code: u8) ->
     } else {
         at
     }
-}
-
-// A slot with no k and no lines: no report changes it.
-fn idle(k: u8, len: u8) -> bool
-    ensures { λ r. ⌜ r ≡ (eqb k 0 && eqb len 0) ⌝ }
-{
-    k == 0 && len == 0
 }

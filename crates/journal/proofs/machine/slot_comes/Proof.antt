@@ -3,8 +3,8 @@
 use mathlib.Core.Path.{sym, ap, _∙_}
 use lib.Dec.{ltb}
 use borrow.Author.Needs.{needs}
-use Rattle.journal.proofs.machine.show_comes.Statement.{statement}
-use Rattle.journal.proofs.machine.show_comes.Tie as tie
+use Rattle.journal.proofs.machine.slot_comes.Statement.{statement}
+use Rattle.journal.proofs.machine.slot_comes.Tie as tie
 
 item-comes-requires : tie.Need-item-comes-requires
 item-comes-requires c κs = search needs
@@ -21,5 +21,5 @@ returns c = rw (sym (c .before .before .item-comes .ensures) ∙ c .before .if1 
 returns-2 : tie.Need-returns-2
 returns-2 c = rw (sym (c .before .item-comes .ensures) ∙ c .if1 .left)
 
-pub show-comes-spec : {M : Type 1} → statement M
-show-comes-spec = tie.close (tie.spec item-comes-requires add-byte byte-requires returns returns-2)
+pub slot-comes-spec : {M : Type 1} → statement M
+slot-comes-spec = tie.close (tie.spec item-comes-requires add-byte byte-requires returns returns-2)

@@ -1,8 +1,8 @@
 -- The two tests are those of the contract.
 -- Assumes nothing.
 use borrow.Author.Tests.{eq-eqb, ne-eqb}
-use Rattle.journal.proofs.machine.idle.Statement.{statement}
-use Rattle.journal.proofs.machine.idle.Tie as tie
+use Rattle.board.proofs.gauge.idle.Statement.{statement}
+use Rattle.board.proofs.gauge.idle.Tie as tie
 
 returns : tie.Need-returns
 returns c = rw (eq-eqb (c .before .args .k) 0 (c .if1 .taken))

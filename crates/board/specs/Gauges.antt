@@ -1,0 +1,48 @@
+-- What a report must pass to touch a question, read off its list.
+use Prim.Native.Nat.{ℕ, zero, suc, min}
+use mathlib.Core.Bool.{Bool, not, cond, _&&_}
+use mathlib.Core.List.{List, [], _∷_, map}
+use lib.ListN.{getD}
+use lib.Dec.{ltb, eqb}
+use lib.IntN.{ℤ, pos}
+use lib.Signed.{leZ}
+use Rattle.ranking.specs.Cells.{score}
+use Rattle.ranking.specs.Standing.{Entry}
+use Rattle.question.specs.declared.Question.{Question}
+use Rattle.question.specs.Lines.{lines}
+use Rattle.board.specs.declared.gauge.Gauge.{Gauge}
+use Rattle.board.specs.Work.{noQuestion}
+
+-- The last line's score; with no line, the largest that an `i32` holds.
+abbrev pub lastScore : List Entry → ℤ
+lastScore [] = pos 2147483647
+lastScore (x ∷ []) = x .score
+lastScore (x ∷ y ∷ ys) = lastScore (y ∷ ys)
+
+unfoldable pub leastOf : Question → ℤ
+leastOf q = lastScore (lines q)
+
+-- The lowest of some numbers; of none, the largest that a `u32` holds.
+abbrev pub lowest : List ℕ → ℕ
+lowest [] = 4294967295
+lowest (n ∷ ns) = min n (lowest ns)
+
+-- The lowest number on the list; 0 while the list has room, as no number is below that.
+unfoldable pub lowOf : Question → ℕ
+lowOf q = cond (ltb (q .len) (q .k)) 0 (lowest (map (λ e. e .number) (lines q)))
+
+abbrev pub gaugeOf : Question → Gauge
+gaugeOf q = record { weights = q .weights; least = leastOf q; low = lowOf q }
+
+-- The list is full, a report of these values has no place on it, and the one of that number isn't on it.
+unfoldable pub isQuiet : Gauge → (oldest loss shake : ℕ) → Bool
+isQuiet g oldest loss shake = not (leZ (g .least) (score (g .weights) loss shake)) && ltb oldest (g .low)
+
+-- A slot with no k and no lines.
+abbrev pub isIdle : Question → Bool
+isIdle q = eqb (q .k) 0 && eqb (q .len) 0
+
+-- Of the first n slots, how many there are up to the last one that isn't idle.
+unfoldable pub inUse : ℕ → List Question → ℕ
+inUse zero slots = 0
+inUse (suc n) slots = cond (isIdle (getD slots n noQuestion)) (inUse n slots) (suc n)
