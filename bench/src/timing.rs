@@ -52,13 +52,13 @@ pub fn seconds(p: &Program, log: &str) -> f64 {
     (n[0] + n[2]) as f64 + (n[1] + n[3]) as f64 / 1e6
 }
 
-/// The instructions that a program takes for a log, counted by valgrind; nothing where that fails.
+/// The instructions that a program takes for a log, counted by valgrind; nothing where that fails or takes longer than a minute.
 pub fn instructions(p: &Program, log: &str) -> Option<u64> {
-    let mut c = Command::new("valgrind");
-    c.args(["--tool=callgrind", "--callgrind-out-file=/dev/null"]).args(&p.words);
+    let mut c = Command::new("timeout");
+    c.args(["60", "valgrind", "--tool=callgrind", "--callgrind-out-file=/dev/null"]).args(&p.words);
     c.stdin(File::open(log).expect("opening a workload")).stdout(Stdio::null());
-    let said = c.output().ok()?.stderr;
-    let said = String::from_utf8_lossy(&said).into_owned();
+    let done = c.output().ok().filter(|d| d.status.success())?;
+    let said = String::from_utf8_lossy(&done.stderr).into_owned();
     let line = said.lines().find(|l| l.contains("Collected"))?;
     line.rsplit(' ').next()?.parse().ok()
 }
