@@ -9,7 +9,7 @@ mod rules;
 mod timing;
 mod workloads;
 
-use timing::{instructions, memory, seconds, text, Program};
+use timing::{instructions, memory, same_addresses, seconds, text, Program};
 use workloads::Workload;
 
 /// The programs measured, ours first.
@@ -222,16 +222,17 @@ fn main() {
         program("C", &[&session]),
     ];
     let bench = Bench { programs, room };
+    same_addresses();
     if let Some(words) = commands.next() {
         let proved = Program { name: "target/bin/cart", words };
         for w in workloads::counted() {
             bench.agree(&w.name, std::iter::once(&proved), &bench.files("short", &w));
         }
-        println!("It prints what target/bin/cart prints under the emulator for {} workloads.\n", workloads::counted().len());
+        println!("It prints what target/bin/cart prints under the emulator for {} workloads.", workloads::counted().len());
     }
     if words[1] != "counts" {
         println!(
-            "CPU time for one unit, in nanoseconds, start-up and filling taken off; medians of {} rounds that take the programs in turn\n",
+            "\nCPU time for one unit, in nanoseconds, start-up and filling taken off; medians of {} rounds that take the programs in turn\n",
             ROUNDS
         );
         println!("| workload | units | ours | fast | naive | C | ours/fast | ours/naive | ours/C |\n|---|---|---|---|---|---|---|---|---|");

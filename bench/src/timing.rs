@@ -12,7 +12,8 @@ pub struct Program {
 impl Program {
     fn command(&self) -> Command {
         let mut c = Command::new(&self.words[0]);
-        c.args(&self.words[1..]);
+        // the length of the environment moves the stack
+        c.args(&self.words[1..]).env_clear();
         c
     }
 
@@ -38,6 +39,14 @@ struct Usage {
 
 extern "C" {
     fn wait4(process: i32, status: *mut i32, options: i32, usage: *mut Usage) -> i32;
+    fn personality(kind: u64) -> i32;
+}
+
+/// Has the programs lie at the same addresses in each run: where a stack begins by chance can make a tenth of a time.
+/// Some containers refuse it; the times are then those of chance places.
+pub fn same_addresses() {
+    const ADDR_NO_RANDOMIZE: u64 = 0x0040000;
+    unsafe { personality(ADDR_NO_RANDOMIZE) };
 }
 
 /// The processor time, of user and system together, that a program takes for a log.
