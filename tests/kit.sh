@@ -1,11 +1,13 @@
 # What the scripts of tests/ and bench/ share; they read it in from the top of the repository.
 
-# Sets `run` to the words that run a program as rt does: under the kit's loader and C library, and under its emulator on another processor.
+# Sets `run` to the words that run a program as rt does: under the kit's loader and C library, and under its emulator on another processor;
+# `home` to the kit's folder, `own` to the part of it that is for this machine, `tools` to its compiler and loader.
 kit_run() {
-    local guide home tools word
+    local guide word
     guide=$(rt doc)
     home=${RATTLE_HOME:-$(dirname "$(dirname "$guide")")}
-    tools=$home/on/$(uname -m)/toolchain
+    own=$home/on/$(uname -m)
+    tools=$own/toolchain
     run=("$tools/lib/ld-linux-x86-64.so.2" --library-path "$tools/lib")
     emulated=no
     if [ -x "$tools/bin/qemu-x86_64" ]; then

@@ -9,7 +9,7 @@ mod rules;
 mod timing;
 mod workloads;
 
-use timing::{instructions, memory, seconds, text, Program};
+use timing::{instructions, memory, same_addresses, seconds, text, Program};
 use workloads::Workload;
 
 /// The programs measured, ours first.
@@ -18,12 +18,16 @@ const FAST: usize = 1;
 const NAIVE: usize = 2;
 const C: usize = 3;
 
-/// A workload is made longer until ours takes this many seconds, or anyone takes the other number.
-const ENOUGH: f64 = 0.15;
-const LONG: f64 = 0.5;
-/// Rounds of which the median counts; one only where a run takes longer than `SLOW` seconds.
+/// A workload is made so long that ours takes one to two times `ENOUGH` seconds, and shorter for a program that would take longer than `LONG`.
+const ENOUGH: f64 = 0.1;
+const LONG: f64 = 0.2;
+/// The fewest and the most units. A run tells what a unit takes from so many seconds on, and so many times what its beginning takes.
+const FEWEST: usize = 64;
+const MOST: usize = 1 << 20;
+const TELLS: f64 = 0.004;
+const TIMES: f64 = 0.25;
+/// Rounds of which the median counts.
 const ROUNDS: usize = 5;
-const SLOW: f64 = 2.0;
 
 fn median(mut times: Vec<f64>) -> f64 {
     times.sort_by(|x, y| x.partial_cmp(y).expect("a time"));
@@ -35,10 +39,17 @@ struct Bench {
     room: String,
 }
 
+/// A workload in files, its beginning and the whole.
+struct Files {
+    base: String,
+    log: String,
+    units: usize,
+}
+
 /// A measured workload: what one unit takes, in nanoseconds, for each program that ran.
 struct Row {
     name: String,
-    units: usize,
+    units: String,
     nanoseconds: Vec<Option<f64>>,
 }
 
@@ -70,59 +81,94 @@ impl Row {
 }
 
 impl Bench {
-    fn file(&self, name: &str, log: &[u8]) -> String {
-        let path = format!("{}/{}.log", self.room, name);
-        std::fs::write(&path, log).expect("writing a workload");
-        path
+    fn files(&self, name: &str, w: &Workload) -> Files {
+        let write = |part: &str, log: &[u8]| {
+            let path = format!("{}/{}-{}.log", self.room, name, part);
+            std::fs::write(&path, log).expect("writing a workload");
+            path
+        };
+        Files { base: write("base", &w.base), log: write("whole", &w.log), units: w.units }
     }
 
-    /// Every program that takes part prints the same for a log.
-    fn agree(&self, w: &Workload, log: &str) {
-        let ours = text(&self.programs[OURS], log);
-        for p in w.who.iter().skip(1).map(|&i| &self.programs[i]) {
-            if text(p, log) != ours {
-                println!("{}: {} prints something else than cart for {}", w.name, p.name, log);
+    /// The others print the same as ours for a workload.
+    fn agree<'a>(&self, name: &str, others: impl Iterator<Item = &'a Program>, files: &Files) {
+        let ours = text(&self.programs[OURS], &files.log);
+        for p in others {
+            if text(p, &files.log) != ours {
+                println!("{}: {} prints something else than ours for {}", name, p.name, files.log);
                 std::process::exit(1);
             }
         }
     }
 
-    /// Measures a workload, made longer until it takes long enough, in rounds that take the programs in turn.
-    fn measure(&self, make: &dyn Fn(usize) -> Workload, fixed: Option<usize>) -> Row {
-        let mut units = fixed.unwrap_or(64);
-        loop {
+    /// The processor time of a workload's beginning, and of the rest.
+    fn once(&self, program: usize, files: &Files) -> (f64, f64) {
+        let base = seconds(&self.programs[program], &files.base);
+        (base, seconds(&self.programs[program], &files.log) - base)
+    }
+
+    /// How many units each program is measured on, told from short workloads.
+    fn sizes(&self, make: &dyn Fn(usize) -> Workload) -> Vec<usize> {
+        let mut sizes = vec![MOST; self.programs.len()];
+        let mut units = FEWEST;
+        while units < sizes[OURS] {
             let w = make(units);
-            let (base, log) = (self.file("base", &w.base), self.file("whole", &w.log));
-            let once: Vec<f64> = w.who.iter().map(|&i| seconds(&self.programs[i], &log) - seconds(&self.programs[i], &base)).collect();
-            let longest = once.iter().cloned().fold(0.0, f64::max);
-            if fixed.is_none() && once[0] < ENOUGH && longest < LONG && units < 1 << 20 {
-                units *= 4;
-                continue;
-            }
-            self.agree(&w, &log);
-            let rounds = if longest > SLOW { 1 } else { ROUNDS };
-            let mut times = vec![Vec::new(); w.who.len()];
-            for _ in 0..rounds {
-                for (t, &i) in times.iter_mut().zip(&w.who) {
-                    t.push(seconds(&self.programs[i], &log) - seconds(&self.programs[i], &base));
+            let files = self.files("short", &w);
+            for &i in &w.who {
+                if sizes[i] < MOST {
+                    continue;
+                }
+                let (base, rest) = self.once(i, &files);
+                if rest > TELLS.max(base * TIMES) {
+                    let wanted = if i == OURS { ENOUGH } else { LONG } / rest * units as f64;
+                    sizes[i] = (wanted as usize).next_power_of_two().max(FEWEST).min(MOST);
                 }
             }
-            let mut nanoseconds = vec![None; self.programs.len()];
-            for (t, &i) in times.into_iter().zip(&w.who) {
-                nanoseconds[i] = Some(median(t) * 1e9 / w.units as f64);
-            }
-            return Row { name: w.name, units: w.units, nanoseconds };
+            units *= 16;
         }
+        sizes.iter().map(|&size| size.min(sizes[OURS])).collect()
+    }
+
+    /// Measures a workload in rounds that take the programs in turn.
+    fn measure(&self, make: &dyn Fn(usize) -> Workload, fixed: Option<usize>) -> Row {
+        let Workload { name, who, .. } = make(FEWEST);
+        let sizes = fixed.map_or_else(|| self.sizes(make), |units| vec![units; self.programs.len()]);
+        let mut lengths: Vec<usize> = who.iter().map(|&i| sizes[i]).collect();
+        lengths.sort();
+        lengths.dedup();
+        let mut logs = Vec::new();
+        for &units in &lengths {
+            let files = self.files(&format!("length{}", logs.len()), &make(units));
+            self.agree(&name, who[1..].iter().filter(|&&i| sizes[i] >= units).map(|&i| &self.programs[i]), &files);
+            logs.push(files);
+        }
+        let log = |i: usize| &logs[lengths.binary_search(&sizes[i]).expect("a length")];
+        let mut times = vec![Vec::new(); who.len()];
+        for _ in 0..ROUNDS {
+            for (t, &i) in times.iter_mut().zip(&who) {
+                t.push(self.once(i, log(i)).1);
+            }
+        }
+        let mut units = log(OURS).units.to_string();
+        let mut nanoseconds = vec![None; self.programs.len()];
+        for (t, &i) in times.into_iter().zip(&who) {
+            nanoseconds[i] = Some(median(t) * 1e9 / log(i).units as f64);
+            if sizes[i] != sizes[OURS] {
+                units += &format!(" ({} {})", self.programs[i].name, log(i).units);
+            }
+        }
+        Row { name, units, nanoseconds }
     }
 
     /// Instructions for each unit of a fixed workload, which repeat.
     fn count(&self, w: &Workload) {
-        let (base, log) = (self.file("base", &w.base), self.file("whole", &w.log));
+        let files = self.files("short", w);
+        self.agree(&w.name, w.who[1..].iter().map(|&i| &self.programs[i]), &files);
         let mut line = format!("| {} | {} |", w.name, w.units);
         let mut counts = vec![None; self.programs.len()];
         for &i in &w.who {
             let p = &self.programs[i];
-            counts[i] = match (instructions(p, &log), instructions(p, &base)) {
+            counts[i] = match (instructions(p, &files.log), instructions(p, &files.base)) {
                 (Some(all), Some(start)) => Some((all - start) as f64 / w.units as f64),
                 _ => return println!("| {} | valgrind failed |", w.name),
             };
@@ -159,10 +205,13 @@ fn summary(rows: &[Row]) {
     println!("| an entry with no search, N 1024 / N 16, ours | 1 | {:.2} |", rising(1024) / rising(16));
 }
 
-/// bench ROOM MODE -- CART-COMMAND...
+/// bench ROOM MODE CART-COMMAND... [-- COMMAND...]
+/// The second command runs the program that the first one has to print the same as, where that is too slow to be measured.
 fn main() {
     let words: Vec<String> = std::env::args().skip(1).collect();
-    let (room, command) = (words[0].clone(), words[3..].to_vec());
+    let room = words[0].clone();
+    let mut commands = words[2..].split(|w| w == "--").map(|c| c.to_vec());
+    let command = commands.next().expect("the command of cart");
     let program = |name: &'static str, words: &[&str]| Program { name, words: words.iter().map(|w| w.to_string()).collect() };
     let contender = format!("{}/contender", room);
     let session = format!("{}/session", room);
@@ -173,9 +222,17 @@ fn main() {
         program("C", &[&session]),
     ];
     let bench = Bench { programs, room };
+    same_addresses();
+    if let Some(words) = commands.next() {
+        let proved = Program { name: "target/bin/cart", words };
+        for w in workloads::counted() {
+            bench.agree(&w.name, std::iter::once(&proved), &bench.files("short", &w));
+        }
+        println!("It prints what target/bin/cart prints under the emulator for {} workloads.", workloads::counted().len());
+    }
     if words[1] != "counts" {
         println!(
-            "CPU time for one unit, in nanoseconds, start-up and filling taken off; medians of {} rounds that take the programs in turn\n",
+            "\nCPU time for one unit, in nanoseconds, start-up and filling taken off; medians of {} rounds that take the programs in turn\n",
             ROUNDS
         );
         println!("| workload | units | ours | fast | naive | C | ours/fast | ours/naive | ours/C |\n|---|---|---|---|---|---|---|---|---|");

@@ -12,7 +12,8 @@ pub struct Program {
 impl Program {
     fn command(&self) -> Command {
         let mut c = Command::new(&self.words[0]);
-        c.args(&self.words[1..]);
+        // the length of the environment moves the stack
+        c.args(&self.words[1..]).env_clear();
         c
     }
 
@@ -38,6 +39,14 @@ struct Usage {
 
 extern "C" {
     fn wait4(process: i32, status: *mut i32, options: i32, usage: *mut Usage) -> i32;
+    fn personality(kind: u64) -> i32;
+}
+
+/// Has the programs lie at the same addresses in each run: where a stack begins by chance can make a tenth of a time.
+/// Some containers refuse it; the times are then those of chance places.
+pub fn same_addresses() {
+    const ADDR_NO_RANDOMIZE: u64 = 0x0040000;
+    unsafe { personality(ADDR_NO_RANDOMIZE) };
 }
 
 /// The processor time, of user and system together, that a program takes for a log.
@@ -52,13 +61,13 @@ pub fn seconds(p: &Program, log: &str) -> f64 {
     (n[0] + n[2]) as f64 + (n[1] + n[3]) as f64 / 1e6
 }
 
-/// The instructions that a program takes for a log, counted by valgrind; nothing where that fails.
+/// The instructions that a program takes for a log, counted by valgrind; nothing where that fails or takes longer than a minute.
 pub fn instructions(p: &Program, log: &str) -> Option<u64> {
-    let mut c = Command::new("valgrind");
-    c.args(["--tool=callgrind", "--callgrind-out-file=/dev/null"]).args(&p.words);
+    let mut c = Command::new("timeout");
+    c.args(["60", "valgrind", "--tool=callgrind", "--callgrind-out-file=/dev/null"]).args(&p.words);
     c.stdin(File::open(log).expect("opening a workload")).stdout(Stdio::null());
-    let said = c.output().ok()?.stderr;
-    let said = String::from_utf8_lossy(&said).into_owned();
+    let done = c.output().ok().filter(|d| d.status.success())?;
+    let said = String::from_utf8_lossy(&done.stderr).into_owned();
     let line = said.lines().find(|l| l.contains("Collected"))?;
     line.rsplit(' ').next()?.parse().ok()
 }
