@@ -284,22 +284,23 @@ module _ (q : Question) (r : Roomy (q .numbers) (q .scores)) where
           whole : suc (room - 1) ≡ room
           whole = omega arith
 
+-- the first of the first
+pub fewest : {A : Type 0} (m n : ℕ) (l : List A) → take (min m n) l ≡ take m (take n l)
+fewest m n l = go (tested (leb m n))
+  where
+    go : Tested (leb m n) → take (min m n) l ≡ take m (take n l)
+    go (passed t) =
+        let h = leb-true m n t in
+        let e : min m n ≡ m = omega arith in
+        ap (λ j. take j l) e ∙ sym (take-take m n l h)
+    go (failed t) =
+        let h = leb-false m n t in
+        let e : min m n ≡ n = omega arith in
+        ap (λ j. take j l) e ∙ sym (take-all m (take n l) (simp length-take (omega arith)))
+
 -- room for k lines, or for 16, is the list with the entry cut to k
 pub within-joined : (q : Question) (x : Entry) → inner.within q (min (q .k) 16) x ≡ inner.joined q x
 within-joined q x = ap (λ l. asked (q .k) (q .weights) l (q .next)) (fewest (q .k) 16 whole ∙ ap (take (q .k)) (sym (lines-asked (q .k) (q .weights) (take 16 whole) (q .next) (simp length-take (omega arith)))))
   where
     whole : List Entry
     whole = place above x (lines q)
-
-    fewest : (m n : ℕ) (l : List Entry) → take (min m n) l ≡ take m (take n l)
-    fewest m n l = go (tested (leb m n))
-      where
-        go : Tested (leb m n) → take (min m n) l ≡ take m (take n l)
-        go (passed t) =
-            let h = leb-true m n t in
-            let e : min m n ≡ m = omega arith in
-            ap (λ j. take j l) e ∙ sym (take-take m n l h)
-        go (failed t) =
-            let h = leb-false m n t in
-            let e : min m n ≡ n = omega arith in
-            ap (λ j. take j l) e ∙ sym (take-all m (take n l) (simp length-take (omega arith)))

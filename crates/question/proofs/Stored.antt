@@ -21,6 +21,7 @@ use Rattle.ranking.proofs.Tests.{Tested, passed, failed, tested}
 use Rattle.question.specs.declared.Question.{Question}
 use Rattle.question.specs.Lines.{linesOf, lines, asked}
 use Rattle.question.specs.Inner.{pushed, shown}
+pub use Rattle.question.specs.Inner.{Roomy}
 
 module _ {A : Type 0} (d : A) where
   pub take-replicate : (n p : ℕ) → n ≤ p → take n (replicate p d) ≡ replicate n d
@@ -94,14 +95,12 @@ take-min n l = go (tested (leb n (length l)))
         let h = leb-false n (length l) t in
         take-all n l (omega arith) ∙ sym (take-all (min n (length l)) l (omega arith))
 
--- The columns have their room.
-pub record Roomy (ns : List ℕ) (ss : List ℤ) : Type 0 where
-  pub numbers : length ns ≡ 16
-  pub scores : length ss ≡ 16
-
 -- as a function knows it of the arrays of a question that is handed in
 pub roomy : (q : Question) → length (map (λ (n : ℕ). n) (q .numbers)) ≡ 16 → length (map (λ (s : ℤ). s) (q .scores)) ≡ 16 → Roomy (q .numbers) (q .scores)
 roomy q n s = record { numbers = sym (length-map (q .numbers) (λ v. v)) ∙ n; scores = sym (length-map (q .scores) (λ v. v)) ∙ s }
+
+pub roomy-same : {ns ns' : List ℕ} {ss ss' : List ℤ} → Roomy ns ss → ns' ≡ ns → ss' ≡ ss → Roomy ns' ss'
+roomy-same r e f = record { numbers = ap length e ∙ r .numbers; scores = ap length f ∙ r .scores }
 
 -- the line that the columns have at a place
 abbrev pub lineAt : List ℕ → List ℤ → ℕ → Entry

@@ -1,14 +1,15 @@
 // One question: its weights, its list of at most 16 lines, and how far its search has come.
 ghost use mathlib.Core.Path.{_≡_};
 ghost use mathlib.Core.List.{[], _++_};
-ghost use Prim.Native.Nat.{min, _+_, _%_, _≤_};
+ghost use Prim.Native.Nat.{min, _+_, _%_, _≤_, _<_};
 ghost use Rattle.window.specs.Rows.{standing};
 ghost use lib.ListN.{take, drop};
+ghost use lib.Dec.{eqb};
 ghost use Rattle.ranking.specs.Best.{best};
 ghost use Rattle.ranking.specs.Standing.{above};
 ghost use Rattle.question.specs.Lines.{asked, linesOf, lines, emptySlot, withEntry, cutToK, finished, begun, stepOn, rowsOf, searchedOn, searchedFirst, stepsTaken, isMarked, marksOf};
 ghost use Rattle.question.specs.Calls.{allOf, holdsNumber, heldAs, falls, blank, rangesFit, fitQuestion, stepCall, beginCall};
-ghost use Rattle.question.specs.Inner.{pushed, shown, kept, rankIn, newIn, within, joined, taking, listTaken, at, barOf, admits, gathered, endedOf};
+ghost use Rattle.question.specs.Inner.{pushed, shown, kept, rankIn, newIn, within, joined, taking, listTaken, at, barIn, barOf, admits, slid, Roomy, Placing, gathered, endedOf};
 use ranking::Grid;
 use ranking::Weights;
 use ranking::ranks_above;
@@ -336,19 +337,29 @@ impl Question {
         ensures { λ r. ⌜ r ≡ gathered self (rowsOf (now (losses .entry)) (now (shakes .entry)) (now (numbers .entry))) rows ⌝ }
     {
         let weights = self.weights;
-        let mut list = Question::blank(self.k, weights, self.next);
-        let mut bar = list.bar();
+        let k = self.k as usize;
+        let mut top = [0u32; 16];
+        let mut by = [0i32; 16];
+        let mut len: usize = 0;
+        let mut bar = bar_in(&top, &by, len, k);
         let mut row: usize = 0;
         while row < rows {
             let number = numbers[row];
             let score = weights.score(losses[row], shakes[row]);
             if bar.admits(number, score) {
-                list = list.joined(number, score);
-                bar = list.bar();
+                len = placed_in(&mut top, &mut by, len, k, number, score);
+                bar = bar_in(&top, &by, len, k);
             }
             row += 1;
         }
-        list
+        Question {
+            k: self.k,
+            weights,
+            numbers: top,
+            scores: by,
+            len: len as u8,
+            next: self.next,
+        }
     }
 
     // The list's bar; a list with no line has none.
@@ -574,10 +585,141 @@ impl Bar {
             return false;
         }
         if self.full {
+            // Most reports fail by their score alone.
+            if score < self.score {
+                return false;
+            }
             return ranks_above(score, number, self.score, self.number);
         }
         true
     }
+}
+
+// The bar of the first `len` lines of two arrays.
+fn bar_in<'a>(numbers: &'a [u32; 16], scores: &'a [i32; 16], len: usize, k: usize) -> Bar
+    requires { ⌜ len ≤ 16 ⌝ }
+    ensures { λ r. ⌜ r ≡ barIn (now (numbers .entry)) (now (scores .entry)) len (eqb len k) ⌝ }
+{
+    if len == 0 {
+        return Bar {
+            full: false,
+            number: 0,
+            score: 0,
+        };
+    }
+    let last = len - 1;
+    Bar {
+        full: len == k,
+        number: numbers[last],
+        score: scores[last],
+    }
+}
+
+// How many of the first `len` lines of two arrays rank above an entry, before the first that doesn't.
+fn rank_in<'a>(
+    numbers: &'a [u32; 16],
+    scores: &'a [i32; 16],
+    len: usize,
+    number: u32,
+    score: i32,
+) -> usize
+    requires { ⌜ (len ≤ 16) × Roomy (now numbers) (now scores) ⌝ }
+    ensures { λ r. ⌜
+        r ≡ rankIn (record { number = number; score = score }) (take len (linesOf (now (numbers .entry)) (now (scores .entry))))
+        ⌝ }
+{
+    let mut i: usize = 0;
+    while i < len {
+        if !ranks_above(scores[i], numbers[i], score, number) {
+            return i;
+        }
+        i += 1;
+    }
+    len
+}
+
+// The line at an entry's rank is another.
+fn new_in<'a>(
+    numbers: &'a [u32; 16],
+    scores: &'a [i32; 16],
+    len: usize,
+    at: usize,
+    number: u32,
+    score: i32,
+) -> bool
+    requires { ⌜
+        (len ≤ 16) × Roomy (now numbers) (now scores)
+        × (at ≡ rankIn (record { number = number; score = score }) (take len (linesOf (now numbers) (now scores))))
+        ⌝ }
+    ensures { λ r. ⌜
+        r ≡ newIn (record { number = number; score = score }) (take len (linesOf (now (numbers .entry)) (now (scores .entry))))
+        ⌝ }
+{
+    if at < len {
+        return ranks_above(score, number, scores[at], numbers[at]);
+    }
+    true
+}
+
+// An entry put at a place, and the lines from there to the last one moved one place back; the last one goes.
+fn slide<'a>(
+    numbers: &'a mut [u32; 16],
+    scores: &'a mut [i32; 16],
+    at: usize,
+    last: usize,
+    number: u32,
+    score: i32,
+)
+    requires { ⌜ (at ≤ last) × (last < 16) × Roomy (now numbers) (now scores) ⌝ }
+    ensures { λ _. ⌜
+        (now (numbers .exit) ≡ slid at last number (now (numbers .entry)))
+        × (now (scores .exit) ≡ slid at last score (now (scores .entry)))
+        ⌝ }
+{
+    let mut i = last;
+    while at < i {
+        let before = i - 1;
+        numbers[i] = numbers[before];
+        scores[i] = scores[before];
+        i = before;
+    }
+    numbers[at] = number;
+    scores[at] = score;
+}
+
+// One entry put in its rank among the first `len` lines of two arrays, once, of which at most `room` are kept: their
+// number then. The lines past them stay.
+fn placed_in<'a>(
+    numbers: &'a mut [u32; 16],
+    scores: &'a mut [i32; 16],
+    len: usize,
+    room: usize,
+    number: u32,
+    score: i32,
+) -> usize
+    requires { ⌜ (len ≤ 16) × (room ≤ 16) × Roomy (now numbers) (now scores) ⌝ }
+    ensures { λ r. ⌜
+        Placing (record { number = number; score = score }) len room (linesOf (now (numbers .entry)) (now (scores .entry))) (linesOf (now (numbers .exit)) (now (scores .exit))) r
+        × Roomy (now (numbers .exit)) (now (scores .exit))
+        ⌝ }
+{
+    let at = rank_in(numbers, scores, len, number, score);
+    if room <= at {
+        return room;
+    }
+    if !new_in(numbers, scores, len, at, number, score) {
+        return smaller(len, room);
+    }
+    let last = smaller(len, room - 1);
+    slide(numbers, scores, at, last, number, score);
+    last + 1
+}
+
+// The smaller of two lengths.
+fn smaller(a: usize, b: usize) -> usize
+    ensures { λ r. ⌜ r ≡ min a b ⌝ }
+{
+    if a < b { a } else { b }
 }
 
 // The smaller of two numbers.
