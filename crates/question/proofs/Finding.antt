@@ -191,10 +191,6 @@ module _ (q : Question) (small : q .k ≤ 16) (w : Window) where
             (ap (onLast (above e)) (sym (back n)) ∙ full .last (above e) ∙ sym (admits-full (barOf (gathered q w n)) e z t) ∙ h)))
             ∙ sym (rows-more n (reportIn w n ∷ standing w n) (if-not (standing w n) (reportIn w n ∷ standing w n) z))
 
-pub gathered-start : (first : Question) (k : ℕ) (weights : Weights) (next : ℕ) → first ≡ asked k weights [] next → k ≤ 16 → (w : Window) → first ≡ gathered first w 0
-gathered-start first k weights next e small w =
-    subst (λ b. b ≡ gathered b w 0) (sym e) (gathered-none (asked k weights [] next) small w)
-
 -- ---- the end
 
 -- what stands in rows is permitted

@@ -9,15 +9,15 @@ use native.Mathlib.Numerals.{add-one}
 use native.Mathlib.Omega.{arith}
 use lib.IntN.{ℤ, pos}
 use lib.ListN.{length, take, drop, getD, set, replicate, length-append, length-take, length-drop, take-append-drop}
-use lib.Seq.{take-take, take-at, drop-at, length-take-le}
+use lib.Seq.{take-all, take-take, take-at, drop-at, length-take-le}
 use Rattle.ranking.specs.Best.{place}
 use Rattle.ranking.specs.Standing.{Entry, above}
 use Rattle.ranking.specs.declared.Weights.{Weights}
 use Rattle.ranking.proofs.Tests.{Tested, passed, failed, tested}
 use Rattle.question.specs.declared.Question.{Question}
 use Rattle.question.specs.Lines.{linesOf, lines, asked}
-use Rattle.question.specs.Inner.{rankIn, newIn, slid, Placing, within, joined}
-use Rattle.question.proofs.Stored.{Roomy, take-replicate, lines-asked}
+use Rattle.question.specs.Inner.{rankIn, newIn, slid, wiped, Placing, within, joined}
+use Rattle.question.proofs.Stored.{Roomy, take-replicate, length-front, lines-asked}
 use Rattle.question.proofs.Placed.{rank-le, place-new, place-old, place-over, cut-new, fewest, within-joined}
 
 -- ---- one column
@@ -70,6 +70,27 @@ module _ {A : Type 0} where
   length-slid x zero m (y ∷ l) h g = simp (length-append, length-take, length-drop) (omega arith)
   length-slid x (suc a) zero (y ∷ l) h g = absurd (not-suc-le-zero h)
   length-slid x (suc a) (suc m) (y ∷ l) h g = ap suc (length-slid x a m l (le-of-suc-le-suc h) (le-of-suc-le-suc g))
+
+-- ---- one column, 0 past a place
+
+module _ {A : Type 0} (d : A) where
+  pub wiped-none : (l : List A) → length l ≡ 16 → wiped 16 d l ≡ l
+  wiped-none l h =
+      ap (λ r. take 16 (r ++ replicate 16 d)) (take-all 16 l (omega arith)) ∙ take-at l (replicate 16 d) 16 h
+
+  wipe-step : (n p j : ℕ) (l : List A) → j < n → n ≤ p → j < length l → set (take n (take (suc j) l ++ replicate p d)) j d ≡ take n (take j l ++ replicate p d)
+  wipe-step zero p j l a b h = absurd (not-suc-le-zero a)
+  wipe-step (suc n) p j [] a b h = absurd (not-suc-le-zero h)
+  wipe-step (suc n) zero j (y ∷ l) a b h = absurd (not-suc-le-zero b)
+  wipe-step (suc n) (suc p) zero (y ∷ l) a b h =
+      ap (λ r. d ∷ r) (take-replicate d n (suc p) (omega arith) ∙ sym (take-replicate d n p (le-of-suc-le-suc b)))
+  wipe-step (suc n) (suc p) (suc j) (y ∷ l) a b h =
+      ap (λ r. y ∷ r) (wipe-step n (suc p) j l (le-of-suc-le-suc a) (omega arith) (le-of-suc-le-suc h))
+
+  -- one place further to the front
+  pub wiped-more : (i j : ℕ) (l now : List A) → i ≡ suc j → i ≤ 16 → length l ≡ 16 → now ≡ wiped i d l → set now j d ≡ wiped j d l
+  wiped-more i j l now e h g is =
+      ap (λ s. set s j d) (is ∙ ap (λ n. wiped n d l) e) ∙ wipe-step 16 16 j l (omega arith) (omega arith) (omega arith)
 
 -- ---- both columns
 
@@ -218,6 +239,29 @@ stored-asked k w ns ss next room l is r e = λ i. record { k = k; weights = w; n
     right : ss ≡ take 16 (map (λ e. e .score) l ++ replicate 16 (pos 0))
     right = sym (scores-of ns ss even) ∙ ap (map (λ e. e .score)) is ∙ column (λ e. e .score) 16 16 l
 
+-- the first lines of two arrays, 0 past them
+pub listed-asked : (k : ℕ) (w : Weights) {ns' : List ℕ} {ss' : List ℤ} (ns : List ℕ) (ss : List ℤ) (next m : ℕ) → Roomy ns ss → m ≤ 16 → ns' ≡ wiped m 0 ns → ss' ≡ wiped m (pos 0) ss → record { k = k; weights = w; numbers = ns'; scores = ss'; len = m; next = next } ≡ asked k w (take m (linesOf ns ss)) next
+listed-asked k w ns ss next m room h left right = λ i.
+    record {
+      k = k;
+      weights = w;
+      numbers = (left ∙ ap (λ l. take 16 (l ++ replicate 16 0)) (front (λ e. e .number) (numbers-of ns ss even))) i;
+      scores = (right ∙ ap (λ l. take 16 (l ++ replicate 16 (pos 0))) (front (λ e. e .score) (scores-of ns ss even))) i;
+      len = sym (length-front ns ss room m h) i;
+      next = next;
+    }
+  where
+    even : length ns ≡ length ss
+    even = room .numbers ∙ sym (room .scores)
+
+    map-take : {A : Type 0} (f : Entry → A) (n : ℕ) (l : List Entry) → take n (map f l) ≡ map f (take n l)
+    map-take f zero l = refl
+    map-take f (suc n) [] = refl
+    map-take f (suc n) (y ∷ l) = ap (λ r. f y ∷ r) (map-take f n l)
+
+    front : {A : Type 0} (f : Entry → A) {l : List A} → map f (linesOf ns ss) ≡ l → take m l ≡ map f (take m (linesOf ns ss))
+    front f e = ap (take m) (sym e) ∙ map-take f m (linesOf ns ss)
+
 asked-lines : (n p : ℕ) (l : List Entry) → linesOf (take n (map (λ e. e .number) l ++ replicate p 0)) (take n (map (λ e. e .score) l ++ replicate p (pos 0))) ≡ take n (l ++ replicate p blank)
 asked-lines zero p l = refl
 asked-lines (suc n) zero [] = refl
@@ -242,7 +286,8 @@ longer x l = go (tested (newIn x l))
     go : Tested (newIn x l) → length l ≤ length (place above x l)
     go (failed t) = rw (place-old x l t) (omega arith)
     go (passed t) =
-        rw (place-new x l t) (omega (arith, simp (length-append, length-take, length-drop) at (ap length (take-append-drop (rankIn x l) l)), length-append (take (rankIn x l) l) (x ∷ drop (rankIn x l) l), length-append (take (rankIn x l) l) (drop (rankIn x l) l), ap length (take-append-drop (rankIn x l) l)))
+        let whole = ap length (take-append-drop (rankIn x l) l) in
+        rw (place-new x l t) (simp length-append (omega (arith, length-append (take (rankIn x l) l) (drop (rankIn x l) l), whole)))
 
 -- an entry put in its rank in the arrays of a stored list joins it
 module _ (k : ℕ) (w : Weights) (next : ℕ) (ns ns' : List ℕ) (ss ss' : List ℤ) (len r : ℕ) (l : List Entry) (x : Entry) (is : record { k = k; weights = w; numbers = ns; scores = ss; len = len; next = next } ≡ asked k w l next) (few : length l ≤ k) (small : k ≤ 16) (room : Roomy ns' ss') (placing : Placing x len k (linesOf ns ss) (linesOf ns' ss') r) where

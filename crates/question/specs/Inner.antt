@@ -1,17 +1,17 @@
 -- What the inner functions of a question answer; no public contract cites it.
 use mathlib.Core.Path.{_≡_}
-use Prim.Native.Nat.{ℕ, suc, _+_, _-_, min}
+use Prim.Native.Nat.{ℕ, suc, _-_, min}
 use mathlib.Core.Bool.{Bool, true, false, cond, not, _&&_, _||_}
 use mathlib.Core.List.{List, [], _∷_, map, _++_}
-use lib.ListN.{length, take, drop, set, getD}
+use lib.ListN.{length, take, drop, getD, replicate}
 use lib.IntN.{ℤ, pos}
-use lib.Dec.{ltb, eqb}
+use lib.Dec.{eqb}
 use Rattle.ranking.specs.Best.{best, place, only}
 use Rattle.ranking.specs.Cells.{cell, cellAt, reaching}
 use Rattle.ranking.specs.Standing.{Held, Entry, above, entry}
 use Rattle.window.specs.declared.Window.{Window}
 use Rattle.window.specs.Rows.{standing}
-use Rattle.question.specs.Lines.{linesOf, lines, asked, withEntry, cutToK}
+use Rattle.question.specs.Lines.{lines, asked, withEntry, cutToK}
 use Rattle.question.specs.declared.Question.{Question}
 use Rattle.question.specs.declared.Bar.{Bar}
 use Rattle.question.specs.declared.Searched.{Searched}
@@ -19,24 +19,6 @@ use Rattle.question.specs.declared.Searched.{Searched}
 -- How many lines there are.
 abbrev pub shown : Question → ℕ
 shown q = min (q .len) 16
-
--- One line more, behind the others; none, where the list has no room.
-unfoldable pub pushed : Question → Entry → Question
-pushed q e =
-    cond (ltb (q .len) 16)
-    (record {
-      k = q .k;
-      weights = q .weights;
-      numbers = set (q .numbers) (q .len) (e .number);
-      scores = set (q .scores) (q .len) (e .score);
-      len = q .len + 1;
-      next = q .next;
-    })
-    q
-
--- The first m lines, as they stand in the arrays.
-abbrev pub kept : Question → ℕ → Question
-kept q m = asked (q .k) (q .weights) (take m (linesOf (q .numbers) (q .scores))) (q .next)
 
 -- How many lines rank above an entry, before the first that doesn't.
 abbrev pub rankIn : Entry → List Entry → ℕ
@@ -96,6 +78,10 @@ pub record Roomy (ns : List ℕ) (ss : List ℤ) : Type 0 where
 -- x at a place, and what stood from there to the place `last` one place back; what stood at `last` goes.
 abbrev pub slid : {A : Type 0} → (at last : ℕ) → A → List A → List A
 slid at last x l = take at l ++ (x ∷ (drop at (take last l) ++ drop (suc last) l))
+
+-- The first n of a column, and d in the places past them.
+abbrev pub wiped : {A : Type 0} → ℕ → A → List A → List A
+wiped n d l = take 16 (take n l ++ replicate 16 d)
 
 -- The lines `new` have, as their first r, the first `len` of `old` with an entry in its rank, at most `room` of them; the rest is as it was.
 pub record Placing (e : Entry) (len room : ℕ) (old new : List Entry) (r : ℕ) : Type 0 where

@@ -3,7 +3,6 @@
 use mathlib.Core.Path.{sym, ap, _∙_}
 use Prim.Native.Nat.{_-_}
 use borrow.Author.Needs.{needs}
-use lib.Dec.{eqb}
 use lib.IntN.{pos}
 use lib.ListN.{getD}
 use mir.Syntax.{w32}
@@ -15,7 +14,7 @@ use Rattle.question.proofs.bar_in.Tie as tie
 returns : tie.Need-returns
 returns c =
     let a = c .before .args in
-    sym (bar-in-none (a .numbers .now) (a .scores .now) (a .len) (eqb (a .len) (a .k)) (c .if1 .taken))
+    sym (bar-in-none (a .numbers .now) (a .scores .now) (a .len) (a .full) (c .if1 .taken))
 
 sub-last : tie.Need-sub-last
 sub-last c = search needs
@@ -38,8 +37,8 @@ returns-2 c =
     let a = first .before .args in
     let ns = a .numbers .now in
     let ss = a .scores .now in
-    ap (λ s. record { full = eqb (a .len) (a .k); number = getD ns (a .len - 1) 0; score = s }) (kept w32 (getD ss (a .len - 1) (pos 0)) (c .t14 .given))
-    ∙ sym (bar-in-some ns ss (a .len) (eqb (a .len) (a .k)) (first .if1 .left))
+    ap (λ s. record { full = a .full; number = getD ns (a .len - 1) 0; score = s }) (kept w32 (getD ss (a .len - 1) (pos 0)) (c .t14 .given))
+    ∙ sym (bar-in-some ns ss (a .len) (a .full) (first .if1 .left))
 
 pub bar-in-spec : {M : Type 1} → statement M
 bar-in-spec =

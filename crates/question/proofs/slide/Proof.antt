@@ -5,7 +5,7 @@ use Prim.Native.Nat.{suc, _≤_, _<_, _-_}
 use native.Mathlib.Omega.{arith}
 use borrow.Author.Needs.{needs}
 use lib.IntN.{pos}
-use lib.ListN.{length, getD, set}
+use lib.ListN.{getD, set}
 use mir.Facts.{toZ-ofZ}
 use mir.Syntax.{w32}
 use Rattle.ranking.proofs.Words.{kept}

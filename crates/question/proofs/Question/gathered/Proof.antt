@@ -151,8 +151,8 @@ loop-again c =
     ))
     (c .if1 .came)
 
-cast-t36 : tie.Need-cast-t36 Inv-loop μ-loop
-cast-t36 c = let few = short (c .before) in search needs
+cast-t38 : tie.Need-cast-t38 Inv-loop μ-loop
+cast-t38 c = let few = short (c .before) in search needs
 
 returns : tie.Need-returns Inv-loop μ-loop
 returns c =
@@ -183,5 +183,5 @@ gathered-spec =
     add-row
     loop-less
     loop-again
-    cast-t36
+    cast-t38
     returns)
