@@ -8,8 +8,9 @@ use Prim.Native.Nat.{ℕ, zero, suc, _+_, _-_, _%_, min, _≤_, _<_}
 use native.Mathlib.Numerals.{add-one}
 use native.Mathlib.Omega.{arith}
 use borrow.Author.Tests.{eq-eqb, ne-eqb, eqb-true, eqb-false, le-leb, lt-leb}
-use lib.Dec.{eqb, leb}
-use lib.IntN.{pos}
+use lib.Dec.{eqb, leb, ltb}
+use lib.IntN.{ℤ, pos}
+use lib.Signed.{ltZ}
 use lib.ListN.{length, take, getD, replicate, length-take, length-append, length-replicate}
 use lib.Seq.{take-nil}
 use Rattle.ranking.specs.Best.{_∈_, best, onLast}
@@ -20,7 +21,7 @@ use Rattle.ranking.specs.declared.Weights.{Weights}
 use Rattle.ranking.specs.declared.Reach.{Reach}
 use Rattle.ranking.proofs.Tests.{Tested, passed, failed, tested, clash}
 use Rattle.ranking.proofs.Lists.{getD-past}
-use Rattle.ranking.proofs.Best.{length-best-le, best-skip}
+use Rattle.ranking.proofs.Best.{length-best-le, best-skip, one-way}
 use Rattle.ranking.proofs.Search.{All}
 use Rattle.ranking.proofs.Scan.{left-none}
 use Rattle.ranking.proofs.Standing.{above-strict, found-best, steps-all, steps-full}
@@ -29,21 +30,29 @@ use Rattle.window.specs.Rows.{reportIn, standing}
 use Rattle.question.specs.declared.Question.{Question}
 use Rattle.question.specs.declared.Bar.{Bar}
 use Rattle.question.specs.declared.Searched.{Searched}
-use Rattle.question.specs.Lines.{lines, asked, searched, searchedIn, inRows, rowsOf, searchedOn, searchedFirst}
-use Rattle.question.specs.Inner.{shown, joined, at, barOf, admits, gathered, endedOf}
+use Rattle.question.specs.Lines.{linesOf, lines, asked, searched, searchedIn, inRows, rowsOf, searchedOn, searchedFirst}
+use Rattle.question.specs.Inner.{shown, joined, at, barIn, barOf, admits, Placing, gathered, endedOf}
 use Rattle.question.proofs.Stored.{Roomy, lines-asked, length-lines, last-line}
+use Rattle.question.proofs.Sliding.{placed-joined}
 use Rattle.question.proofs.Taking.{if-so, if-not, joined-best}
 
 -- ---- the bar
 
+module _ (ns : List ℕ) (ss : List ℤ) (n : ℕ) (full : Bool) where
+  pub bar-in-none : n ≡ 0 → barIn ns ss n full ≡ record { full = false; number = 0; score = pos 0 }
+  unfolding barIn
+  bar-in-none e = if-so _ _ (eq-eqb n 0 e)
+
+  pub bar-in-some : (n ≡ 0 → ⊥) → barIn ns ss n full ≡ record { full = full; number = getD ns (n - 1) 0; score = getD ss (n - 1) (pos 0) }
+  unfolding barIn
+  bar-in-some e = if-not _ _ (ne-eqb n 0 e)
+
 module _ (q : Question) where
   pub bar-none : shown q ≡ 0 → barOf q ≡ record { full = false; number = 0; score = pos 0 }
-  unfolding barOf
-  bar-none e = if-so _ _ (eq-eqb (shown q) 0 e)
+  bar-none = bar-in-none (q .numbers) (q .scores) (shown q) (eqb (q .len) (q .k))
 
   pub bar-some : (shown q ≡ 0 → ⊥) → barOf q ≡ record { full = eqb (q .len) (q .k); number = getD (q .numbers) (shown q - 1) 0; score = getD (q .scores) (shown q - 1) (pos 0) }
-  unfolding barOf
-  bar-some e = if-not _ _ (ne-eqb (shown q) 0 e)
+  bar-some = bar-in-some (q .numbers) (q .scores) (shown q) (eqb (q .len) (q .k))
 
   -- where it is full, the bar is the last of k lines
   pub record Full : Type 0 where
@@ -84,6 +93,12 @@ module _ (q : Question) where
       go (failed t) =
           clash (eq-eqb (q .len) (q .k) many) (sym (ap (λ (b : Bar). b .full) (bar-some (eqb-false (shown q) 0 t))) ∙ e)
 
+  -- as it is read of arrays
+  pub bar-shown : q .len ≤ 16 → barIn (q .numbers) (q .scores) (q .len) (eqb (q .len) (q .k)) ≡ barOf q
+  bar-shown h =
+      let all : q .len ≡ shown q = omega arith in
+      ap (λ n. barIn (q .numbers) (q .scores) n (eqb (q .len) (q .k))) all
+
 module _ (bar : Bar) (e : Entry) where
   pub admits-none : eqb (e .number) 0 ≡ true → admits bar e ≡ false
   unfolding admits
@@ -96,6 +111,11 @@ module _ (bar : Bar) (e : Entry) where
   pub admits-full : eqb (e .number) 0 ≡ false → bar .full ≡ true → admits bar e ≡ above e (record { number = bar .number; score = bar .score })
   unfolding admits
   admits-full t f = rw (t, f)
+
+  -- a lower score is enough to fail
+  pub admits-low : eqb (e .number) 0 ≡ false → bar .full ≡ true → ltZ (e .score) (bar .score) ≡ true → admits bar e ≡ false
+  admits-low t f low = admits-full t f ∙ one-way above above-strict (record { number = bar .number; score = bar .score }) e
+      (ap (λ b. elim b [ true ↦ true | false ↦ elim (ltZ (bar .score) (e .score)) [ true ↦ false | false ↦ ltb (e .number) (bar .number) ] ]) low)
 
 -- ---- the rows
 
@@ -110,8 +130,15 @@ module _ (q : Question) (small : q .k ≤ 16) (w : Window) where
   abbrev listed : ℕ → List Entry
   listed n = best above (q .k) (map (entry (q .weights)) (standing w n))
 
+  few-k : (n : ℕ) → length (listed n) ≤ q .k
+  few-k n = length-best-le above above-strict (q .k) (map (entry (q .weights)) (standing w n))
+
   few : (n : ℕ) → length (listed n) ≤ 16
-  few n = omega (arith, length-best-le above above-strict (q .k) (map (entry (q .weights)) (standing w n)))
+  few n = omega (arith, few-k n)
+
+  -- the arrays' length
+  pub gathered-few : (n len : ℕ) → len ≡ gathered q w n .len → len ≤ 16
+  gathered-few n len e = omega (arith, e, few n)
 
   back : (n : ℕ) → lines (gathered q w n) ≡ listed n
   back n = lines-asked (q .k) (q .weights) (listed n) (q .next) (few n)
@@ -141,6 +168,13 @@ module _ (q : Question) (small : q .k ≤ 16) (w : Window) where
             joined-best (q .k) (q .weights) (map (entry (q .weights)) (standing w n)) (q .next) (entry (q .weights) (reportIn w n)) small
             ∙ sym (rows-more n (reportIn w n ∷ standing w n) (if-not (standing w n) (reportIn w n ∷ standing w n) z))
 
+    -- as the arrays have it
+    pub gathered-places : (ns ns' : List ℕ) (ss ss' : List ℤ) (len r : ℕ) (x : Entry) → record { k = q .k; weights = q .weights; numbers = ns; scores = ss; len = len; next = q .next } ≡ gathered q w n → Roomy ns' ss' → Placing x len (q .k) (linesOf ns ss) (linesOf ns' ss') r → x ≡ entry (q .weights) (reportIn w n) → admits (barOf (gathered q w n)) (entry (q .weights) (reportIn w n)) ≡ true → record { k = q .k; weights = q .weights; numbers = ns'; scores = ss'; len = r; next = q .next } ≡ gathered q w (n + 1)
+    gathered-places ns ns' ss ss' len r x is room placing xe h =
+        placed-joined (q .k) (q .weights) (q .next) ns ns' ss ss' len r (listed n) x is (few-k n) small room placing
+        ∙ ap (joined (gathered q w n)) xe
+        ∙ gathered-takes h
+
     -- and one whose report doesn't
     pub gathered-skips : admits (barOf (gathered q w n)) (entry (q .weights) (reportIn w n)) ≡ false → gathered q w n ≡ gathered q w (n + 1)
     unfolding e
@@ -156,10 +190,6 @@ module _ (q : Question) (small : q .k ≤ 16) (w : Window) where
             (best-skip above above-strict (q .k) e (map (entry (q .weights)) (standing w n)) (full .some) (full .as-many)
             (ap (onLast (above e)) (sym (back n)) ∙ full .last (above e) ∙ sym (admits-full (barOf (gathered q w n)) e z t) ∙ h)))
             ∙ sym (rows-more n (reportIn w n ∷ standing w n) (if-not (standing w n) (reportIn w n ∷ standing w n) z))
-
-pub gathered-start : (first : Question) (k : ℕ) (weights : Weights) (next : ℕ) → first ≡ asked k weights [] next → k ≤ 16 → (w : Window) → first ≡ gathered first w 0
-gathered-start first k weights next e small w =
-    subst (λ b. b ≡ gathered b w 0) (sym e) (gathered-none (asked k weights [] next) small w)
 
 -- ---- the end
 

@@ -1,5 +1,6 @@
 pub mod Stored
 pub mod Placed
+pub mod Sliding
 pub mod Ending
 pub mod Taking
 pub mod Marking

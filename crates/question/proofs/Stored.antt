@@ -1,40 +1,32 @@
--- A list as a question stores it: each column by induction on the list, so that a line pushed behind it and the lines read back are what they should be.
+-- A list as a question stores it: each column by induction on the list, so that the lines read back are what they should be.
 -- Assumes nothing.
 use mathlib.Core.Path.{_≡_, refl, sym, ap, _∙_}
-use mathlib.Core.Logic.{⊎-elim}
-use mathlib.Core.Bool.{Bool, true, false}
+use mathlib.Core.Bool.{Bool}
 use mathlib.Core.List.{List, [], _∷_, _++_, map}
 use Prim.Native.Nat.{ℕ, zero, suc, _+_, min, _≤_, _<_}
 use native.Mathlib.Nat.{le-of-suc-le-suc, not-suc-le-zero, suc-inj}
 use native.Mathlib.Numerals.{add-one}
 use native.Mathlib.Omega.{arith}
-use borrow.Author.Tests.{lt-ltb, le-ltb, leb-true, leb-false}
-use lib.Dec.{ltb, leb}
+use borrow.Author.Tests.{leb-true, leb-false}
+use lib.Dec.{leb}
 use lib.IntN.{ℤ, pos}
-use lib.ListN.{length, take, drop, getD, set, replicate, length-append, length-map, drop-of-length-le}
-use lib.Seq.{take-all, take-append-le, take-suc, length-take-le, drop-cons, getD-take}
+use lib.ListN.{length, take, drop, getD, replicate, length-map, drop-of-length-le}
+use lib.Seq.{take-all, take-suc, length-take-le, drop-cons, getD-take}
 use Rattle.ranking.specs.Best.{onLast}
 use Rattle.ranking.specs.Standing.{Entry}
 use Rattle.ranking.specs.declared.Weights.{Weights}
-use Rattle.ranking.proofs.Lists.{lt-or-eq, last-at}
+use Rattle.ranking.proofs.Lists.{last-at}
 use Rattle.ranking.proofs.Tests.{Tested, passed, failed, tested}
 use Rattle.question.specs.declared.Question.{Question}
 use Rattle.question.specs.Lines.{linesOf, lines, asked}
-use Rattle.question.specs.Inner.{pushed, shown}
+use Rattle.question.specs.Inner.{shown}
+pub use Rattle.question.specs.Inner.{Roomy}
 
 module _ {A : Type 0} (d : A) where
   pub take-replicate : (n p : ℕ) → n ≤ p → take n (replicate p d) ≡ replicate n d
   take-replicate zero p h = refl
   take-replicate (suc n) zero h = absurd (not-suc-le-zero h)
   take-replicate (suc n) (suc p) h = ap (λ l. d ∷ l) (take-replicate n p (le-of-suc-le-suc h))
-
-  -- one more in a column, behind the others
-  column-push : {E : Type 0} (f : E → A) (n p : ℕ) → n ≤ p → (l : List E) (x : E) → length l < n → set (take n (map f l ++ replicate p d)) (length l) (f x) ≡ take n (map f (l ++ (x ∷ [])) ++ replicate p d)
-  column-push f zero p h l x r = absurd (not-suc-le-zero r)
-  column-push f (suc n) zero h l x r = absurd (not-suc-le-zero h)
-  column-push f (suc n) (suc p) h [] x r =
-      ap (λ l. f x ∷ l) (take-replicate n p (le-of-suc-le-suc h) ∙ sym (take-replicate n (suc p) (omega arith)))
-  column-push f (suc n) (suc p) h (y ∷ l) x r = ap (λ m. f y ∷ m) (column-push f n (suc p) (omega arith) l x (le-of-suc-le-suc r))
 
 -- the line that stands at a place
 getD-lines : (ns : List ℕ) (ss : List ℤ) (i : ℕ) → i < length ns → i < length ss → getD (linesOf ns ss) i (record { number = 0; score = pos 0 }) ≡ record { number = getD ns i 0; score = getD ss i (pos 0) }
@@ -57,30 +49,6 @@ read-back (suc n) p (x ∷ l) h = ap (λ m. x ∷ m) (read-back n p l (le-of-suc
 pub lines-asked : (k : ℕ) (w : Weights) (l : List Entry) (next : ℕ) → length l ≤ 16 → lines (asked k w l next) ≡ l
 lines-asked k w l next h = read-back 16 16 l h
 
-pub pushed-asked : (k : ℕ) (w : Weights) (l : List Entry) (next : ℕ) (x : Entry) → length l ≤ 16 → pushed (asked k w l next) x ≡ asked k w (take 16 (l ++ (x ∷ []))) next
-unfolding pushed
-pushed-asked k w l next x h = ⊎-elim room full (lt-or-eq h)
-  where
-    room : length l < 16 → pushed (asked k w l next) x ≡ asked k w (take 16 (l ++ (x ∷ []))) next
-    room r =
-        let fits : take 16 (l ++ (x ∷ [])) ≡ l ++ (x ∷ []) = take-all 16 (l ++ (x ∷ [])) (rw (length-append l (x ∷ [])) (omega arith)) in
-        let t : ltb (length l) 16 ≡ true = lt-ltb (length l) 16 r in
-        rw (t, fits) (λ i.
-        record {
-          k = k;
-          weights = w;
-          numbers = column-push 0 (λ (e : Entry). e .number) 16 16 (omega arith) l x r i;
-          scores = column-push (pos 0) (λ (e : Entry). e .score) 16 16 (omega arith) l x r i;
-          len = sym (length-append l (x ∷ [])) i;
-          next = next;
-        })
-
-    full : length l ≡ 16 → pushed (asked k w l next) x ≡ asked k w (take 16 (l ++ (x ∷ []))) next
-    full e =
-        let t : ltb (length l) 16 ≡ false = le-ltb (length l) 16 (omega arith) in
-        let whole : take 16 (l ++ (x ∷ [])) ≡ l = take-append-le 16 l (x ∷ []) (omega arith) ∙ take-all 16 l (omega arith) in
-        rw (t, whole)
-
 -- the first of more than there are
 pub take-min : {A : Type 0} (n : ℕ) (l : List A) → take n l ≡ take (min n (length l)) l
 take-min n l = go (tested (leb n (length l)))
@@ -94,14 +62,12 @@ take-min n l = go (tested (leb n (length l)))
         let h = leb-false n (length l) t in
         take-all n l (omega arith) ∙ sym (take-all (min n (length l)) l (omega arith))
 
--- The columns have their room.
-pub record Roomy (ns : List ℕ) (ss : List ℤ) : Type 0 where
-  pub numbers : length ns ≡ 16
-  pub scores : length ss ≡ 16
-
 -- as a function knows it of the arrays of a question that is handed in
 pub roomy : (q : Question) → length (map (λ (n : ℕ). n) (q .numbers)) ≡ 16 → length (map (λ (s : ℤ). s) (q .scores)) ≡ 16 → Roomy (q .numbers) (q .scores)
 roomy q n s = record { numbers = sym (length-map (q .numbers) (λ v. v)) ∙ n; scores = sym (length-map (q .scores) (λ v. v)) ∙ s }
+
+pub roomy-same : {ns ns' : List ℕ} {ss ss' : List ℤ} → Roomy ns ss → ns' ≡ ns → ss' ≡ ss → Roomy ns' ss'
+roomy-same r e f = record { numbers = ap length e ∙ r .numbers; scores = ap length f ∙ r .scores }
 
 -- the line that the columns have at a place
 abbrev pub lineAt : List ℕ → List ℤ → ℕ → Entry

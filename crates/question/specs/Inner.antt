@@ -1,16 +1,17 @@
 -- What the inner functions of a question answer; no public contract cites it.
-use Prim.Native.Nat.{ℕ, suc, _+_, _-_, min}
+use mathlib.Core.Path.{_≡_}
+use Prim.Native.Nat.{ℕ, suc, _-_, min}
 use mathlib.Core.Bool.{Bool, true, false, cond, not, _&&_, _||_}
 use mathlib.Core.List.{List, [], _∷_, map, _++_}
-use lib.ListN.{take, set, getD}
-use lib.IntN.{pos}
-use lib.Dec.{ltb, eqb}
+use lib.ListN.{length, take, drop, getD, replicate}
+use lib.IntN.{ℤ, pos}
+use lib.Dec.{eqb}
 use Rattle.ranking.specs.Best.{best, place, only}
 use Rattle.ranking.specs.Cells.{cell, cellAt, reaching}
 use Rattle.ranking.specs.Standing.{Held, Entry, above, entry}
 use Rattle.window.specs.declared.Window.{Window}
 use Rattle.window.specs.Rows.{standing}
-use Rattle.question.specs.Lines.{linesOf, lines, asked, withEntry, cutToK}
+use Rattle.question.specs.Lines.{lines, asked, withEntry, cutToK}
 use Rattle.question.specs.declared.Question.{Question}
 use Rattle.question.specs.declared.Bar.{Bar}
 use Rattle.question.specs.declared.Searched.{Searched}
@@ -18,24 +19,6 @@ use Rattle.question.specs.declared.Searched.{Searched}
 -- How many lines there are.
 abbrev pub shown : Question → ℕ
 shown q = min (q .len) 16
-
--- One line more, behind the others; none, where the list has no room.
-unfoldable pub pushed : Question → Entry → Question
-pushed q e =
-    cond (ltb (q .len) 16)
-    (record {
-      k = q .k;
-      weights = q .weights;
-      numbers = set (q .numbers) (q .len) (e .number);
-      scores = set (q .scores) (q .len) (e .score);
-      len = q .len + 1;
-      next = q .next;
-    })
-    q
-
--- The first m lines, as they stand in the arrays.
-abbrev pub kept : Question → ℕ → Question
-kept q m = asked (q .k) (q .weights) (take m (linesOf (q .numbers) (q .scores))) (q .next)
 
 -- How many lines rank above an entry, before the first that doesn't.
 abbrev pub rankIn : Entry → List Entry → ℕ
@@ -72,16 +55,39 @@ abbrev pub at : Question → ℕ → Question
 at q next =
     record { k = q .k; weights = q .weights; numbers = q .numbers; scores = q .scores; len = q .len; next = next }
 
--- What an entry has to rank above to change a full list: its last line; a list with no line has no bar.
-unfoldable pub barOf : Question → Bar
-barOf q =
-    cond (eqb (shown q) 0)
+-- What an entry has to rank above to change a full list: the last of its first n lines; a list with no line has no bar.
+unfoldable pub barIn : List ℕ → List ℤ → ℕ → Bool → Bar
+barIn ns ss n full =
+    cond (eqb n 0)
     (record { full = false; number = 0; score = pos 0 })
-    (record { full = eqb (q .len) (q .k); number = getD (q .numbers) (shown q - 1) 0; score = getD (q .scores) (shown q - 1) (pos 0) })
+    (record { full = full; number = getD ns (n - 1) 0; score = getD ss (n - 1) (pos 0) })
+
+-- A question's own.
+abbrev pub barOf : Question → Bar
+barOf q = barIn (q .numbers) (q .scores) (shown q) (eqb (q .len) (q .k))
 
 -- An entry with a number passes the bar.
 unfoldable pub admits : Bar → Entry → Bool
 admits bar e = not (eqb (e .number) 0) && (not (bar .full) || above e (record { number = bar .number; score = bar .score }))
+
+-- The columns have their room.
+pub record Roomy (ns : List ℕ) (ss : List ℤ) : Type 0 where
+  pub numbers : length ns ≡ 16
+  pub scores : length ss ≡ 16
+
+-- x at a place, and what stood from there to the place `last` one place back; what stood at `last` goes.
+abbrev pub slid : {A : Type 0} → (at last : ℕ) → A → List A → List A
+slid at last x l = take at l ++ (x ∷ (drop at (take last l) ++ drop (suc last) l))
+
+-- The first n of a column, and d in the places past them.
+abbrev pub wiped : {A : Type 0} → ℕ → A → List A → List A
+wiped n d l = take 16 (take n l ++ replicate 16 d)
+
+-- The lines `new` have, as their first r, the first `len` of `old` with an entry in its rank, at most `room` of them; the rest is as it was.
+pub record Placing (e : Entry) (len room : ℕ) (old new : List Entry) (r : ℕ) : Type 0 where
+  pub count : r ≡ length (take room (place above e (take len old)))
+  pub front : take r new ≡ take room (place above e (take len old))
+  pub rest : drop r new ≡ drop r old
 
 -- The best k of the reports in the first `n` rows.
 abbrev pub gathered : Question → Window → ℕ → Question

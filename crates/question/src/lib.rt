@@ -1,14 +1,15 @@
 // One question: its weights, its list of at most 16 lines, and how far its search has come.
 ghost use mathlib.Core.Path.{_≡_};
-ghost use mathlib.Core.List.{[], _++_};
-ghost use Prim.Native.Nat.{min, _+_, _%_, _≤_};
+ghost use mathlib.Core.List.{[]};
+ghost use Prim.Native.Nat.{min, _+_, _%_, _≤_, _<_};
 ghost use Rattle.window.specs.Rows.{standing};
 ghost use lib.ListN.{take, drop};
+ghost use lib.IntN.{pos};
 ghost use Rattle.ranking.specs.Best.{best};
 ghost use Rattle.ranking.specs.Standing.{above};
 ghost use Rattle.question.specs.Lines.{asked, linesOf, lines, emptySlot, withEntry, cutToK, finished, begun, stepOn, rowsOf, searchedOn, searchedFirst, stepsTaken, isMarked, marksOf};
 ghost use Rattle.question.specs.Calls.{allOf, holdsNumber, heldAs, falls, blank, rangesFit, fitQuestion, stepCall, beginCall};
-ghost use Rattle.question.specs.Inner.{pushed, shown, kept, rankIn, newIn, within, joined, taking, listTaken, at, barOf, admits, gathered, endedOf};
+ghost use Rattle.question.specs.Inner.{shown, rankIn, newIn, within, joined, taking, listTaken, at, barIn, barOf, admits, slid, wiped, Roomy, Placing, gathered, endedOf};
 use ranking::Grid;
 use ranking::Weights;
 use ranking::ranks_above;
@@ -82,80 +83,23 @@ impl Question {
         fewer(self.len, Question::LINES)
     }
 
-    // One line more, behind the others; none, where the list has no room.
-    fn pushed(self, number: u32, score: i32) -> Question
-        ensures { λ r. ⌜ r ≡ pushed self (record { number = number; score = score }) ⌝ }
-    {
-        let len = self.len;
-        if Question::LINES <= len {
-            return self;
-        }
-        let at = len as usize;
-        let mut longer = self;
-        longer.numbers[at] = number;
-        longer.scores[at] = score;
-        longer.len = len + 1;
-        longer
-    }
-
-    // Lines of two arrays, from one place to another, behind those of this list.
-    fn appended(self, numbers: [u32; 16], scores: [i32; 16], from: usize, to: usize) -> Question
-        requires { ⌜
-            (from ≤ to) × (to ≤ 16) × (self .len + to ≤ 16 + from) × (self ≡ asked (self .k) (self .weights) (lines self) (self .next))
-            ⌝ }
-        ensures { λ r. ⌜
-            r ≡ asked (self .k) (self .weights) (lines self ++ drop from (take to (linesOf numbers scores))) (self .next)
-            ⌝ }
-    {
-        let mut list = self;
-        let mut i = from;
-        while i < to {
-            let len = list.len;
-            let at = len as usize;
-            list.numbers[at] = numbers[i];
-            list.scores[at] = scores[i];
-            list.len = len + 1;
-            i += 1;
-        }
-        list
-    }
-
-    // The first m lines.
-    fn kept(self, m: usize) -> Question
+    // This question with the first m lines of two arrays.
+    fn listing(self, numbers: [u32; 16], scores: [i32; 16], m: usize) -> Question
         requires { ⌜ m ≤ 16 ⌝ }
-        ensures { λ r. ⌜ r ≡ kept self m ⌝ }
+        ensures { λ r. ⌜ r ≡ asked (self .k) (self .weights) (take m (linesOf numbers scores)) (self .next) ⌝ }
     {
-        let numbers = self.numbers;
-        let scores = self.scores;
-        let list = Question::blank(self.k, self.weights, self.next);
-        list.appended(numbers, scores, 0, m)
-    }
-
-    // How many lines rank above an entry, before the first that doesn't.
-    fn rank_of(self, number: u32, score: i32) -> usize
-        ensures { λ r. ⌜ r ≡ rankIn (record { number = number; score = score }) (lines self) ⌝ }
-    {
-        let n = self.shown() as usize;
-        let mut i: usize = 0;
-        while i < n {
-            if !ranks_above(self.scores[i], self.numbers[i], score, number) {
-                return i;
-            }
-            i += 1;
+        let weights = self.weights;
+        let mut top = numbers;
+        let mut by = scores;
+        wipe(&mut top, &mut by, m);
+        Question {
+            k: self.k,
+            weights,
+            numbers: top,
+            scores: by,
+            len: m as u8,
+            next: self.next,
         }
-        n
-    }
-
-    // The line at an entry's rank is another.
-    fn new_at(self, at: usize, number: u32, score: i32) -> bool
-        requires { ⌜ at ≡ rankIn (record { number = number; score = score }) (lines self) ⌝ }
-        ensures { λ r. ⌜ r ≡ newIn (record { number = number; score = score }) (lines self) ⌝ }
-    {
-        let n = self.shown() as usize;
-        if at < n {
-            return ranks_above(score, number, self.scores[at], self.numbers[at]);
-        }
-        true
     }
 
     // One entry put in its rank among the lines, once, of which at most `room` are kept.
@@ -163,19 +107,11 @@ impl Question {
         requires { ⌜ room ≤ 16 ⌝ }
         ensures { λ r. ⌜ r ≡ within self room (record { number = number; score = score }) ⌝ }
     {
-        let at = self.rank_of(number, score);
-        if room as usize <= at {
-            return self.kept(room as usize);
-        }
-        let n = self.shown();
-        if !self.new_at(at, number, score) {
-            return self.kept(fewer(n, room) as usize);
-        }
-        let numbers = self.numbers;
-        let scores = self.scores;
-        let before = self.kept(at);
-        let with = before.pushed(number, score);
-        with.appended(numbers, scores, at, fewer(n, room - 1) as usize)
+        let n = self.shown() as usize;
+        let mut top = self.numbers;
+        let mut by = self.scores;
+        let m = placed_in(&mut top, &mut by, n, room as usize, number, score);
+        self.listing(top, by, m)
     }
 
     // One entry put in its rank among the lines, once, of which at most 16 are kept.
@@ -189,7 +125,10 @@ impl Question {
     pub fn cut(self) -> Question
         ensures { λ r. ⌜ r ≡ cutToK self ⌝ }
     {
-        self.kept(fewer(self.k, self.shown()) as usize)
+        let n = fewer(self.k, self.shown()) as usize;
+        let numbers = self.numbers;
+        let scores = self.scores;
+        self.listing(numbers, scores, n)
     }
 
     // One entry among the first k.
@@ -336,19 +275,29 @@ impl Question {
         ensures { λ r. ⌜ r ≡ gathered self (rowsOf (now (losses .entry)) (now (shakes .entry)) (now (numbers .entry))) rows ⌝ }
     {
         let weights = self.weights;
-        let mut list = Question::blank(self.k, weights, self.next);
-        let mut bar = list.bar();
+        let k = self.k as usize;
+        let mut top = [0u32; 16];
+        let mut by = [0i32; 16];
+        let mut len: usize = 0;
+        let mut bar = bar_in(&top, &by, len, len == k);
         let mut row: usize = 0;
         while row < rows {
             let number = numbers[row];
             let score = weights.score(losses[row], shakes[row]);
             if bar.admits(number, score) {
-                list = list.joined(number, score);
-                bar = list.bar();
+                len = placed_in(&mut top, &mut by, len, k, number, score);
+                bar = bar_in(&top, &by, len, len == k);
             }
             row += 1;
         }
-        list
+        Question {
+            k: self.k,
+            weights,
+            numbers: top,
+            scores: by,
+            len: len as u8,
+            next: self.next,
+        }
     }
 
     // The list's bar; a list with no line has none.
@@ -356,21 +305,8 @@ impl Question {
         ensures { λ r. ⌜ r ≡ barOf self ⌝ }
     {
         let n = self.shown() as usize;
-        if n == 0 {
-            return Bar {
-                full: false,
-                number: 0,
-                score: 0,
-            };
-        }
-        let numbers = self.numbers;
-        let scores = self.scores;
-        let last = n - 1;
-        Bar {
-            full: self.len == self.k,
-            number: numbers[last],
-            score: scores[last],
-        }
+        let full = self.len == self.k;
+        bar_in(&self.numbers, &self.scores, n, full)
     }
 
     // Where the search that found this list ends: a full list's last score decides which cells were taken.
@@ -574,10 +510,156 @@ impl Bar {
             return false;
         }
         if self.full {
+            // Most reports fail by their score alone.
+            if score < self.score {
+                return false;
+            }
             return ranks_above(score, number, self.score, self.number);
         }
         true
     }
+}
+
+// The bar of the first `len` lines of two arrays.
+fn bar_in<'a>(numbers: &'a [u32; 16], scores: &'a [i32; 16], len: usize, full: bool) -> Bar
+    requires { ⌜ len ≤ 16 ⌝ }
+    ensures { λ r. ⌜ r ≡ barIn (now (numbers .entry)) (now (scores .entry)) len full ⌝ }
+{
+    if len == 0 {
+        return Bar {
+            full: false,
+            number: 0,
+            score: 0,
+        };
+    }
+    let last = len - 1;
+    Bar {
+        full,
+        number: numbers[last],
+        score: scores[last],
+    }
+}
+
+// How many of the first `len` lines of two arrays rank above an entry, before the first that doesn't.
+fn rank_in<'a>(
+    numbers: &'a [u32; 16],
+    scores: &'a [i32; 16],
+    len: usize,
+    number: u32,
+    score: i32,
+) -> usize
+    requires { ⌜ (len ≤ 16) × Roomy (now numbers) (now scores) ⌝ }
+    ensures { λ r. ⌜
+        r ≡ rankIn (record { number = number; score = score }) (take len (linesOf (now (numbers .entry)) (now (scores .entry))))
+        ⌝ }
+{
+    let mut i: usize = 0;
+    while i < len {
+        if !ranks_above(scores[i], numbers[i], score, number) {
+            return i;
+        }
+        i += 1;
+    }
+    len
+}
+
+// The line at an entry's rank is another.
+fn new_in<'a>(
+    numbers: &'a [u32; 16],
+    scores: &'a [i32; 16],
+    len: usize,
+    at: usize,
+    number: u32,
+    score: i32,
+) -> bool
+    requires { ⌜
+        (len ≤ 16) × Roomy (now numbers) (now scores)
+        × (at ≡ rankIn (record { number = number; score = score }) (take len (linesOf (now numbers) (now scores))))
+        ⌝ }
+    ensures { λ r. ⌜
+        r ≡ newIn (record { number = number; score = score }) (take len (linesOf (now (numbers .entry)) (now (scores .entry))))
+        ⌝ }
+{
+    if at < len {
+        return ranks_above(score, number, scores[at], numbers[at]);
+    }
+    true
+}
+
+// An entry put at a place, and the lines from there to the last one moved one place back; the last one goes.
+fn slide<'a>(
+    numbers: &'a mut [u32; 16],
+    scores: &'a mut [i32; 16],
+    at: usize,
+    last: usize,
+    number: u32,
+    score: i32,
+)
+    requires { ⌜ (at ≤ last) × (last < 16) × Roomy (now numbers) (now scores) ⌝ }
+    ensures { λ _. ⌜
+        (now (numbers .exit) ≡ slid at last number (now (numbers .entry)))
+        × (now (scores .exit) ≡ slid at last score (now (scores .entry)))
+        ⌝ }
+{
+    let mut i = last;
+    while at < i {
+        let before = i - 1;
+        numbers[i] = numbers[before];
+        scores[i] = scores[before];
+        i = before;
+    }
+    numbers[at] = number;
+    scores[at] = score;
+}
+
+// 0 in the places of two arrays from one on.
+fn wipe<'a>(numbers: &'a mut [u32; 16], scores: &'a mut [i32; 16], from: usize)
+    requires { ⌜ (from ≤ 16) × Roomy (now numbers) (now scores) ⌝ }
+    ensures { λ _. ⌜
+        (now (numbers .exit) ≡ wiped from 0 (now (numbers .entry))) × (now (scores .exit) ≡ wiped from (pos 0) (now (scores .entry)))
+        ⌝ }
+{
+    let mut i: usize = 16;
+    while from < i {
+        i -= 1;
+        numbers[i] = 0;
+        scores[i] = 0;
+    }
+}
+
+// One entry put in its rank among the first `len` lines of two arrays, once, of which at most `room` are kept: their
+// number then. The lines past them stay.
+fn placed_in<'a>(
+    numbers: &'a mut [u32; 16],
+    scores: &'a mut [i32; 16],
+    len: usize,
+    room: usize,
+    number: u32,
+    score: i32,
+) -> usize
+    requires { ⌜ (len ≤ 16) × (room ≤ 16) × Roomy (now numbers) (now scores) ⌝ }
+    ensures { λ r. ⌜
+        Placing (record { number = number; score = score }) len room (linesOf (now (numbers .entry)) (now (scores .entry))) (linesOf (now (numbers .exit)) (now (scores .exit))) r
+        × Roomy (now (numbers .exit)) (now (scores .exit))
+        ⌝ }
+{
+    let at = rank_in(numbers, scores, len, number, score);
+    if room <= at {
+        return room;
+    }
+    if !new_in(numbers, scores, len, at, number, score) {
+        return smaller(len, room);
+    }
+    let last = smaller(len, room - 1);
+    slide(numbers, scores, at, last, number, score);
+    last + 1
+}
+
+// The smaller of two lengths.
+fn smaller(a: usize, b: usize) -> usize
+    ensures { λ r. ⌜ r ≡ min a b ⌝ }
+{
+    if a < b { a } else { b }
 }
 
 // The smaller of two numbers.
