@@ -4,8 +4,8 @@ ghost use mathlib.Core.Bool.{false, _&&_};
 ghost use Prim.Native.Nat.{min, _%_, _<_};
 ghost use lib.IntN.{pos};
 ghost use lib.ListN.{replicate};
-ghost use Rattle.question.specs.Lines.{linesOf, finished, rowsOf};
-ghost use Rattle.question.specs.Calls.{allOf, equal, blank, fitQuestion};
+ghost use Rattle.question.specs.Lines.{finished, rowsOf};
+ghost use Rattle.question.specs.Calls.{allOf, equal, fitQuestion};
 ghost use Rattle.board.specs.Work.{freshBoard, setWork, setIn, slotRefusal, removeWork, emptied, askRefusal, readWork, hasPlace, takes, listed, leaving, arrival, lists, enterRefusal, enterWork, withSlot};
 ghost use Rattle.board.specs.Calls.{isEmpty, slotFit, fitBoard, setCall, removeCall, readCall, enterCall};
 
@@ -479,9 +479,7 @@ pub fn listed(question: Question, number: u32, loss: u16, shake: u16) -> Questio
     ensures { λ r. ⌜ r ≡ listed question (record { number = number; loss = loss % 4096; shake = shake % 4096 }) ⌝ }
 {
     if takes(question, loss, shake) {
-        return question
-            .added(number, question.weights.score(loss, shake))
-            .cut();
+        return question.joined(number, question.weights.score(loss, shake));
     }
     question
 }
@@ -570,7 +568,7 @@ fn is_empty(question: Question) -> bool
     if question.next != 0 {
         return false;
     }
-    no_lines(question)
+    question.rest_blank()
 }
 
 fn no_weights(weights: Weights) -> bool
@@ -586,29 +584,4 @@ fn is_zero(weight: i16) -> bool
     ensures { λ r. ⌜ r ≡ equal weight (pos 0) ⌝ }
 {
     weight == 0
-}
-
-// Every place of the list is 0.
-fn no_lines(question: Question) -> bool
-    ensures { λ r. ⌜ r ≡ allOf blank (linesOf (question .numbers) (question .scores)) ⌝ }
-{
-    let numbers = question.numbers;
-    let scores = question.scores;
-    let mut i: usize = 0;
-    while i < 16 {
-        if !no_line(numbers[i], scores[i]) {
-            return false;
-        }
-        i += 1;
-    }
-    true
-}
-
-fn no_line(number: u32, score: i32) -> bool
-    ensures { λ r. ⌜ r ≡ blank (record { number = number; score = score }) ⌝ }
-{
-    if number != 0 {
-        return false;
-    }
-    score == 0
 }

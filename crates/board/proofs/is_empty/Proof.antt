@@ -1,7 +1,10 @@
 -- The tests are those of the definition, in its order.
 -- Assumes nothing.
-use mathlib.Core.Path.{sym, _∙_}
+use mathlib.Core.Path.{sym, ap, _∙_}
 use borrow.Author.Tests.{eq-eqb, ne-eqb, not-true, not-false}
+use lib.ListN.{drop}
+use Rattle.question.specs.Lines.{linesOf}
+use Rattle.question.specs.Calls.{allOf, blank}
 use Rattle.board.specs.Calls.{isEmpty}
 use borrow.Author.Needs.{needs}
 use Rattle.board.proofs.is_empty.Statement.{statement}
@@ -30,14 +33,15 @@ returns-4 c =
     let at = c .before .before .before .before in
     rw (eq-eqb _ _ (at .before .before .if1 .left), sym (at .before .no-weights .ensures) ∙ not-false _ (at .if2 .left), eq-eqb _ _ (c .before .before .if3 .left), ne-eqb _ _ (c .if4 .taken))
 
-no-lines-requires : tie.Need-no-lines-requires
-no-lines-requires c κs = search needs
+rest-blank-requires : tie.Need-rest-blank-requires
+rest-blank-requires c κs = search needs
 
 returns-5 : tie.Need-returns-5
 unfolding isEmpty
 returns-5 c =
     let at = c .before .before .before .before .before in
-    rw (eq-eqb _ _ (at .before .before .if1 .left), sym (at .before .no-weights .ensures) ∙ not-false _ (at .if2 .left), eq-eqb _ _ (c .before .before .before .if3 .left), eq-eqb _ _ (c .before .if4 .left)) (c .no-lines .ensures)
+    let q = at .before .before .before .before .before .args .question in
+    rw (eq-eqb _ _ (at .before .before .if1 .left), sym (at .before .no-weights .ensures) ∙ not-false _ (at .if2 .left), eq-eqb _ _ (c .before .before .before .if3 .left), eq-eqb _ _ (c .before .if4 .left)) (c .rest-blank .ensures ∙ ap (λ n. allOf blank (drop n (linesOf (q .numbers) (q .scores)))) (c .before .before .before .if3 .left))
 
 pub is-empty-spec : {M : Type 1} → statement M
 is-empty-spec =
@@ -48,5 +52,5 @@ is-empty-spec =
     returns-2
     returns-3
     returns-4
-    no-lines-requires
+    rest-blank-requires
     returns-5)

@@ -17,21 +17,18 @@ takes-requires c κs = search needs
 score-requires : tie.Need-score-requires
 score-requires c κs = search needs
 
-added-requires : tie.Need-added-requires
-added-requires c κs = search needs
-
-cut-requires : tie.Need-cut-requires
-cut-requires c κs = search needs
+joined-requires : tie.Need-joined-requires
+joined-requires c κs = search needs
 
 returns : tie.Need-returns
 returns c =
-    let at = c .before .before .before in
+    let at = c .before .before in
     let a = at .before .before .args in
     let h : Held = record { number = a .number; loss = a .loss % 4096; shake = a .shake % 4096 } in
-    let score = c .before .before .score in
+    let score = c .before .score in
     let scored = kept w32 (score .result) (score .ok) ∙ score .ensures in
-    c .cut .ensures
-    ∙ ap cutToK (c .before .added .ensures ∙ ap (λ s. withEntry (a .question) (record { number = a .number; score = s })) scored)
+    c .joined .ensures
+    ∙ ap (λ s. cutToK (withEntry (a .question) (record { number = a .number; score = s }))) scored
     ∙ sym (listed-taking (a .question) h (sym (at .before .takes .ensures) ∙ at .if1 .taken))
 
 returns-2 : tie.Need-returns-2
@@ -43,4 +40,4 @@ returns-2 c =
 pub listed-spec : {M : Type 1} → statement M
 listed-spec =
     tie.close
-    (tie.spec takes-requires score-requires added-requires cut-requires returns returns-2)
+    (tie.spec takes-requires score-requires joined-requires returns returns-2)
