@@ -259,7 +259,7 @@ impl Question {
                 question: self,
             };
         }
-        let list = self.gathered(losses, shakes, numbers, rows_of(rows));
+        let list = self.gathered(losses, shakes, numbers, smaller(rows, Window::ROWS));
         list.ended()
     }
 
@@ -655,7 +655,7 @@ fn placed_in<'a>(
     last + 1
 }
 
-// The smaller of two lengths.
+// The smaller of two counts.
 fn smaller(a: usize, b: usize) -> usize
     ensures { λ r. ⌜ r ≡ min a b ⌝ }
 {
@@ -667,17 +667,6 @@ fn fewer(a: u8, b: u8) -> u8
     ensures { λ r. ⌜ r ≡ min a b ⌝ }
 {
     if a < b { a } else { b }
-}
-
-// That many rows, or all.
-fn rows_of(rows: usize) -> usize
-    ensures { λ r. ⌜ r ≡ min rows 1024 ⌝ }
-{
-    if rows < Window::ROWS {
-        rows
-    } else {
-        Window::ROWS
-    }
 }
 
 // An unused place is 0.

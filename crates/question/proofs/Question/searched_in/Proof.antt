@@ -15,11 +15,11 @@ returns c =
     let a = c .before .before .args in
     sym (first-wide (a .self) (rowsOf (a .losses .now) (a .shakes .now) (a .numbers .now)) (c .if1 .taken) (min (a .rows) 1024))
 
-rows-of-requires : tie.Need-rows-of-requires
-rows-of-requires c κs = search needs
+smaller-requires : tie.Need-smaller-requires
+smaller-requires c κs = search needs
 
 gathered-requires : tie.Need-gathered-requires
-gathered-requires c κs = (c .before .if1 .left, omega (arith, c .rows-of .ensures))
+gathered-requires c κs = (c .before .if1 .left, omega (arith, c .smaller .ensures))
 
 ended-requires : tie.Need-ended-requires
 ended-requires c κs = search needs
@@ -30,8 +30,8 @@ returns-2 c =
     let a = left .before .before .args in
     let w = rowsOf (a .losses .now) (a .shakes .now) (a .numbers .now) in
     c .ended .ensures
-    ∙ ap endedOf (c .before .gathered .ensures ∙ ap (gathered (a .self) w) (c .before .before .rows-of .ensures))
+    ∙ ap endedOf (c .before .gathered .ensures ∙ ap (gathered (a .self) w) (c .before .before .smaller .ensures))
     ∙ first-small (a .self) w (left .if1 .left) (min (a .rows) 1024)
 
 pub searched-in-spec : {M : Type 1} → statement M
-searched-in-spec = tie.close (tie.spec returns rows-of-requires gathered-requires ended-requires returns-2)
+searched-in-spec = tie.close (tie.spec returns smaller-requires gathered-requires ended-requires returns-2)
