@@ -7,10 +7,10 @@ use mathlib.Core.List.{List, [], _∷_, _++_, map, List·Memᴰ·not-nil, List·
 use Prim.Native.Nat.{ℕ, zero, suc, _+_, _-_, _%_, min, _≤_, _<_}
 use native.Mathlib.Numerals.{add-one}
 use native.Mathlib.Omega.{arith}
-use borrow.Author.Tests.{eq-eqb, ne-eqb, eqb-true, eqb-false, le-leb, lt-leb}
+use borrow.Author.Tests.{eq-eqb, ne-eqb, eqb-true, eqb-false, le-leb, lt-leb, le-ltb}
 use lib.Dec.{eqb, leb, ltb}
-use lib.IntN.{ℤ, pos}
-use lib.Signed.{ltZ}
+use lib.IntN.{ℤ, pos, negsuc}
+use lib.Signed.{ltZ, mag}
 use lib.ListN.{length, take, getD, replicate, length-take, length-append, length-replicate}
 use lib.Seq.{take-nil}
 use Rattle.ranking.specs.Best.{_∈_, best, onLast}
@@ -31,7 +31,7 @@ use Rattle.question.specs.declared.Question.{Question}
 use Rattle.question.specs.declared.Bar.{Bar}
 use Rattle.question.specs.declared.Searched.{Searched}
 use Rattle.question.specs.Lines.{linesOf, lines, asked, searched, searchedIn, inRows, rowsOf, searchedOn, searchedFirst}
-use Rattle.question.specs.Inner.{shown, joined, at, barIn, barOf, admits, Placing, gathered, endedOf}
+use Rattle.question.specs.Inner.{shown, joined, at, barIn, leastAt, barOf, admits, Placing, gathered, endedOf}
 use Rattle.question.proofs.Stored.{Roomy, lines-asked, length-lines, last-line}
 use Rattle.question.proofs.Sliding.{placed-joined}
 use Rattle.question.proofs.Taking.{if-so, if-not, joined-best}
@@ -116,6 +116,20 @@ module _ (bar : Bar) (e : Entry) where
   pub admits-low : eqb (e .number) 0 ≡ false → bar .full ≡ true → ltZ (e .score) (bar .score) ≡ true → admits bar e ≡ false
   admits-low t f low = admits-full t f ∙ one-way above above-strict (record { number = bar .number; score = bar .score }) e
       (ap (λ b. elim b [ true ↦ true | false ↦ elim (ltZ (bar .score) (e .score)) [ true ↦ false | false ↦ ltb (e .number) (bar .number) ] ]) low)
+
+  -- and so is one below the bar's least, of a score that an `i32` holds
+  pub admits-under : mag (e .score) < 2147483648 → ltZ (e .score) (leastAt bar) ≡ true → admits bar e ≡ false
+  unfolding leastAt
+  admits-under fits low = go (tested (eqb (e .number) 0)) (tested (bar .full))
+    where
+      no-less : (s : ℤ) → mag s < 2147483648 → ltZ s (negsuc 2147483647) ≡ false
+      no-less (pos n) h = refl
+      no-less (negsuc n) h = le-ltb 2147483647 n (omega arith)
+
+      go : Tested (eqb (e .number) 0) → Tested (bar .full) → admits bar e ≡ false
+      go (passed z) t = admits-none z
+      go (failed z) (passed t) = admits-low z t (rw t at low)
+      go (failed z) (failed t) = clash (rw t at low) (no-less (e .score) fits)
 
 -- ---- the rows
 

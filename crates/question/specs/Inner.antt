@@ -4,7 +4,7 @@ use Prim.Native.Nat.{ℕ, suc, _-_, min}
 use mathlib.Core.Bool.{Bool, true, false, cond, not, _&&_, _||_}
 use mathlib.Core.List.{List, [], _∷_, map, _++_}
 use lib.ListN.{length, take, drop, getD, replicate}
-use lib.IntN.{ℤ, pos}
+use lib.IntN.{ℤ, pos, negsuc}
 use lib.Dec.{eqb}
 use Rattle.ranking.specs.Best.{best, place, only}
 use Rattle.ranking.specs.Cells.{cell, cellAt, reaching}
@@ -65,6 +65,10 @@ barIn ns ss n full =
 -- A question's own.
 abbrev pub barOf : Question → Bar
 barOf q = barIn (q .numbers) (q .scores) (shown q) (eqb (q .len) (q .k))
+
+-- No entry with a lower score passes it: the last line's score, or the least that an `i32` holds.
+unfoldable pub leastAt : Bar → ℤ
+leastAt bar = cond (bar .full) (bar .score) (negsuc 2147483647)
 
 -- An entry with a number passes the bar.
 unfoldable pub admits : Bar → Entry → Bool

@@ -9,7 +9,7 @@ ghost use Rattle.ranking.specs.Best.{best};
 ghost use Rattle.ranking.specs.Standing.{above};
 ghost use Rattle.question.specs.Lines.{asked, linesOf, lines, emptySlot, withEntry, cutToK, finished, begun, stepOn, rowsOf, searchedOn, searchedFirst, stepsTaken, isMarked, marksOf};
 ghost use Rattle.question.specs.Calls.{allOf, holdsNumber, heldAs, falls, blank, rangesFit, fitQuestion, stepCall, beginCall};
-ghost use Rattle.question.specs.Inner.{shown, rankIn, newIn, within, joined, taking, listTaken, at, barIn, barOf, admits, slid, wiped, Roomy, Placing, gathered, endedOf};
+ghost use Rattle.question.specs.Inner.{shown, rankIn, newIn, within, joined, taking, listTaken, at, barIn, leastAt, barOf, admits, slid, wiped, Roomy, Placing, gathered, endedOf};
 use ranking::Grid;
 use ranking::Weights;
 use ranking::ranks_above;
@@ -280,15 +280,22 @@ impl Question {
         let mut by = [0i32; 16];
         let mut len: usize = 0;
         let mut bar = bar_in(&top, &by, len, len == k);
+        let mut least = bar.least();
         let mut row: usize = 0;
         while row < rows {
-            let number = numbers[row];
-            let score = weights.score(losses[row], shakes[row]);
-            if bar.admits(number, score) {
-                len = placed_in(&mut top, &mut by, len, k, number, score);
-                bar = bar_in(&top, &by, len, len == k);
-            }
+            let here = row;
             row += 1;
+            let score = weights.score(losses[here], shakes[here]);
+            if score < least {
+                continue;
+            }
+            let number = numbers[here];
+            if !bar.admits(number, score) {
+                continue;
+            }
+            len = placed_in(&mut top, &mut by, len, k, number, score);
+            bar = bar_in(&top, &by, len, len == k);
+            least = bar.least();
         }
         Question {
             k: self.k,
@@ -502,6 +509,16 @@ impl Question {
 }
 
 impl Bar {
+    // No report with a lower score passes; most fail by that alone.
+    fn least(self) -> i32
+        ensures { λ r. ⌜ r ≡ leastAt self ⌝ }
+    {
+        if self.full {
+            return self.score;
+        }
+        -2147483648
+    }
+
     // A report passes: it has a number, and the list isn't full or it ranks above the last line.
     fn admits(self, number: u32, score: i32) -> bool
         ensures { λ r. ⌜ r ≡ admits self (record { number = number; score = score }) ⌝ }
@@ -510,10 +527,6 @@ impl Bar {
             return false;
         }
         if self.full {
-            // Most reports fail by their score alone.
-            if score < self.score {
-                return false;
-            }
             return ranks_above(score, number, self.score, self.number);
         }
         true
