@@ -2,9 +2,9 @@
 ghost use Prim.Native.Nat.{_≤_};
 ghost use lib.ListN.{length};
 use journal::Log;
-use journal::Waiting;
 use libc::STDIN_FILENO;
 use libc::STDOUT_FILENO;
+use pieces::Waiting;
 
 // The log as far as it has come, and whether to go on.
 struct Cart {
@@ -24,7 +24,7 @@ fn main() {
     let ended = last.log;
     let rest = last.waiting;
     let mut room = [0u8; 64];
-    let n = ended.finish(rest, &mut room, 0);
+    let n = rest.finish(ended, &mut room, 0);
     io::write_all(STDOUT_FILENO, wire::front(&room, n));
 }
 
@@ -93,7 +93,7 @@ fn part(cart: Cart, piece: &[u8]) -> Taken
     let mut room = io::large_buffer();
     let log = cart.log;
     let waiting = cart.waiting;
-    let fed = log.feed(waiting, piece, &mut room);
+    let fed = waiting.feed(log, piece, &mut room);
     let going = io::write_all(STDOUT_FILENO, wire::front(&room, fed.written));
     let left = fed.log;
     let next = fed.waiting;

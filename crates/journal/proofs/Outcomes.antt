@@ -9,13 +9,10 @@ use Rattle.journal.proofs.Log.fresh.Kinds as fresh-kinds
 use Rattle.journal.proofs.Log.fresh.Reads as fresh-reads
 use Rattle.journal.proofs.Log.item.Kinds as item-kinds
 use Rattle.journal.proofs.Log.item.Reads as item-reads
-use Rattle.journal.proofs.machine.Waiting.nothing.Kinds as nothing-kinds
-use Rattle.journal.proofs.machine.Waiting.nothing.Reads as nothing-reads
-use Rattle.journal.proofs.Log.feed.Kinds as feed-kinds
-use Rattle.journal.proofs.Log.feed.Reads as feed-reads
-use Rattle.journal.proofs.Log.finish.Kinds as finish-kinds
-use Rattle.journal.proofs.Log.finish.Reads as finish-reads
-use Rattle.journal.proofs.Once.{fed-once, left-once}
+use Rattle.journal.proofs.next_item.Kinds as next-item-kinds
+use Rattle.journal.proofs.next_item.Reads as next-item-reads
+use Rattle.journal.proofs.weights_in.Kinds as weights-in-kinds
+use Rattle.journal.proofs.weights_in.Reads as weights-in-reads
 
 fresh-once : OneAnswer 0 fresh-kinds.ps fresh-kinds.r fresh-reads.Post
 fresh-once κs a x y s t p q = p ∙ sym q
@@ -29,17 +26,8 @@ item-once κs a x y s t p q =
 item-leaves-once : OneLeft 2 item-kinds.ps item-kinds.r item-reads.Post (List ℕ) (λ κs s. now (s .1 .1 .1 .0))
 item-leaves-once κs a x y s t p q = p .stored ∙ sym (q .stored)
 
-nothing-once : OneAnswer 0 nothing-kinds.ps nothing-kinds.r nothing-reads.Post
-nothing-once κs a x y s t p q = p ∙ sym q
+next-item-once : OneAnswer 0 next-item-kinds.ps next-item-kinds.r next-item-reads.Post
+next-item-once κs a x y s t p q = p ∙ sym q
 
-feed-once : OneAnswer 2 feed-kinds.ps feed-kinds.r feed-reads.Post
-feed-once κs a x y s t p q = fed-once p q
-
-feed-leaves-once : OneLeft 2 feed-kinds.ps feed-kinds.r feed-reads.Post (List ℕ) (λ κs s. now (s .1 .1 .1 .0))
-feed-leaves-once κs a x y s t p q = left-once p q
-
-finish-once : OneAnswer 1 finish-kinds.ps finish-kinds.r finish-reads.Post
-finish-once κs a x y s t p q = p .0 ∙ sym (q .0)
-
-finish-leaves-once : OneLeft 1 finish-kinds.ps finish-kinds.r finish-reads.Post (List ℕ) (λ κs s. now (s .1 .1 .0))
-finish-leaves-once κs a x y s t p q = p .1 ∙ sym (q .1)
+weights-in-once : OneAnswer 1 weights-in-kinds.ps weights-in-kinds.r weights-in-reads.Post
+weights-in-once κs a x y s t p q = p ∙ sym q

@@ -1,6 +1,3 @@
 -- A log as bytes and the text that it fixes: what the functions of `journal` are held to.
 pub mod Log
-pub mod Machine
-pub mod Inner
 pub mod Reached
-pub mod Program

@@ -7,17 +7,12 @@ ghost use lib.Seq.{sets};
 ghost use Rattle.joining.specs.Frame.{frameRefusal};
 ghost use Rattle.text.specs.Text.{behind, sLine};
 ghost use Rattle.journal.specs.Log.{Stores, freshLog, nextItem, counted, withBoard, withSessions, refused, known, itemRefusal, windowItem, signed16, weightsIn, setItem, removeItem, showItem, sLines, enterItem, answered, frameItem, byTag, itemDone};
-
-mod machine;
-
 use board::Board;
 use joining::Answer;
 use joining::Bus;
 use joining::Frame;
 use joining::Sender;
 use joining::Session;
-pub use machine::Fed;
-pub use machine::Waiting;
 use ranking::Weights;
 
 // The items so far, the window with its questions, and each sender's session. A window of no rows is none yet.
@@ -276,7 +271,7 @@ impl Log {
 }
 
 // The number of the item behind that many.
-pub(crate) fn next_item(items: u64) -> u64
+pub fn next_item(items: u64) -> u64
     ensures { λ r. ⌜ r ≡ nextItem items ⌝ }
 {
     let most: u64 = 18446744073709551615;
@@ -303,7 +298,7 @@ fn known(tag: u8, size: usize) -> bool
 }
 
 // The weights in an item that sets a question.
-fn weights_in(value: &[u8]) -> Weights
+pub fn weights_in(value: &[u8]) -> Weights
     ensures { λ r. ⌜ r ≡ weightsIn (now (value .entry)) ⌝ }
 {
     let loss = signed16(wire::read16(value, 2));
