@@ -15,7 +15,7 @@ use Rattle.wire.specs.Bytes.{number, part}
 use Rattle.ranking.proofs.Tests.{Tested, passed, failed, tested, clash, and-both}
 use Rattle.window.specs.declared.Window.{Window}
 use Rattle.window.specs.declared.Place.{Place}
-use Rattle.window.specs.Rows.{sized, added, placeFor}
+use Rattle.window.specs.Rows.{sized, standing, added, placeFor}
 use Rattle.window.proofs.Fitness.{size-range}
 use Rattle.question.specs.declared.Question.{Question}
 use Rattle.question.specs.declared.Searched.{Searched}
@@ -242,10 +242,12 @@ module _ (number gone loss shake : ℕ) (window : Window) where
           turning-more v false 0 small (sym (ap (λ r. r .question) is)) (sym (ap (λ p. lists p gone) (sym (turn-is e)) ∙ f)) (sym (ap (λ r. r .steps) is)) (none out at fits)
 
       -- The list has the report that leaves, and is searched afresh.
-      pub turning-searched : {v : Question} {found : Searched} {next : ℕ} {left : List ℕ} → v ≡ with (getD slots n noQuestion) → lists v gone ≡ true → found ≡ searchedFirst v (rowsOf (window .losses) (window .shakes) (window .numbers)) 1024 → length out₀ < 2 ^ 64
+      pub turning-searched : {v : Question} {found : Searched} {next : ℕ} {left : List ℕ} → v ≡ with (getD slots n noQuestion) → lists v gone ≡ true → (rows : ℕ)
+          → standing (rowsOf (window .losses) (window .shakes) (window .numbers)) rows ≡ standing (rowsOf (window .losses) (window .shakes) (window .numbers)) 1024
+          → found ≡ searchedFirst v (rowsOf (window .losses) (window .shakes) (window .numbers)) rows → length out₀ < 2 ^ 64
           → Put out at (sLine items n (found .steps)) next left → Turning (n + 1) (set slots n (found .question)) next left
-      turning-searched {v} {found} e f s small p =
-          let is = s ∙ searched-rows v (rowsOf (window .losses) (window .shakes) (window .numbers)) 1024 refl ∙ searched-arrays v window ∙ sym (refreshed-searched v gone window f) ∙ ap (λ q. refreshed q gone window) (turn-is e) in
+      turning-searched {v} {found} e f rows all s small p =
+          let is = s ∙ searched-rows v (rowsOf (window .losses) (window .shakes) (window .numbers)) rows all ∙ searched-arrays v window ∙ sym (refreshed-searched v gone window f) ∙ ap (λ q. refreshed q gone window) (turn-is e) in
           turning-more (found .question) true (found .steps) small (ap (λ r. r .question) is) (sym (ap (λ q. lists q gone) (sym (turn-is e)) ∙ f)) (ap (λ r. r .steps) is) p
 
       -- A slot with no k and no lines stays.

@@ -4,6 +4,7 @@ pub mod Waits
 pub mod Coming
 pub mod InPlace
 pub mod Gauging
+pub mod Rowing
 pub mod Seating
 pub mod Writing
 pub mod Once

@@ -1,5 +1,5 @@
 -- What the inner functions of the machine answer.
-use Prim.Native.Nat.{ℕ, _+_}
+use Prim.Native.Nat.{ℕ, zero, suc, _+_}
 use mathlib.Core.Bool.{Bool, true, false, not, cond, _&&_}
 use mathlib.Core.List.{List}
 use lib.ListN.{length, getD, take}
@@ -17,6 +17,15 @@ use Rattle.pieces.specs.declared.Brought.{Brought}
 unfoldable pub itemComes : (have rows : ℕ) → List ℕ → (i tag size : ℕ) → Bool
 itemComes have rows piece i tag size =
     eqb have 0 && sized rows && leb (i + (3 + size)) (length piece) && eqb (getD piece i 0) tag && eqb (number (part (i + 1) 2 piece)) size
+
+-- Of the first n rows, how many there are up to the last one that holds a report.
+unfoldable pub rowsUsed : ℕ → List ℕ → ℕ
+rowsUsed zero numbers = 0
+rowsUsed (suc n) numbers = cond (eqb (getD numbers n 0) 0) (rowsUsed n numbers) (suc n)
+
+-- The rows, and that one.
+abbrev pub withRow : (rows row : ℕ) → ℕ
+withRow rows row = cond (leb rows row) (row + 1) rows
 
 -- What showing a slot prints that has that question in it.
 unfoldable pub shownText : (item slot : ℕ) → Question → List ℕ

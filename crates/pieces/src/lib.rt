@@ -2,14 +2,14 @@
 ghost use mathlib.Core.Path.{_≡_};
 ghost use mathlib.Core.Bool.{cond, _&&_};
 ghost use mathlib.Core.List.{[]};
-ghost use Prim.Native.Nat.{_+_, min, _≤_};
+ghost use Prim.Native.Nat.{_+_, min, _≤_, _<_};
 ghost use lib.Dec.{ltb};
 ghost use lib.ListN.{length, getD, drop};
 ghost use lib.Seq.{sets};
 ghost use Rattle.text.specs.Text.{behind, rLine};
 ghost use Rattle.journal.specs.Log.{Stores, itemDone};
 ghost use Rattle.pieces.specs.Machine.{nothing, withByte, isWhole, valueEnd, valueIn, hasRoom, Feeds, endLine};
-ghost use Rattle.pieces.specs.Inner.{itemComes, shownText, seatedText, brought};
+ghost use Rattle.pieces.specs.Inner.{itemComes, rowsUsed, withRow, shownText, seatedText, brought};
 use board::Arrival;
 use board::Board;
 use board::Gauge;
@@ -101,6 +101,7 @@ impl Waiting {
         let mut items = log.items;
         let board = log.board;
         let mut window = board.window;
+        let mut rows = rows_in(&window.numbers);
         let mut slots = board.slots;
         let mut gauges = Gauge::all(slots);
         let mut used = Gauge::in_use(slots);
@@ -183,6 +184,7 @@ impl Waiting {
                 let left_sessions = left.sessions;
                 items = left.items;
                 window = left_window;
+                rows = rows_in(&window.numbers);
                 slots = left_slots;
                 gauges = Gauge::all(slots);
                 used = Gauge::in_use(slots);
@@ -213,6 +215,7 @@ impl Waiting {
             window.numbers[row] = number;
             window.entered = number;
             window.held = place.held;
+            rows = with_row(rows, row);
             let mut slot: usize = 0;
             while slot < used {
                 let here = slot;
@@ -229,12 +232,7 @@ impl Waiting {
                     gauges[here] = fresh;
                     continue;
                 }
-                let found = with.searched_in(
-                    &window.losses,
-                    &window.shakes,
-                    &window.numbers,
-                    Window::ROWS,
-                );
+                let found = with.searched_in(&window.losses, &window.shakes, &window.numbers, rows);
                 let searched = found.question;
                 slots[here] = searched;
                 let fresh = Gauge::of(searched);
@@ -352,6 +350,29 @@ fn slot_comes(have: u32, rows: u16, piece: &[u8], i: usize, tag: u8, size: u16) 
         return wire::byte(piece, i + 3) < Board::SLOTS;
     }
     false
+}
+
+// How many rows there are up to the last one that holds a report.
+fn rows_in<'a>(numbers: &'a [u32; 1024]) -> usize
+    ensures { λ r. ⌜ r ≡ rowsUsed 1024 (now (numbers .entry)) ⌝ }
+{
+    let mut rows = Window::ROWS;
+    while 0 < rows {
+        let last = rows - 1;
+        if numbers[last] != 0 {
+            return rows;
+        }
+        rows = last;
+    }
+    0
+}
+
+// The rows, and that one.
+fn with_row(rows: usize, row: usize) -> usize
+    requires { ⌜ row < 1024 ⌝ }
+    ensures { λ r. ⌜ r ≡ withRow rows row ⌝ }
+{
+    if rows <= row { row + 1 } else { rows }
 }
 
 // Prints the list of a slot, or that the slot is empty.

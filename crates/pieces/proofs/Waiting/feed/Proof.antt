@@ -29,28 +29,30 @@ use Rattle.pieces.proofs.Feeding.{Ran, ran-none, ran-more, ran-feeds, p
 use Rattle.pieces.proofs.Coming.{ran-item, part-part}
 use Rattle.pieces.proofs.InPlace.{Comes, frame-facts, show-here, frame-none, frame-enters, row-takes, row-fits, Turning, turning-none, turning-kept, turning-searched, Sizes}
 use Rattle.pieces.proofs.Gauging.{Gauged, gauged-of, gauge-at, gauges-set, turning-quiet, turning-rest, gauged-turned}
+use Rattle.pieces.proofs.Rowing.{Rowed, rowed-of, rowed-with, rowed-all}
 use Rattle.pieces.proofs.Seating.{slot-facts, first-byte, remove-here, set-here}
 use borrow.Author.Needs.{needs}
 use Rattle.pieces.proofs.Waiting.feed.Statement.{statement}
 use Rattle.pieces.proofs.Waiting.feed.Tie as tie
 
 abbrev Inv-loop2 : tie.InvT-loop2
-Inv-loop2 piece out₀ items window slots₀ gauges₀ used bus next at₀ i id number loss shake oldest row slot₀ out slots gauges at slot =
+Inv-loop2 piece out₀ items window rows slots₀ gauges₀ used bus next at₀ i id number loss shake oldest row slot₀ out slots gauges at slot =
     (slot ≤ used) × (used ≤ 32) × (length out ≡ length out₀) × (length slots₀ ≡ 32) × Turning number oldest loss shake window items slots₀ out₀ at₀ slot slots at out × (gauges ≡ map gaugeOf slots)
 
 abbrev μ-loop2 : tie.MeasureT-loop2
-μ-loop2 piece out₀ items window slots₀ gauges₀ used bus next at₀ i id number loss shake oldest row slot₀ out slots gauges at slot =
+μ-loop2 piece out₀ items window rows slots₀ gauges₀ used bus next at₀ i id number loss shake oldest row slot₀ out slots gauges at slot =
     used - slot
 
 abbrev Inv-loop : tie.InvT-loop
-Inv-loop piece out₀ items₀ window₀ slots₀ gauges₀ used₀ bus₀ next₀ at₀ i₀ out items window slots gauges used bus next at i =
+Inv-loop piece out₀ items₀ window₀ rows₀ slots₀ gauges₀ used₀ bus₀ next₀ at₀ i₀ out items window rows slots gauges used bus next at i =
     (i ≤ length piece) × (length out ≡ length out₀) × Sizes slots next bus
     × Ran (record { items = items₀; board = record { window = window₀; slots = slots₀ }; sessions = sessionsIn bus₀ }) next₀ piece out₀ i
     (record { items = items; board = record { window = window; slots = slots }; sessions = sessionsIn bus }) next at out
     × Gauged slots gauges used
+    × Rowed (window .numbers) rows
 
 abbrev μ-loop : tie.MeasureT-loop
-μ-loop piece out₀ items₀ window₀ slots₀ gauges₀ used₀ bus₀ next₀ at₀ i₀ out items window slots gauges used bus next at i =
+μ-loop piece out₀ items₀ window₀ rows₀ slots₀ gauges₀ used₀ bus₀ next₀ at₀ i₀ out items window rows slots gauges used bus next at i =
     length piece - i
 
 more-one : (i : ℕ) (l : List ℕ) → i < length l → i + 1 ≤ length l
@@ -74,7 +76,7 @@ from-to i a n e l h = ap (λ (m : ℕ). take m (drop (i + a) l)) h
 -- What the head of the loop tells: a byte is there, and room for what an item prints.
 module _ (g : tie.Then1 Inv-loop2 μ-loop2 Inv-loop μ-loop) where
   abbrev start : tie.Start Inv-loop2 μ-loop2 Inv-loop μ-loop
-  start = (g .before .before .before .before .before .before .before .before .before .before .before .before .before)
+  start = (g .before .before .before .before .before .before .before .before .before .before .before .before .before .before .before .before)
 
   abbrev bytes : List ℕ
   bytes = now (start .args .piece)
@@ -142,17 +144,20 @@ module _ (f : tie.Else2 Inv-loop2 μ-loop2 Inv-loop μ-loop) where
       frame-facts (frame-at .before .before .loop .next .have) (frame-at .before .before .loop .window .size) (bytes frame-at) (frame-at .before .before .loop .i)
       (f .before .item-comes .ensures) (not-false _ (f .if2 .left))
 
-all-start : (c : tie.After-fill Inv-loop2 μ-loop2 Inv-loop μ-loop) → length ((c .before .before .before .before .before .before .before .before .before .before) .args .log .board .slots) ≡ 32
-all-start c = sym (length-map ((c .before .before .before .before .before .before .before .before .before .before) .args .log .board .slots) _) ∙ (c .before .before .before .before .before .before .before .before .before .before) .good .1 .0 .1 .1 .1 .0 .1 .1 .1 .0 .1 .0 .1
+all-start : (c : tie.After-fill Inv-loop2 μ-loop2 Inv-loop μ-loop) → length ((c .before .before .before .before .before .before .before .before .before .before .before .before .before) .args .log .board .slots) ≡ 32
+all-start c = sym (length-map ((c .before .before .before .before .before .before .before .before .before .before .before .before .before) .args .log .board .slots) _) ∙ (c .before .before .before .before .before .before .before .before .before .before .before .before .before) .good .1 .0 .1 .1 .1 .0 .1 .1 .1 .0 .1 .0 .1
 
-all-left : (c : tie.After-nothing4 Inv-loop2 μ-loop2 Inv-loop μ-loop) → length (c .before .before .before .before .before .before .before .before .before .before .before .before .item .result .log .board .slots) ≡ 32
-all-left c = sym (length-map (c .before .before .before .before .before .before .before .before .before .before .before .before .item .result .log .board .slots) _) ∙ c .before .before .before .before .before .before .before .before .before .before .before .before .item .ok .1 .1 .0 .1 .1 .1 .0 .1 .1 .1 .0 .1 .0 .1
+all-left : (c : tie.After-nothing4 Inv-loop2 μ-loop2 Inv-loop μ-loop) → length (c .before .before .before .before .before .before .before .before .before .before .before .before .before .before .before .item .result .log .board .slots) ≡ 32
+all-left c = sym (length-map (c .before .before .before .before .before .before .before .before .before .before .before .before .before .before .before .item .result .log .board .slots) _) ∙ c .before .before .before .before .before .before .before .before .before .before .before .before .before .before .before .item .ok .1 .1 .0 .1 .1 .1 .0 .1 .1 .1 .0 .1 .0 .1
 
 filled-long : (c : tie.After-fill Inv-loop2 μ-loop2 Inv-loop μ-loop) → length (c .fill .last .0) ≡ 22098
 filled-long c = c .fill .ensures .1 .1
 
 refilled-long : (c : tie.After-nothing4 Inv-loop2 μ-loop2 Inv-loop μ-loop) → length (c .before .fill2 .last .0) ≡ 22098
 refilled-long c = c .before .fill2 .ensures .1 .1
+
+rows-in-requires : tie.Need-rows-in-requires Inv-loop2 μ-loop2 Inv-loop μ-loop
+rows-in-requires c κs = search needs
 
 all-requires : tie.Need-all-requires Inv-loop2 μ-loop2 Inv-loop μ-loop
 all-requires c κs = search needs
@@ -165,8 +170,8 @@ fill-requires c κs = search needs
 
 loop-holds : tie.Need-loop-holds Inv-loop2 μ-loop2 Inv-loop μ-loop
 loop-holds c =
-    let a = (c .before .before .before .before .before .before .before .before .before .before) .args in
-    (omega arith, refl, record { all-slots = all-start c; bytes = search needs; bus = filled-long c }, ran-none (record { items = a .log .items; board = a .log .board; sessions = sessionsIn (c .fill .last .0) }) (a .self) (now (a .piece)) (now (a .out)), gauged-of (a .log .board .slots) (c .before .before .before .before .all .ensures) (c .before .before .before .in-use .ensures))
+    let a = (c .before .before .before .before .before .before .before .before .before .before .before .before .before) .args in
+    (omega arith, refl, record { all-slots = all-start c; bytes = search needs; bus = filled-long c }, ran-none (record { items = a .log .items; board = a .log .board; sessions = sessionsIn (c .fill .last .0) }) (a .self) (now (a .piece)) (now (a .out)), gauged-of (a .log .board .slots) (c .before .before .before .before .all .ensures) (c .before .before .before .in-use .ensures), rowed-of (a .log .board .window .numbers) (c .before .before .before .before .before .before .rows-in .ensures))
 
 goes-on-requires : tie.Need-goes-on-requires Inv-loop2 μ-loop2 Inv-loop μ-loop
 goes-on-requires c κs = search needs
@@ -216,7 +221,7 @@ loop-again c =
     let few = subst (λ (n : ℕ). n < 32) (sym slot) (shows t .1) in
     let e = show-here (here g) (bytes g) (l .i) (shows t .0 .window) (shows t .0 .there) slot few (c .before .before .before .before .before .before .before .next-item .ensures) refl in
     let r = ran-item (from g) (start g .args .self) (bytes g) (room g) 20 1 _ (omega arith) (small g) (shows t .0 .there) (l .inv .3) (roomy g) (l .inv .2 .bytes) (shows t .0 .free) (shows t .0 .starts) (shows t .0 .long) e (c .nothing .ensures) (put (c .before .before .before .put-shown .ensures)) in
-    (shows t .0 .there, rw (r .stored .bytes, length-sets), record { all-slots = l .inv .2 .all-slots; bus = l .inv .2 .bus; bytes = ap (λ (w : Waiting). length (w .bytes)) (c .nothing .ensures) }, r, l .inv .4)
+    (shows t .0 .there, rw (r .stored .bytes, length-sets), record { all-slots = l .inv .2 .all-slots; bus = l .inv .2 .bus; bytes = ap (λ (w : Waiting). length (w .bytes)) (c .nothing .ensures) }, r, l .inv .4, l .inv .5)
 
 slot-comes-requires-2 : tie.Need-slot-comes-requires-2 Inv-loop2 μ-loop2 Inv-loop μ-loop
 slot-comes-requires-2 c κs = search needs
@@ -281,7 +286,7 @@ loop-again-2 c =
     let few = subst (λ (n : ℕ). n < 32) (sym slot) (removes t .1) in
     let e = remove-here (here g) (bytes g) (l .i) (removes t .0 .window) (removes t .0 .there) slot few (c .before .before .before .before .before .before .before .before .before .before .before .next-item2 .ensures) refl (c .before .before .before .emptied .ensures) in
     let r = ran-item (from g) (start g .args .self) (bytes g) (room g) 19 1 _ (omega arith) (small g) (removes t .0 .there) (l .inv .3) (roomy g) (l .inv .2 .bytes) (removes t .0 .free) (removes t .0 .starts) (removes t .0 .long) e (c .nothing2 .ensures) (put (c .before .before .before .before .before .before .put-refusal .ensures)) in
-    (removes t .0 .there, rw (r .stored .bytes, length-sets), record { all-slots = length-set (l .slots) (c .before .before .before .before .before .before .before .before .before .before .byte2 .result) (c .before .before .before .emptied .result) ∙ l .inv .2 .all-slots; bus = l .inv .2 .bus; bytes = ap (λ (w : Waiting). length (w .bytes)) (c .nothing2 .ensures) }, r, gauged-of _ (gauges-set (l .slots) (c .before .before .before .before .before .before .before .before .before .before .byte2 .result) (c .before .before .before .emptied .result) (l .inv .4 .each) (c .before .before .of .ensures)) (c .before .in-use2 .ensures))
+    (removes t .0 .there, rw (r .stored .bytes, length-sets), record { all-slots = length-set (l .slots) (c .before .before .before .before .before .before .before .before .before .before .byte2 .result) (c .before .before .before .emptied .result) ∙ l .inv .2 .all-slots; bus = l .inv .2 .bus; bytes = ap (λ (w : Waiting). length (w .bytes)) (c .nothing2 .ensures) }, r, gauged-of _ (gauges-set (l .slots) (c .before .before .before .before .before .before .before .before .before .before .byte2 .result) (c .before .before .before .emptied .result) (l .inv .4 .each) (c .before .before .of .ensures)) (c .before .in-use2 .ensures), l .inv .5)
 
 -- The slot of a question that is set is one that there is.
 seat-fits : (c : tie.After-byte3 Inv-loop2 μ-loop2 Inv-loop μ-loop) → c .byte3 .result < 32
@@ -369,7 +374,7 @@ loop-again-3 c =
     let there = seats t .0 .there in
     let e = set-here (here g) (bytes g) (l .i) (seats t .0 .window) there (from-to (l .i) 3 6 9 (bytes g) (omega arith)) (c .before .before .before .before .before .before .before .before .before .before .before .before .before .before .before .before .byte3 .ensures) (seat-fits (c .before .before .before .before .before .before .before .before .before .before .before .before .before .before .before .before)) (c .before .before .before .before .before .before .before .before .before .before .before .before .before .before .before .byte4 .ensures) (c .before .before .before .before .before .before .before .before .before .before .before .before .before .before .weights-in .ensures) (c .before .before .before .before .before .before .before .before .before .before .before .before .before .before .before .before .before .before .next-item3 .ensures) refl (c .before .before .before .before .before .before .before .before .set-in .ensures) in
     let r = ran-item (from g) (start g .args .self) (bytes g) (room g) 17 6 _ (omega arith) (small g) there (l .inv .3) (roomy g) (l .inv .2 .bytes) (seats t .0 .free) (seats t .0 .starts) (seats t .0 .long) e (c .nothing3 .ensures) (put (c .before .before .before .before .before .before .put-seated .ensures)) in
-    (there, rw (r .stored .bytes, length-sets), record { all-slots = length-set (l .slots) (c .before .before .before .before .before .before .before .before .before .before .before .before .before .before .before .before .byte3 .result) (c .before .before .before .before .before .before .before .before .set-in .result .question) ∙ l .inv .2 .all-slots; bus = l .inv .2 .bus; bytes = ap (λ (w : Waiting). length (w .bytes)) (c .nothing3 .ensures) }, r, gauged-of _ (gauges-set (l .slots) (c .before .before .before .before .before .before .before .before .before .before .before .before .before .before .before .before .byte3 .result) (c .before .before .before .before .before .before .before .before .set-in .result .question) (l .inv .4 .each) (c .before .before .of2 .ensures)) (c .before .in-use3 .ensures))
+    (there, rw (r .stored .bytes, length-sets), record { all-slots = length-set (l .slots) (c .before .before .before .before .before .before .before .before .before .before .before .before .before .before .before .before .byte3 .result) (c .before .before .before .before .before .before .before .before .set-in .result .question) ∙ l .inv .2 .all-slots; bus = l .inv .2 .bus; bytes = ap (λ (w : Waiting). length (w .bytes)) (c .nothing3 .ensures) }, r, gauged-of _ (gauges-set (l .slots) (c .before .before .before .before .before .before .before .before .before .before .before .before .before .before .before .before .byte3 .result) (c .before .before .before .before .before .before .before .before .set-in .result .question) (l .inv .4 .each) (c .before .before .of2 .ensures)) (c .before .in-use3 .ensures), l .inv .5)
 
 shared-slice-read-with-byte : tie.Need-shared-slice-read-with-byte Inv-loop2 μ-loop2 Inv-loop μ-loop
 shared-slice-read-with-byte c = more (c .before .before .before .before .before .before .before .before .before)
@@ -393,13 +398,16 @@ loop-again-4 c =
     let e = came-not (here g) (l .next) (getD (bytes g) (l .i) 0) (c .before .before .with-byte .ensures) (sym (c .before .whole .ensures) ∙ not-true _ (c .if6 .taken)) in
     let p = none (l .out) (l .at) (place-fits (room g) 0 _ (l .inv .3 .stored)) in
     let r = ran-more (from g) (start g .args .self) (bytes g) (room g) [] (small g) (more g) (l .inv .3) (roomy g) e p in
-    (more-one (l .i) (bytes g) (more g), rw (r .stored .bytes, length-sets), record { all-slots = l .inv .2 .all-slots; bus = l .inv .2 .bus; bytes = search needs }, r, l .inv .4)
+    (more-one (l .i) (bytes g) (more g), rw (r .stored .bytes, length-sets), record { all-slots = l .inv .2 .all-slots; bus = l .inv .2 .bus; bytes = search needs }, r, l .inv .4, l .inv .5)
 
 read-requires : tie.Need-read-requires Inv-loop2 μ-loop2 Inv-loop μ-loop
 read-requires c κs = search needs
 
 item-requires : tie.Need-item-requires Inv-loop2 μ-loop2 Inv-loop μ-loop
 item-requires c κs = search needs
+
+rows-in-requires-2 : tie.Need-rows-in-requires-2 Inv-loop2 μ-loop2 Inv-loop μ-loop
+rows-in-requires-2 c κs = search needs
 
 all-requires-2 : tie.Need-all-requires-2 Inv-loop2 μ-loop2 Inv-loop μ-loop
 all-requires-2 c κs = search needs
@@ -414,23 +422,23 @@ nothing-requires-4 : tie.Need-nothing-requires-4 Inv-loop2 μ-loop2 Inv-loop μ-
 nothing-requires-4 c κs = search needs
 
 loop-less-5 : tie.Need-loop-less-5 Inv-loop2 μ-loop2 Inv-loop μ-loop
-loop-less-5 c = omega (arith, more (c .before .before .before .before .before .before .before .before .before .before .before .before .before .before .before .before .before .before .before .before .before .before .before .before .before .before .before .before))
+loop-less-5 c = omega (arith, more (c .before .before .before .before .before .before .before .before .before .before .before .before .before .before .before .before .before .before .before .before .before .before .before .before .before .before .before .before .before .before .before))
 
 loop-again-5 : tie.Need-loop-again-5 Inv-loop2 μ-loop2 Inv-loop μ-loop
 loop-again-5 c =
-    let g = (c .before .before .before .before .before .before .before .before .before .before .before .before .before .before .before .before .before .before .before .before .before .before .before .before .before .before .before .before) in
-    let l = c .before .before .before .before .before .before .before .before .before .before .before .before .before .before .before .before .before .before .before .before .before .before .before .before .before .before .before .before .before .before .loop in
-    let come = c .before .before .before .before .before .before .before .before .before .before .before .before .before .before .before .before .before .before .with-byte .result in
+    let g = (c .before .before .before .before .before .before .before .before .before .before .before .before .before .before .before .before .before .before .before .before .before .before .before .before .before .before .before .before .before .before .before) in
+    let l = c .before .before .before .before .before .before .before .before .before .before .before .before .before .before .before .before .before .before .before .before .before .before .before .before .before .before .before .before .before .before .before .before .before .loop in
+    let come = c .before .before .before .before .before .before .before .before .before .before .before .before .before .before .before .before .before .before .before .before .before .with-byte .result in
     let back = c .before .fill2 .ensures .1 .0 in
     let d = itemDone (here g) (getD (come .bytes) 0 0) (valueIn come) in
     let told-of : List Session → Outcome = λ ss. itemDone (record { items = l .items; board = record { window = l .window; slots = l .slots }; sessions = ss }) (getD (come .bytes) 0 0) (valueIn come) in
-    let s = outcome-is (ap told-of (c .before .before .before .before .before .before .before .before .before .before .before .before .before .before .read .ensures)) (c .before .before .before .before .before .before .before .before .before .before .before .before .item .ensures) in
-    let e = came-whole (here g) (l .next) (getD (bytes g) (l .i) 0) (c .before .before .before .before .before .before .before .before .before .before .before .before .before .before .before .before .before .before .with-byte .ensures) (sym (c .before .before .before .before .before .before .before .before .before .before .before .before .before .before .before .before .before .whole .ensures) ∙ not-false _ (c .before .before .before .before .before .before .before .before .before .before .before .before .before .before .before .before .if6 .left)) in
-    let left = c .before .before .before .before .before .before .before .before .before .before .before .before .item .result .log in
+    let s = outcome-is (ap told-of (c .before .before .before .before .before .before .before .before .before .before .before .before .before .before .before .before .before .read .ensures)) (c .before .before .before .before .before .before .before .before .before .before .before .before .before .before .before .item .ensures) in
+    let e = came-whole (here g) (l .next) (getD (bytes g) (l .i) 0) (c .before .before .before .before .before .before .before .before .before .before .before .before .before .before .before .before .before .before .before .before .before .with-byte .ensures) (sym (c .before .before .before .before .before .before .before .before .before .before .before .before .before .before .before .before .before .before .before .before .whole .ensures) ∙ not-false _ (c .before .before .before .before .before .before .before .before .before .before .before .before .before .before .before .before .before .before .before .if6 .left)) in
+    let left = c .before .before .before .before .before .before .before .before .before .before .before .before .before .before .before .item .result .log in
     let r = ran-more (from g) (start g .args .self) (bytes g) (room g) (d .text) (small g) (more g) (l .inv .3) (roomy g)
     (e ∙ (λ k. record { text = d .text; log = (sym (s .leaves) ∙ (λ j. record { items = left .items; board = left .board; sessions = sym back j })) k; waiting = sym (c .nothing4 .ensures) k }))
     (record { place = s .place; bytes = s .stored }) in
-    (more-one (l .i) (bytes g) (more g), rw (r .stored .bytes, length-sets), record { all-slots = all-left c; bus = refilled-long c; bytes = ap (λ (w : Waiting). length (w .bytes)) (c .nothing4 .ensures) }, r, gauged-of (left .board .slots) (c .before .before .before .before .all2 .ensures) (c .before .before .before .in-use4 .ensures))
+    (more-one (l .i) (bytes g) (more g), rw (r .stored .bytes, length-sets), record { all-slots = all-left c; bus = refilled-long c; bytes = ap (λ (w : Waiting). length (w .bytes)) (c .nothing4 .ensures) }, r, gauged-of (left .board .slots) (c .before .before .before .before .all2 .ensures) (c .before .before .before .in-use4 .ensures), rowed-of (left .board .window .numbers) (c .before .before .before .before .before .rows-in2 .ensures))
 
 next-item-requires-4 : tie.Need-next-item-requires-4 Inv-loop2 μ-loop2 Inv-loop μ-loop
 next-item-requires-4 c κs = search needs
@@ -486,7 +494,7 @@ loop-again-6 c =
     let left = ap sessionsIn (taken .1) ∙ next-bus .1 in
     let e = frame-none (here g) (bytes g) (l .i) (frames f .window) (frames f .there) id data-so (taken .0) left (c .before .before .before .before .before .before .before .before .before .before .before .next-item4 .ensures) (c .before .before .before .before .before .before .brings .ensures) (c .if7 .taken) in
     let r = ran-item (from g) (start g .args .self) (bytes g) (room g) 18 12 _ (omega arith) (small g) (frames f .there) (l .inv .3) (roomy g) (l .inv .2 .bytes) (frames f .free) (frames f .starts) (frames f .long) e (c .before .nothing5 .ensures) (put (c .before .before .before .before .put-refusal2 .ensures)) in
-    (frames f .there, rw (r .stored .bytes, length-sets), record { all-slots = l .inv .2 .all-slots; bus = ap (λ (o : List ℕ). length o) (taken .1) ∙ next-bus .0; bytes = ap (λ (w : Waiting). length (w .bytes)) (c .before .nothing5 .ensures) }, r, l .inv .4)
+    (frames f .there, rw (r .stored .bytes, length-sets), record { all-slots = l .inv .2 .all-slots; bus = ap (λ (o : List ℕ). length o) (taken .1) ∙ next-bus .0; bytes = ap (λ (w : Waiting). length (w .bytes)) (c .before .nothing5 .ensures) }, r, l .inv .4, l .inv .5)
 
 place-requires : tie.Need-place-requires Inv-loop2 μ-loop2 Inv-loop μ-loop
 place-requires c κs = search needs
@@ -515,12 +523,12 @@ element-write-window-3 c = row-fits (c .before .before .before .before .before .
 -- In the loop over the slots.
 module _ (n : tie.In-loop2 Inv-loop2 μ-loop2 Inv-loop μ-loop) where
   abbrev entry-at : tie.Else2 Inv-loop2 μ-loop2 Inv-loop μ-loop
-  entry-at = (n .before .before .before .before .before .before .before .before .before .before .before .before .before .before .before .before)
+  entry-at = (n .before .before .before .before .before .before .before .before .before .before .before .before .before .before .before .before .before)
 
-  below : n .before .loop2 .slot < length (n .before .before .before .before .before .before .before .before .before .before .before .before .before .before .before .before .before .before .before .before .loop .slots)
+  below : n .before .loop2 .slot < length (n .before .before .before .before .before .before .before .before .before .before .before .before .before .before .before .before .before .before .before .before .before .loop .slots)
   below = omega (arith, n .before .loop2 .inv .1, n .before .loop2 .inv .3)
 
-  next-slot : n .before .loop2 .slot + 1 ≤ n .before .before .before .before .before .before .before .before .before .before .before .before .before .before .before .before .before .before .before .before .loop .used
+  next-slot : n .before .loop2 .slot + 1 ≤ n .before .before .before .before .before .before .before .before .before .before .before .before .before .before .before .before .before .before .before .before .before .loop .used
   next-slot = omega arith
 
   in-array : n .before .loop2 .slot < 32
@@ -530,44 +538,47 @@ module _ (n : tie.In-loop2 Inv-loop2 μ-loop2 Inv-loop μ-loop) where
   place-then = place-fits _ _ _ (n .before .loop2 .inv .4 .printed)
 
 -- Before it, the line of a refusal was printed, or nothing.
-small-then : (n : tie.At-loop2 Inv-loop2 μ-loop2 Inv-loop μ-loop) → length (n .before .before .before .before .before .before .before .put-refusal2 .last .0) < 2 ^ 64
+small-then : (n : tie.At-loop2 Inv-loop2 μ-loop2 Inv-loop μ-loop) → length (n .before .before .before .before .before .before .before .before .put-refusal2 .last .0) < 2 ^ 64
 small-then n =
-    let put-so = n .before .before .before .before .before .before .before .put-refusal2 in
-    let l = n .before .before .before .before .before .before .before .before .before .before .before .before .before .before .before .before .before .before .before .loop in
-    let brought = n .before .before .before .before .before .before .before .before .before .brings .result in
-    let item = n .before .before .before .before .before .before .before .before .before .before .before .before .before .before .next-item4 .result in
+    let put-so = n .before .before .before .before .before .before .before .before .put-refusal2 in
+    let l = n .before .before .before .before .before .before .before .before .before .before .before .before .before .before .before .before .before .before .before .before .loop in
+    let brought = n .before .before .before .before .before .before .before .before .before .before .brings .result in
+    let item = n .before .before .before .before .before .before .before .before .before .before .before .before .before .before .before .next-item4 .result in
     let kept = ap (λ (r : List ℕ). length r) (put-so .ensures .1) ∙ length-sets (l .out) (l .at) (cond (brought .refused) (rLine item (brought .code)) []) in
-    omega (arith, kept, l .inv .1, small (n .before .before .before .before .before .before .before .before .before .before .before .before .before .before .before .before .before))
+    omega (arith, kept, l .inv .1, small (n .before .before .before .before .before .before .before .before .before .before .before .before .before .before .before .before .before .before))
+
+with-row-requires : tie.Need-with-row-requires Inv-loop2 μ-loop2 Inv-loop μ-loop
+with-row-requires c κs = row-fits (c .before .before .before .before .before .before .before .before .before .before .before .before .before .before .before .before .before .before .loop .window) (frames (c .before .before .before .before .before .before .before .before .before .before .before .before .before .before) .window) (c .before .place .ensures)
 
 loop2-holds : tie.Need-loop2-holds Inv-loop2 μ-loop2 Inv-loop μ-loop
 loop2-holds c =
-    let l = c .before .before .before .before .before .before .before .before .before .before .before .before .before .before .before .before .before .before .loop in
+    let l = c .before .before .before .before .before .before .before .before .before .before .before .before .before .before .before .before .before .before .before .loop in
     (omega arith, l .inv .4 .few, refl, l .inv .2 .all-slots, turning-none _ _ _ _ _ _ _ _ _ (search needs), l .inv .4 .each)
 
 loop-less-7 : tie.Need-loop-less-7 Inv-loop2 μ-loop2 Inv-loop μ-loop
-loop-less-7 c = omega (arith, frames (c .before .before .before .before .before .before .before .before .before .before .before .before .before .before .before .before) .there)
+loop-less-7 c = omega (arith, frames (c .before .before .before .before .before .before .before .before .before .before .before .before .before .before .before .before .before) .there)
 
 loop-again-7 : tie.Need-loop-again-7 Inv-loop2 μ-loop2 Inv-loop μ-loop
 loop-again-7 c =
-    let f = (c .before .before .before .before .before .before .before .before .before .before .before .before .before .before .before .before) in
+    let f = (c .before .before .before .before .before .before .before .before .before .before .before .before .before .before .before .before .before) in
     let g = frame-at f in
-    let l = c .before .before .before .before .before .before .before .before .before .before .before .before .before .before .before .before .before .before .before .before .loop in
+    let l = c .before .before .before .before .before .before .before .before .before .before .before .before .before .before .before .before .before .before .before .before .before .loop in
     let m = c .before .loop2 in
-    let id = c .before .before .before .before .before .before .before .before .before .before .before .before .before .before .read32 .ensures in
+    let id = c .before .before .before .before .before .before .before .before .before .before .before .before .before .before .before .read32 .ensures in
     let data-so = from-to (l .i) 7 8 15 (bytes g) (omega arith) in
-    let taken = c .before .before .before .before .before .before .before .before .before .before .before .take .ensures in
-    let next-bus = next-room (l .bus) (record { identifier = c .before .before .before .before .before .before .before .before .before .before .before .before .before .before .read32 .result; data-bytes = take (l .i + 15 - (l .i + 7)) (drop (l .i + 7) (bytes g)) }) (l .inv .2 .bus) in
+    let taken = c .before .before .before .before .before .before .before .before .before .before .before .before .take .ensures in
+    let next-bus = next-room (l .bus) (record { identifier = c .before .before .before .before .before .before .before .before .before .before .before .before .before .before .before .read32 .result; data-bytes = take (l .i + 15 - (l .i + 7)) (drop (l .i + 7) (bytes g)) }) (l .inv .2 .bus) in
     let left = ap sessionsIn (taken .1) ∙ next-bus .1 in
-    let some = c .before .before .before .before .if7 .left in
-    let new = row-takes (here g) (bytes g) (l .i) (frames f .window) (frames f .there) id data-so (taken .0) left (c .before .before .before .before .before .before .before .before .before .before .before .before .before .before .before .next-item4 .ensures) (c .before .before .before .before .before .before .before .before .before .before .brings .ensures) some (c .before .before .before .place .ensures) in
+    let some = c .before .before .before .before .before .if7 .left in
+    let new = row-takes (here g) (bytes g) (l .i) (frames f .window) (frames f .there) id data-so (taken .0) left (c .before .before .before .before .before .before .before .before .before .before .before .before .before .before .before .before .next-item4 .ensures) (c .before .before .before .before .before .before .before .before .before .before .before .brings .ensures) some (c .before .before .before .before .place .ensures) in
     let ended : m .slot ≡ l .used = omega (arith, m .inv .0) in
     let idle : (j : ℕ) → m .slot ≤ j → j < length (l .slots) → isIdle (getD (l .slots) j noQuestion) ≡ true = λ j h k. l .inv .4 .idle j (omega (arith, ended)) (omega (arith, l .inv .2 .all-slots)) in
     let whole : length (l .slots) ≤ length (l .slots) = omega arith in
     let all = turning-rest _ _ _ _ _ _ _ _ _ (32 - m .slot) (m .slot) (omega (arith, m .inv .0, m .inv .1, l .inv .2 .all-slots)) (m .inv .4) idle (small-then (c .before)) (place-fits _ _ _ (m .inv .4 .printed)) in
-    let e = frame-enters (here g) (bytes g) (l .i) (frames f .window) (frames f .there) id data-so (taken .0) left (c .before .before .before .before .before .before .before .before .before .before .before .before .before .before .before .next-item4 .ensures) (c .before .before .before .before .before .before .before .before .before .before .brings .ensures) some new whole all in
-    let printed = then (omega (arith, l .inv .1, small g)) (put (c .before .before .before .before .before .before .before .before .put-refusal2 .ensures)) (all .printed) in
-    let r = ran-item (from g) (start g .args .self) (bytes g) (room g) 18 12 _ (omega arith) (small g) (frames f .there) (l .inv .3) (roomy g) (l .inv .2 .bytes) (frames f .free) (frames f .starts) (frames f .long) e (c .before .before .before .before .before .nothing5 .ensures) printed in
-    (frames f .there, rw (r .stored .bytes, length-sets), record { all-slots = m .inv .4 .whole ∙ l .inv .2 .all-slots; bus = ap (λ (o : List ℕ). length o) (taken .1) ∙ next-bus .0; bytes = ap (λ (w : Waiting). length (w .bytes)) (c .before .before .before .before .before .nothing5 .ensures) }, r, gauged-turned _ _ _ _ _ _ _ _ _ (l .inv .4) ended (m .inv .4) (m .inv .5))
+    let e = frame-enters (here g) (bytes g) (l .i) (frames f .window) (frames f .there) id data-so (taken .0) left (c .before .before .before .before .before .before .before .before .before .before .before .before .before .before .before .before .next-item4 .ensures) (c .before .before .before .before .before .before .before .before .before .before .before .brings .ensures) some new whole all in
+    let printed = then (omega (arith, l .inv .1, small g)) (put (c .before .before .before .before .before .before .before .before .before .put-refusal2 .ensures)) (all .printed) in
+    let r = ran-item (from g) (start g .args .self) (bytes g) (room g) 18 12 _ (omega arith) (small g) (frames f .there) (l .inv .3) (roomy g) (l .inv .2 .bytes) (frames f .free) (frames f .starts) (frames f .long) e (c .before .before .before .before .before .before .nothing5 .ensures) printed in
+    (frames f .there, rw (r .stored .bytes, length-sets), record { all-slots = m .inv .4 .whole ∙ l .inv .2 .all-slots; bus = ap (λ (o : List ℕ). length o) (taken .1) ∙ next-bus .0; bytes = ap (λ (w : Waiting). length (w .bytes)) (c .before .before .before .before .before .before .nothing5 .ensures) }, r, gauged-turned _ _ _ _ _ _ _ _ _ (l .inv .4) ended (m .inv .4) (m .inv .5), rowed-with (l .inv .5) (c .before .before .before .before .place .result .row) (c .before .before .before .before .before .before .before .before .before .before .before .brings .result .number) (row-fits (l .window) (frames f .window) (c .before .before .before .before .place .ensures)) (c .before .before .with-row .ensures))
 
 add-slot : tie.Need-add-slot Inv-loop2 μ-loop2 Inv-loop μ-loop
 add-slot c = omega (arith, c .before .loop2 .inv .0, c .before .loop2 .inv .1)
@@ -657,7 +668,8 @@ loop2-again-3 : tie.Need-loop2-again-3 Inv-loop2 μ-loop2 Inv-loop μ-loop
 loop2-again-3 c =
     let n = (c .before .before .before .before .before .before .before .before .before .before .before .before .before .before .before .before .before .before) in
     let m = c .before .before .before .before .before .before .before .before .before .before .before .before .before .before .before .before .before .before .before .loop2 in
-    let t = turning-searched _ _ _ _ _ _ _ _ _ (m .inv .4) (below n) (c .before .before .before .before .before .before .before .before .before .before .before .before .before .listed .ensures) (sym (c .before .before .before .before .before .before .before .before .before .before .before .before .lists .ensures) ∙ not-false _ (c .before .before .before .before .before .before .before .before .before .before .before .if9 .left)) (c .before .before .before .before .before .before .searched-in .ensures) (small-then (c .before .before .before .before .before .before .before .before .before .before .before .before .before .before .before .before .before .before .before)) (put (c .before .before .put-s .ensures)) in
+    let rowed = rowed-with (c .before .before .before .before .before .before .before .before .before .before .before .before .before .before .before .before .before .before .before .before .before .before .before .before .before .before .before .before .before .before .before .before .before .before .before .before .before .before .before .loop .inv .5) (c .before .before .before .before .before .before .before .before .before .before .before .before .before .before .before .before .before .before .before .before .before .before .place .result .row) (c .before .before .before .before .before .before .before .before .before .before .before .before .before .before .before .before .before .before .before .before .before .before .before .before .before .before .before .before .before .brings .result .number) (row-fits (c .before .before .before .before .before .before .before .before .before .before .before .before .before .before .before .before .before .before .before .before .before .before .before .before .before .before .before .before .before .before .before .before .before .before .before .before .before .before .before .loop .window) (frames (c .before .before .before .before .before .before .before .before .before .before .before .before .before .before .before .before .before .before .before .before .before .before .before .before .before .before .before .before .before .before .before .before .before .before .before) .window) (c .before .before .before .before .before .before .before .before .before .before .before .before .before .before .before .before .before .before .before .before .before .before .place .ensures)) (c .before .before .before .before .before .before .before .before .before .before .before .before .before .before .before .before .before .before .before .before .with-row .ensures) in
+    let t = turning-searched _ _ _ _ _ _ _ _ _ (m .inv .4) (below n) (c .before .before .before .before .before .before .before .before .before .before .before .before .before .listed .ensures) (sym (c .before .before .before .before .before .before .before .before .before .before .before .before .lists .ensures) ∙ not-false _ (c .before .before .before .before .before .before .before .before .before .before .before .if9 .left)) _ (rowed-all _ rowed) (c .before .before .before .before .before .before .searched-in .ensures) (small-then (c .before .before .before .before .before .before .before .before .before .before .before .before .before .before .before .before .before .before .before)) (put (c .before .before .put-s .ensures)) in
     (next-slot n, m .inv .1, rw (t .printed .bytes, length-sets), m .inv .3, t, gauges-set (m .slots) (m .slot) (c .before .before .before .before .before .before .searched-in .result .question) (m .inv .5) (c .before .before .before .before .of4 .ensures))
 
 read-requires-2 : tie.Need-read-requires-2 Inv-loop2 μ-loop2 Inv-loop μ-loop
@@ -668,7 +680,7 @@ same-length c = c .before .before .before .before .loop .inv .1
 
 returns : tie.Need-returns Inv-loop2 μ-loop2 Inv-loop μ-loop
 returns c =
-    let a = (c .before .before .before .before .before .before .before .before .before .before .before .before .before .before .before) .args in
+    let a = (c .before .before .before .before .before .before .before .before .before .before .before .before .before .before .before .before .before .before) .args in
     let l = c .before .before .before .before .loop in
     let fed = ran-feeds (record { items = a .log .items; board = a .log .board; sessions = sessionsIn (c .before .before .before .before .before .fill .last .0) }) (a .self) (now (a .piece)) (now (a .out)) (l .inv .0) (l .inv .3)
     (λ h. no-room (l .i) (length (now (a .piece))) (l .at) (l .inv .1) h (sym (c .before .before .before .goes-on .ensures) ∙ c .before .before .if1 .left)) in
@@ -682,6 +694,7 @@ feed-spec =
     μ-loop2
     Inv-loop
     μ-loop
+    rows-in-requires
     all-requires
     in-use-requires
     fill-requires
@@ -752,6 +765,7 @@ feed-spec =
     loop-again-4
     read-requires
     item-requires
+    rows-in-requires-2
     all-requires-2
     in-use-requires-4
     fill-requires-2
@@ -781,6 +795,7 @@ feed-spec =
     element-write-window-2
     mul-window-3
     element-write-window-3
+    with-row-requires
     loop2-holds
     loop-less-7
     loop-again-7
