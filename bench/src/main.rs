@@ -190,8 +190,9 @@ fn worst(rows: &[Row], part: &str, other: usize) -> f64 {
     rows.iter().filter(|r| r.name.contains(part)).filter_map(|r| r.ratio(other)).fold(0.0, f64::max)
 }
 
-fn ours(rows: &[Row], name: &str) -> f64 {
-    rows.iter().find(|r| r.name.starts_with(name)).and_then(|r| r.nanoseconds[OURS]).unwrap_or(0.0)
+/// What one unit takes a program, of the first workload with such a name.
+fn of(rows: &[Row], name: &str, program: usize) -> f64 {
+    rows.iter().find(|r| r.name.starts_with(name)).and_then(|r| r.nanoseconds[program]).unwrap_or(0.0)
 }
 
 /// The lines that the limits are about.
@@ -200,8 +201,9 @@ fn summary(rows: &[Row]) {
     println!("| ours / fast, whole log (d) | 1.5 | {:.2} |", worst(rows, "(d)", FAST));
     println!("| ours / naive, (b) N 1024, 32 questions, the worst row | 0.1 | {:.3} |", worst(rows, "32 questions, N 1024", NAIVE));
     println!("| ours / C session machine, (a), the worst row | 3 | {:.2} |", worst(rows, "(a)", C));
-    println!("| a frame with 254 senders / with 1, ours | 1 | {:.2} |", ours(rows, "(a) 254 senders") / ours(rows, "(a) 1 sender"));
-    let rising = |n: usize| ours(rows, &format!("(b) rising, 8 questions, N {}, k 16", n));
+    let mixed = |program: usize| of(rows, "(a) 254 senders", program) / of(rows, "(a) 1 sender", program);
+    println!("| a frame with 254 senders / with 1, ours (and the C machine's) | 1 | {:.2} ({:.2}) |", mixed(OURS), mixed(C));
+    let rising = |n: usize| of(rows, &format!("(b) rising, 8 questions, N {}, k 16", n), OURS);
     println!("| an entry with no search, N 1024 / N 16, ours | 1 | {:.2} |", rising(1024) / rising(16));
 }
 
