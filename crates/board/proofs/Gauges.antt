@@ -23,8 +23,8 @@ use Rattle.question.specs.Lines.{linesOf, lines}
 use Rattle.question.specs.Inner.{shown}
 use Rattle.question.proofs.Taking.{if-so, if-not}
 use Rattle.question.proofs.Stored.{Roomy, lineAt, all-lines, take-line, no-lines}
-use Rattle.board.specs.Work.{noQuestion, hasPlace, takes, lists}
-use Rattle.board.specs.Gauges.{lastScore, leastOf, lowest, lowOf, gaugeOf, isQuiet, isIdle, inUse}
+use Rattle.board.specs.Work.{hasPlace, takes, lists}
+use Rattle.board.specs.Gauges.{lastScore, leastOf, lowest, lowOf, gaugeOf, isQuiet, upToLast}
 use Rattle.board.proofs.Listing.{takes-no-place, front-numbers, line-left, has-later}
 
 -- ---- what the gauge is read off
@@ -88,37 +88,37 @@ quiet-untouched q gone loss shake e =
     let none = no-last (lines q) s (not-true _ (both .0)) in
     rw (takes-no-place q loss shake (rw (there .0, none)), below-all gone (map (λ x. x .number) (lines q)) (there .1)) (and-false (not (eqb gone 0)))
 
--- ---- the slots in use
+-- ---- the places in use
 
-pub none-used : (slots : List Question) (n : ℕ) → n ≡ 0 → inUse n slots ≡ 0
-unfolding inUse
-none-used slots zero e = refl
-none-used slots (suc n) e = absurd (omega arith)
+module _ {A : Type 0} (blank : A → Bool) (d : A) where
+  pub none-used : (l : List A) (n : ℕ) → n ≡ 0 → upToLast blank d n l ≡ 0
+  unfolding upToLast
+  none-used l zero e = refl
+  none-used l (suc n) e = absurd (omega arith)
 
-module _ (slots : List Question) (n m : ℕ) (e : n ≡ suc m) where
-  pub used-here : isIdle (getD slots m noQuestion) ≡ false → inUse n slots ≡ n
-  unfolding inUse
-  used-here t = ap (λ k. inUse k slots) e ∙ if-not (inUse m slots) (suc m) t ∙ sym e
+  pub used-here : (l : List A) (n m : ℕ) → n ≡ suc m → blank (getD l m d) ≡ false → upToLast blank d n l ≡ n
+  unfolding upToLast
+  used-here l n m e t = ap (λ k. upToLast blank d k l) e ∙ if-not (upToLast blank d m l) (suc m) t ∙ sym e
 
-  pub used-below : isIdle (getD slots m noQuestion) ≡ true → inUse n slots ≡ inUse m slots
-  unfolding inUse
-  used-below t = ap (λ k. inUse k slots) e ∙ if-so (inUse m slots) (suc m) t
+  pub used-below : (l : List A) (n m : ℕ) → n ≡ suc m → blank (getD l m d) ≡ true → upToLast blank d n l ≡ upToLast blank d m l
+  unfolding upToLast
+  used-below l n m e t = ap (λ k. upToLast blank d k l) e ∙ if-so (upToLast blank d m l) (suc m) t
 
-pub in-use-few : (n : ℕ) (slots : List Question) → inUse n slots ≤ n
-unfolding inUse
-in-use-few zero slots = omega arith
-in-use-few (suc n) slots = go (tested (isIdle (getD slots n noQuestion))) (in-use-few n slots)
-  where
-    go : Tested (isIdle (getD slots n noQuestion)) → inUse n slots ≤ n → inUse (suc n) slots ≤ suc n
-    go (passed t) ih = rw t (omega arith)
-    go (failed t) ih = rw t (omega arith)
+  pub used-few : (n : ℕ) (l : List A) → upToLast blank d n l ≤ n
+  unfolding upToLast
+  used-few zero l = omega arith
+  used-few (suc n) l = go (tested (blank (getD l n d))) (used-few n l)
+    where
+      go : Tested (blank (getD l n d)) → upToLast blank d n l ≤ n → upToLast blank d (suc n) l ≤ suc n
+      go (passed t) ih = rw t (omega arith)
+      go (failed t) ih = rw t (omega arith)
 
--- A slot from the bound on is idle.
-pub in-use-idle : (n : ℕ) (slots : List Question) (i : ℕ) → inUse n slots ≤ i → i < n → isIdle (getD slots i noQuestion) ≡ true
-unfolding inUse
-in-use-idle zero slots i h below = absurd (not-suc-le-zero below)
-in-use-idle (suc n) slots i h below = go (tested (isIdle (getD slots n noQuestion))) (λ more less. in-use-idle n slots i more less)
-  where
-    go : Tested (isIdle (getD slots n noQuestion)) → (inUse n slots ≤ i → i < n → isIdle (getD slots i noQuestion) ≡ true) → isIdle (getD slots i noQuestion) ≡ true
-    go (passed t) ih = ⊎-elim (λ less. ih (rw t at h) less) (λ last. ap (λ m. isIdle (getD slots m noQuestion)) last ∙ t) (lt-or-eq (le-of-suc-le-suc below))
-    go (failed t) ih = let over : suc n ≤ i = rw t at h in absurd (omega arith)
+  -- A place from the bound on is blank.
+  pub used-blank : (n : ℕ) (l : List A) (i : ℕ) → upToLast blank d n l ≤ i → i < n → blank (getD l i d) ≡ true
+  unfolding upToLast
+  used-blank zero l i h below = absurd (not-suc-le-zero below)
+  used-blank (suc n) l i h below = go (tested (blank (getD l n d))) (λ more less. used-blank n l i more less)
+    where
+      go : Tested (blank (getD l n d)) → (upToLast blank d n l ≤ i → i < n → blank (getD l i d) ≡ true) → blank (getD l i d) ≡ true
+      go (passed t) ih = ⊎-elim (λ less. ih (rw t at h) less) (λ last. ap (λ m. blank (getD l m d)) last ∙ t) (lt-or-eq (le-of-suc-le-suc below))
+      go (failed t) ih = let over : suc n ≤ i = rw t at h in absurd (omega arith)

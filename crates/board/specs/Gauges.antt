@@ -42,7 +42,11 @@ isQuiet g oldest loss shake = not (leZ (g .least) (score (g .weights) loss shake
 abbrev pub isIdle : Question → Bool
 isIdle q = eqb (q .k) 0 && eqb (q .len) 0
 
--- Of the first n slots, how many there are up to the last one that isn't idle.
-unfoldable pub inUse : ℕ → List Question → ℕ
-inUse zero slots = 0
-inUse (suc n) slots = cond (isIdle (getD slots n noQuestion)) (inUse n slots) (suc n)
+-- Of the first n places of a list, how many there are up to the last one that isn't blank.
+unfoldable pub upToLast : {A : Type 0} → (A → Bool) → A → ℕ → List A → ℕ
+upToLast blank d zero l = 0
+upToLast blank d (suc n) l = cond (blank (getD l n d)) (upToLast blank d n l) (suc n)
+
+-- How many of the first n slots there are up to the last one that isn't idle.
+abbrev pub inUse : ℕ → List Question → ℕ
+inUse n slots = upToLast isIdle noQuestion n slots

@@ -13,7 +13,7 @@ use Rattle.question.specs.declared.Question.{Question}
 use Rattle.board.specs.declared.gauge.Gauge.{Gauge}
 use Rattle.board.specs.Work.{noQuestion}
 use Rattle.board.specs.Gauges.{gaugeOf, isQuiet, isIdle, inUse}
-use Rattle.board.proofs.Gauges.{quiet-untouched, in-use-idle, in-use-few}
+use Rattle.board.proofs.Gauges.{quiet-untouched, used-blank, used-few}
 use Rattle.pieces.proofs.InPlace.{Turning, next-old, turning-still, turning-idle}
 
 -- The gauges are those of the slots, and from the bound on the slots are idle.
@@ -26,8 +26,8 @@ pub gauged-of : (slots : List Question) {gauges : List Gauge} {used : ℕ} → g
 gauged-of slots e u =
     record {
       each = e;
-      few = subst (λ n. n ≤ 32) (sym u) (in-use-few 32 slots);
-      idle = λ i h k. in-use-idle 32 slots i (subst (λ n. n ≤ i) u h) k;
+      few = subst (λ n. n ≤ 32) (sym u) (used-few isIdle noQuestion 32 slots);
+      idle = λ i h k. used-blank isIdle noQuestion 32 slots i (subst (λ n. n ≤ i) u h) k;
     }
 
 -- the gauge of one slot

@@ -1,67 +1,30 @@
 -- The rows from the bound on hold no report, so that a search of those before it finds what one of all rows finds.
 -- Assumes nothing.
-use mathlib.Core.Path.{_≡_, refl, sym, ap, subst, _∙_}
-use mathlib.Core.Logic.{⊎-elim}
-use mathlib.Core.Bool.{true, false}
+use mathlib.Core.Path.{_≡_, sym, ap, subst, _∙_}
 use mathlib.Core.List.{List}
-use Prim.Native.Nat.{ℕ, zero, suc, _+_, _-_, min, _≤_, _<_}
-use native.Mathlib.Nat.{not-suc-le-zero, le-of-suc-le-suc}
+use Prim.Native.Nat.{ℕ, _+_, _-_, min, _≤_, _<_}
 use native.Mathlib.Omega.{arith}
 use borrow.Author.Tests.{leb-true, leb-false, eqb-true}
 use lib.Dec.{eqb, leb}
 use lib.ListN.{getD, set}
 use lib.Seq.{getD-set-other}
-use Rattle.ranking.proofs.Lists.{lt-or-eq}
 use Rattle.ranking.proofs.Tests.{Tested, passed, failed, tested}
 use Rattle.window.specs.declared.Window.{Window}
 use Rattle.window.specs.Rows.{standing}
 use Rattle.window.proofs.Standing.{standing-end}
 use Rattle.question.proofs.Taking.{if-so, if-not}
+use Rattle.board.proofs.Gauges.{used-few, used-blank}
 use Rattle.pieces.specs.Inner.{rowsUsed, withRow}
 
 pub record Rowed (numbers : List ℕ) (rows : ℕ) : Type 0 where
   pub few : rows ≤ 1024
   pub empty : (i : ℕ) → rows ≤ i → i < 1024 → getD numbers i 0 ≡ 0
 
--- ---- the bound, as it is counted down
-
-pub rows-none : (numbers : List ℕ) (n : ℕ) → n ≡ 0 → rowsUsed n numbers ≡ 0
-unfolding rowsUsed
-rows-none numbers zero e = refl
-rows-none numbers (suc n) e = absurd (omega arith)
-
-module _ (numbers : List ℕ) (n m : ℕ) (e : n ≡ suc m) where
-  pub rows-here : eqb (getD numbers m 0) 0 ≡ false → rowsUsed n numbers ≡ n
-  unfolding rowsUsed
-  rows-here t = ap (λ k. rowsUsed k numbers) e ∙ if-not (rowsUsed m numbers) (suc m) t ∙ sym e
-
-  pub rows-below : eqb (getD numbers m 0) 0 ≡ true → rowsUsed n numbers ≡ rowsUsed m numbers
-  unfolding rowsUsed
-  rows-below t = ap (λ k. rowsUsed k numbers) e ∙ if-so (rowsUsed m numbers) (suc m) t
-
-rows-few : (n : ℕ) (numbers : List ℕ) → rowsUsed n numbers ≤ n
-unfolding rowsUsed
-rows-few zero numbers = omega arith
-rows-few (suc n) numbers = go (tested (eqb (getD numbers n 0) 0)) (rows-few n numbers)
-  where
-    go : Tested (eqb (getD numbers n 0) 0) → rowsUsed n numbers ≤ n → rowsUsed (suc n) numbers ≤ suc n
-    go (passed t) ih = rw t (omega arith)
-    go (failed t) ih = rw t (omega arith)
-
-rows-empty : (n : ℕ) (numbers : List ℕ) (i : ℕ) → rowsUsed n numbers ≤ i → i < n → getD numbers i 0 ≡ 0
-unfolding rowsUsed
-rows-empty zero numbers i h below = absurd (not-suc-le-zero below)
-rows-empty (suc n) numbers i h below = go (tested (eqb (getD numbers n 0) 0)) (λ more less. rows-empty n numbers i more less)
-  where
-    go : Tested (eqb (getD numbers n 0) 0) → (rowsUsed n numbers ≤ i → i < n → getD numbers i 0 ≡ 0) → getD numbers i 0 ≡ 0
-    go (passed t) ih = ⊎-elim (λ less. ih (rw t at h) less) (λ last. ap (λ m. getD numbers m 0) last ∙ eqb-true (getD numbers n 0) 0 t) (lt-or-eq (le-of-suc-le-suc below))
-    go (failed t) ih = let over : suc n ≤ i = rw t at h in absurd (omega arith)
-
 pub rowed-of : (numbers : List ℕ) {rows : ℕ} → rows ≡ rowsUsed 1024 numbers → Rowed numbers rows
 rowed-of numbers e =
     record {
-      few = subst (λ n. n ≤ 1024) (sym e) (rows-few 1024 numbers);
-      empty = λ i h k. rows-empty 1024 numbers i (subst (λ n. n ≤ i) e h) k;
+      few = subst (λ n. n ≤ 1024) (sym e) (used-few (λ k. eqb k 0) 0 1024 numbers);
+      empty = λ i h k. eqb-true (getD numbers i 0) 0 (used-blank (λ k. eqb k 0) 0 1024 numbers i (subst (λ n. n ≤ i) e h) k);
     }
 
 -- ---- a row more

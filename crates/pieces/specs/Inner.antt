@@ -1,5 +1,5 @@
 -- What the inner functions of the machine answer.
-use Prim.Native.Nat.{ℕ, zero, suc, _+_}
+use Prim.Native.Nat.{ℕ, _+_}
 use mathlib.Core.Bool.{Bool, true, false, not, cond, _&&_}
 use mathlib.Core.List.{List}
 use lib.ListN.{length, getD, take}
@@ -8,6 +8,7 @@ use Rattle.wire.specs.Bytes.{number, part}
 use Rattle.window.specs.Rows.{sized}
 use Rattle.question.specs.declared.Question.{Question}
 use Rattle.board.specs.Work.{arrival}
+use Rattle.board.specs.Gauges.{upToLast}
 use Rattle.text.specs.Text.{rLine, qLine, sLine, listed}
 use Rattle.joining.specs.declared.Answer.{Answer}
 use Rattle.joining.specs.declared.Answer.the-variants.{Refused, Kept, Complete}
@@ -18,10 +19,9 @@ unfoldable pub itemComes : (have rows : ℕ) → List ℕ → (i tag size : ℕ)
 itemComes have rows piece i tag size =
     eqb have 0 && sized rows && leb (i + (3 + size)) (length piece) && eqb (getD piece i 0) tag && eqb (number (part (i + 1) 2 piece)) size
 
--- Of the first n rows, how many there are up to the last one that holds a report.
-unfoldable pub rowsUsed : ℕ → List ℕ → ℕ
-rowsUsed zero numbers = 0
-rowsUsed (suc n) numbers = cond (eqb (getD numbers n 0) 0) (rowsUsed n numbers) (suc n)
+-- How many of the first n rows there are up to the last one that holds a report.
+abbrev pub rowsUsed : ℕ → List ℕ → ℕ
+rowsUsed n numbers = upToLast (λ k. eqb k 0) 0 n numbers
 
 -- The rows, and that one.
 abbrev pub withRow : (rows row : ℕ) → ℕ

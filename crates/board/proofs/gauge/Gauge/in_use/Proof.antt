@@ -3,7 +3,8 @@
 use mathlib.Core.Path.{_≡_, refl, sym, _∙_}
 use Prim.Native.Nat.{_-_, _≤_}
 use native.Mathlib.Omega.{arith}
-use Rattle.board.specs.Gauges.{inUse}
+use Rattle.board.specs.Work.{noQuestion}
+use Rattle.board.specs.Gauges.{isIdle, inUse}
 use borrow.Author.Tests.{not-true, not-false}
 use Rattle.board.proofs.Gauges.{none-used, used-here, used-below}
 use borrow.Author.Needs.{needs}
@@ -38,16 +39,16 @@ idle-requires : tie.Need-idle-requires Inv-loop μ-loop
 idle-requires c κs = search needs
 
 returns : tie.Need-returns Inv-loop μ-loop
-returns c = sym (c .before .before .before .loop .inv .1 ∙ used-here (c .before .before .before .before .args .t1) (c .before .before .before .loop .used) (c .before .before .before .loop .used - 1) (omega arith) (sym (c .before .idle .ensures) ∙ not-true _ (c .if1 .taken)))
+returns c = sym (c .before .before .before .loop .inv .1 ∙ used-here isIdle noQuestion (c .before .before .before .before .args .t1) (c .before .before .before .loop .used) (c .before .before .before .loop .used - 1) (omega arith) (sym (c .before .idle .ensures) ∙ not-true _ (c .if1 .taken)))
 
 loop-less : tie.Need-loop-less Inv-loop μ-loop
 loop-less c = omega arith
 
 loop-again : tie.Need-loop-again Inv-loop μ-loop
-loop-again c = (omega arith, c .before .before .before .loop .inv .1 ∙ used-below (c .before .before .before .before .args .t1) (c .before .before .before .loop .used) (c .before .before .before .loop .used - 1) (omega arith) (sym (c .before .idle .ensures) ∙ not-false _ (c .if1 .left)))
+loop-again c = (omega arith, c .before .before .before .loop .inv .1 ∙ used-below isIdle noQuestion (c .before .before .before .before .args .t1) (c .before .before .before .loop .used) (c .before .before .before .loop .used - 1) (omega arith) (sym (c .before .idle .ensures) ∙ not-false _ (c .if1 .left)))
 
 returns-2 : tie.Need-returns-2 Inv-loop μ-loop
-returns-2 c = sym (c .before .loop .inv .1 ∙ none-used (c .before .before .args .t1) (c .before .loop .used) (omega arith))
+returns-2 c = sym (c .before .loop .inv .1 ∙ none-used isIdle noQuestion (c .before .before .args .t1) (c .before .loop .used) (omega arith))
 
 pub in-use-spec : {M : Type 1} → statement M
 in-use-spec =
