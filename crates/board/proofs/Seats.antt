@@ -1,7 +1,6 @@
--- Setting and removing touch one slot: the board that they leave is the old one with what that slot holds then.
+-- Setting touches one slot: the board that it leaves is the old one with what that slot holds then.
 -- Assumes nothing.
-use mathlib.Core.Path.{_≡_, refl, sym, ap, _∙_}
-use mathlib.Core.Bool.{true, false, cond}
+use mathlib.Core.Path.{_≡_, sym, ap, _∙_}
 use mathlib.Core.List.{[]}
 use Prim.Native.Nat.{ℕ, _≤_, _<_}
 use borrow.Author.Tests.{lt-ltb, le-ltb}
@@ -12,9 +11,9 @@ use Rattle.ranking.specs.declared.Weights.{Weights}
 use Rattle.ranking.proofs.Tests.{Tested, passed, failed, tested}
 use Rattle.question.specs.declared.Question.{Question}
 use Rattle.question.specs.declared.Searched.{Searched}
-use Rattle.question.specs.Lines.{asked, rowsOf, searchedOn}
+use Rattle.question.specs.Lines.{asked, rowsOf}
 use Rattle.question.proofs.Finding.{searched-arrays}
-use Rattle.board.specs.Work.{noQuestion, slotAt, withSlot, askRefusal, setRefusal, setWork, setIn, slotRefusal, removeWork, emptied}
+use Rattle.board.specs.Work.{noQuestion, slotAt, withSlot, askRefusal, setRefusal, setWork, setIn}
 use Rattle.board.specs.declared.Board.{Board}
 use Rattle.board.specs.declared.Seated.{Seated}
 
@@ -35,17 +34,3 @@ module _ (b : Board) (slot k : ℕ) (weights : Weights) where
           → setWork b slot k weights ≡ (let t = setIn (slotAt b slot) k weights (rowsOf (b .window .losses) (b .window .shakes) (b .window .numbers)) in record { refusal = t .refusal; steps = t .steps; board = withSlot b slot (t .question) })
       go (passed t) = rw (lt-ltb slot 32 h) (rw t (ap (λ (f : Searched). record { refusal = 0; steps = f .steps; board = withSlot b slot (f .question) }) (sym (searched-arrays (asked k weights [] 0) (b .window)))))
       go (failed t) = rw (lt-ltb slot 32 h) (rw t (λ i. record { refusal = askRefusal (slotAt b slot .k) k weights; steps = 0; board = sym same-slot i }))
-
--- A slot is removed, or was empty and stays.
-module _ (b : Board) (slot : ℕ) (h : slot < 32) where
-  pub remove-refused : slotRefusal b slot ≡ cond (eqb (slotAt b slot .k) 0) 17 0
-  unfolding slotRefusal
-  remove-refused = rw (lt-ltb slot 32 h)
-
-  pub remove-seated : removeWork b slot .board ≡ withSlot b slot (emptied (slotAt b slot))
-  unfolding removeWork slotRefusal emptied
-  remove-seated = go (tested (eqb (slotAt b slot .k) 0))
-    where
-      go : Tested (eqb (slotAt b slot .k) 0) → removeWork b slot .board ≡ withSlot b slot (emptied (slotAt b slot))
-      go (passed t) = rw (lt-ltb slot 32 h) (rw t (λ i. record { window = b .window; slots = sym (set-getD (b .slots) slot noQuestion) i }))
-      go (failed t) = rw (lt-ltb slot 32 h) (rw t)

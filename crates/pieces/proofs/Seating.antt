@@ -14,7 +14,6 @@ use Rattle.wire.proofs.Fields.{length-part}
 use Rattle.ranking.specs.declared.Weights.{Weights}
 use Rattle.ranking.proofs.Tests.{Tested, passed, failed, tested, and-both}
 use Rattle.window.specs.Rows.{sized}
-use Rattle.window.proofs.Fitness.{size-range}
 use Rattle.question.specs.declared.Question.{Question}
 use Rattle.question.specs.Lines.{rowsOf}
 use Rattle.board.specs.declared.Board.{Board}
