@@ -6,9 +6,9 @@ use mathlib.Core.Bool.{Bool, true, false}
 use Prim.Native.Nat.{ℕ, zero, suc, _+_, _≤_, _<_}
 use native.Mathlib.Nat.{add-zero, add-suc, suc-add}
 use native.Mathlib.Omega.{arith}
-use Rattle.ranking.specs.Search.{least}
-use Rattle.ranking.proofs.Tests.{Tested, passed, failed, tested}
-use Rattle.ranking.proofs.Lists.{lt-or-eq}
+use Rattle.search.specs.Search.{least}
+use Rattle.laws.proofs.Tests.{Tested, passed, failed, tested}
+use Rattle.laws.proofs.Lists.{lt-or-eq}
 
 pub least-from : (p : ℕ → Bool) (f n : ℕ) → n ≤ least p f n
 least-from p zero n = omega arith

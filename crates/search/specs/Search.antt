@@ -4,7 +4,8 @@ use mathlib.Core.List.{List, [], _∷_, map}
 use Prim.Native.Nat.{ℕ, zero, suc}
 use lib.Dec.{eqb, ltb}
 use lib.ListN.{length, take, drop}
-use Rattle.ranking.specs.Best.{best, onLast, only}
+use Rattle.laws.specs.Lists.{onLast, only}
+use Rattle.search.specs.Best.{best}
 
 -- What a search goes by: entries E of a list, and things I that are held.
 pub record Search (E I : Type 0) : Type 0 where

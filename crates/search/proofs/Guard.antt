@@ -10,12 +10,13 @@ use native.Mathlib.Omega.{arith}
 use borrow.Author.Tests.{lt-ltb}
 use lib.Dec.{ltb}
 use lib.ListN.{length, length-take}
-use Rattle.ranking.specs.Best.{_∈_, place, best, onLast}
-use Rattle.ranking.specs.Search.{Search, entries, marks}
-use Rattle.ranking.proofs.Tests.{Tested, passed, failed, tested, or-left, or-right}
-use Rattle.ranking.proofs.Lists.{lt-or-eq, take-⊆, moved}
-use Rattle.ranking.proofs.Best.{Lowest, best-falling, best-cons, best-below, length-best-le, place-length-ge, place-of, entered, lowest-some}
-use Rattle.ranking.proofs.Search.{All, Sound, mattering}
+use Rattle.laws.specs.Lists.{_∈_, onLast}
+use Rattle.search.specs.Best.{place, best}
+use Rattle.search.specs.Search.{Search, entries, marks}
+use Rattle.laws.proofs.Tests.{Tested, passed, failed, tested, or-left, or-right}
+use Rattle.laws.proofs.Lists.{lt-or-eq, take-⊆, moved}
+use Rattle.search.proofs.Best.{Lowest, best-falling, best-cons, best-below, length-best-le, place-length-ge, place-of, entered, lowest-some}
+use Rattle.search.proofs.Search.{All, Sound, mattering}
 
 module _ {E I : Type 0} (s : Search E I) where
   -- a cell without a mark can't put an entry on the list

@@ -1,13 +1,8 @@
 -- The best k of some things, over any carrier and any test `above x y`: "x ranks above y".
 use mathlib.Core.Bool.{Bool, true, false}
-use mathlib.Core.List.{List, [], _∷_, List·Memᴰ}
+use mathlib.Core.List.{List, [], _∷_}
 use Prim.Native.Nat.{ℕ}
 use lib.ListN.{take}
-
-infix 50 _∈_
--- x is one of the list's members
-abbrev pub _∈_ {ℓ} : {A : Type ℓ} → A → List A → Type ℓ
-x ∈ l = List·Memᴰ x l
 
 module _ {E : Type 0} (above : E → E → Bool) where
   -- x put in its rank into a ranked list, and not put where it already stands: "each once"
@@ -27,15 +22,3 @@ module _ {E : Type 0} (above : E → E → Bool) where
   -- "The list is the first min(k, reports held) in that ranking"
   abbrev pub best : ℕ → List E → List E
   best k xs = take k (rank xs)
-
-module _ {E : Type 0} where
-  -- the test p holds of the list's last entry; an empty list has none
-  abbrev pub onLast : (E → Bool) → List E → Bool
-  onLast p [] = false
-  onLast p (x ∷ []) = p x
-  onLast p (x ∷ y ∷ ys) = onLast p (y ∷ ys)
-
-  -- those that pass the test, in their order
-  abbrev pub only : (E → Bool) → List E → List E
-  only p [] = []
-  only p (x ∷ xs) = elim (p x) [ true ↦ x ∷ only p xs | false ↦ only p xs ]

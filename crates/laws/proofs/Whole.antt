@@ -10,8 +10,8 @@ use borrow.Author.Tests.{lt-ltb, le-ltb, ltb-true, ltb-false}
 use lib.Dec.{ltb}
 use lib.IntN.{ℤ, pos, negsuc, sucℤ, negℤ, natAbs, subℕ, _+ℤ_, _*ℤ_, +ℤ-sucℤ, +ℤ-idr, +ℤ-assoc, +ℤ-comm, +ℤ-invl, negℤ-+ℤ}
 use lib.Signed.{ltZ, mag}
-use Rattle.ranking.proofs.Tests.{Tested, passed, failed, tested, clash}
-use Rattle.ranking.proofs.Best.{StrictTotal}
+use Rattle.laws.proofs.Tests.{Tested, passed, failed, tested, clash}
+use Rattle.laws.proofs.Orders.{StrictTotal}
 
 irrefl : (a : ℤ) → ltZ a a ≡ false
 irrefl (pos a) = le-ltb a a (omega arith)

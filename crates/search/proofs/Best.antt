@@ -12,15 +12,11 @@ use borrow.Author.Tests.{lt-ltb}
 use lib.Dec.{ltb}
 use lib.ListN.{length, take, getD, length-take}
 use lib.Seq.{take-all, take-take, take-append-seam}
-use Rattle.ranking.specs.Best.{_∈_, place, rank, best, onLast, only}
-use Rattle.ranking.proofs.Tests.{Tested, passed, failed, tested, clash, or-left, or-right}
-use Rattle.ranking.proofs.Lists.{_⊆_, Same, Pairwise, Distinct, here, there, moved, take-⊆, pairwise-map, pairwise-take, take-more, lt-or-eq, getD-in, only-all-fail}
-
--- "ranks above" orders all: none above itself, and of two different ones one above the other
-pub record StrictTotal {E : Type 0} (above : E → E → Bool) : Type 0 where
-  pub irreflexive : (x : E) → above x x ≡ false
-  pub transitive : (x y z : E) → above x y ≡ true → above y z ≡ true → above x z ≡ true
-  pub total : (x y : E) → above x y ≡ false → above y x ≡ false → x ≡ y
+use Rattle.laws.specs.Lists.{_∈_, onLast, only}
+use Rattle.search.specs.Best.{place, rank, best}
+use Rattle.laws.proofs.Tests.{Tested, passed, failed, tested, clash, or-left, or-right}
+use Rattle.laws.proofs.Orders.{StrictTotal, opposite, one-way, differs}
+use Rattle.laws.proofs.Lists.{_⊆_, Same, Pairwise, Distinct, here, there, moved, take-⊆, pairwise-map, pairwise-take, take-more, lt-or-eq, getD-in, only-all-fail}
 
 module _ {E : Type 0} (above : E → E → Bool) where
   -- each ranks above all that follow
@@ -80,36 +76,6 @@ module _ {E : Type 0} (above : E → E → Bool) where
       go (same e f) ih = rw (place-same x y ys e f, place-same x y (take k ys) e f) (ap (λ l. y ∷ l) again)
 
   module _ (order : StrictTotal above) where
-    -- two cannot each rank above the other
-    pub opposite {ℓ} : {X : Type ℓ} (x y : E) → above x y ≡ true → above y x ≡ true → X
-    opposite x y p q = clash (order .transitive x y x p q) (order .irreflexive x)
-
-    pub one-way : (x y : E) → above x y ≡ true → above y x ≡ false
-    one-way x y p = go (tested (above y x))
-      where
-        go : Tested (above y x) → above y x ≡ false
-        go (passed q) = opposite x y p q
-        go (failed q) = q
-
-    -- what does not rank below another ranks above all that the other does
-    pub ahead : (x y z : E) → above y x ≡ false → above y z ≡ true → above x z ≡ true
-    ahead x y z p q = go (tested (above x y))
-      where
-        go : Tested (above x y) → above x z ≡ true
-        go (passed e) = order .transitive x y z e q
-        go (failed e) = subst (λ v. above v z ≡ true) (sym (order .total x y e p)) q
-
-    pub behind : (x y z : E) → above x y ≡ true → above z y ≡ false → above x z ≡ true
-    behind x y z p q = go (tested (above y z))
-      where
-        go : Tested (above y z) → above x z ≡ true
-        go (passed e) = order .transitive x y z p e
-        go (failed e) = subst (λ v. above x v ≡ true) (order .total y z e q) p
-
-    -- one that ranks above another is another
-    pub differs : (x y : E) → above x y ≡ true → x ≡ y → ⊥
-    differs x y p e = clash (subst (λ z. above x z ≡ true) (sym e) p) (order .irreflexive x)
-
     pub place-in : (x : E) (l : List E) → x ∈ place above x l
     place-in x [] = here
     place-in x (y ∷ ys) = go (stand x y) (place-in x ys)
@@ -180,7 +146,7 @@ module _ {E : Type 0} (above : E → E → Bool) where
     best-of k l z m = rank-of l z (take-⊆ k (rank above l) z m)
 
     pub falling-distinct : (l : List E) → Falling l → Distinct l
-    falling-distinct l w = pairwise-map differs l w
+    falling-distinct l w = pairwise-map (differs above order) l w
 
     -- a strictly falling list is determined by its members
     pub falling-same : (l m : List E) → Falling l → Falling m → Same l m → l ≡ m
@@ -192,14 +158,14 @@ module _ {E : Type 0} (above : E → E → Bool) where
         heads : x ≡ y
         heads =
             ⊎-elim (λ q. q)
-            (λ k. ⊎-elim (λ q. sym q) (λ j. opposite x y (v .0 y j) (w .0 x k)) (List·Memᴰ·cases-cons (s .1 y here)))
+            (λ k. ⊎-elim (λ q. sym q) (λ j. opposite above order x y (v .0 y j) (w .0 x k)) (List·Memᴰ·cases-cons (s .1 y here)))
             (List·Memᴰ·cases-cons (s .0 x here))
 
         left : xs ⊆ ys
-        left z m = ⊎-elim (λ q. absurd (differs x z (v .0 z m) (heads ∙ sym q))) (λ k. k) (List·Memᴰ·cases-cons (s .0 z (there m)))
+        left z m = ⊎-elim (λ q. absurd (differs above order x z (v .0 z m) (heads ∙ sym q))) (λ k. k) (List·Memᴰ·cases-cons (s .0 z (there m)))
 
         right : ys ⊆ xs
-        right z m = ⊎-elim (λ q. absurd (differs y z (w .0 z m) (sym heads ∙ sym q))) (λ k. k) (List·Memᴰ·cases-cons (s .1 z (there m)))
+        right z m = ⊎-elim (λ q. absurd (differs above order y z (w .0 z m) (sym heads ∙ sym q))) (λ k. k) (List·Memᴰ·cases-cons (s .1 z (there m)))
 
     -- the ranking is the same for any order of the same members
     pub rank-same : (l m : List E) → Same l m → rank above l ≡ rank above m
@@ -258,7 +224,7 @@ module _ {E : Type 0} (above : E → E → Bool) where
     place-behind x (y ∷ ys) h = go (stand x y) (place-behind x ys (λ z m. h z (there m)))
       where
         go : Stand x y → place above x ys ≡ ys ++ (x ∷ []) → place above x (y ∷ ys) ≡ y ∷ (ys ++ (x ∷ []))
-        go (first e) ih = opposite x y e (h y here)
+        go (first e) ih = opposite above order x y e (h y here)
         go (later e f) ih = rw (place-later x y ys e f) (ap (λ l. y ∷ l) ih)
         go (same e f) ih = clash (h y here) f
 
@@ -405,7 +371,7 @@ module _ {E : Type 0} (above : E → E → Bool) where
     falling-place d [] n w h = absurd (not-suc-le-zero h)
     falling-place d (x ∷ xs) zero w h =
         let e : above x x ≡ false = order .irreflexive x in
-        rw (e, only) (ap length (only-all-fail (λ y. above y x) xs (λ y m. one-way x y (w .0 y m))))
+        rw (e, only) (ap length (only-all-fail (λ y. above y x) xs (λ y m. one-way above order x y (w .0 y m))))
     falling-place d (x ∷ xs) (suc n) w h =
         let g : n < length xs = le-of-suc-le-suc h in
         let e : above x (getD xs n d) ≡ true = w .0 (getD xs n d) (getD-in d xs n g) in

@@ -8,27 +8,20 @@ use mathlib.Core.List.{List, [], _∷_, _++_, List·Memᴰ·head, List·Memᴰ·
 use Prim.Native.Nat.{ℕ, suc, _-_, _≤_, _<_}
 use native.Mathlib.Nat.{zero-add, suc-ne-zero}
 use native.Mathlib.Omega.{arith}
-use borrow.Author.Tests.{not-true, eq-eqb, eqb-true, lt-ltb, ltb-true, ltb-false, le-ltb}
+use borrow.Author.Tests.{not-true, eq-eqb, eqb-true, lt-ltb, ltb-true}
 use lib.Dec.{eqb, ltb}
 use lib.ListN.{length, take, drop, take-append-drop, length-drop}
 use lib.Seq.{drop-length, length-take-le, take-nil}
-use Rattle.ranking.specs.Best.{_∈_, best, onLast, only}
-use Rattle.ranking.specs.Search.{Search, has, entries, heldIn, listAfter, stops, ended, steps, found, marks, matters}
-use Rattle.ranking.proofs.Tests.{Tested, passed, failed, tested, clash, and-both, and-true, or-either, or-left, or-right}
-use Rattle.ranking.proofs.Lists.{_⊆_, Same, Pairwise, Distinct, there, moved, take-⊆, take-more, lt-or-eq, pairwise-drop, pairwise-take, pairwise-only, only-in, only-of, only-all-fail, placed, take-next, Other}
-use Rattle.ranking.proofs.Best.{StrictTotal, Falling, Lowest, lowest-of, opposite, differs, best-falling, best-of, best-same, best-append, best-part, best-below-all, length-best-le, length-same, enters, entered, lowest-some}
-use Rattle.ranking.proofs.Least.{least-before, least-holds, least-le, least-same}
+use Rattle.laws.specs.Lists.{_∈_, onLast, only}
+use Rattle.search.specs.Best.{best}
+use Rattle.search.specs.Search.{Search, has, entries, heldIn, listAfter, stops, ended, steps, found, marks, matters}
+use Rattle.laws.proofs.Tests.{Tested, passed, failed, tested, clash, and-both, and-true, or-either, or-left, or-right}
+use Rattle.laws.proofs.Lists.{_⊆_, Same, Pairwise, Distinct, there, moved, take-⊆, take-more, lt-or-eq, pairwise-drop, pairwise-take, pairwise-only, only-in, only-of, only-all-fail, placed, take-next, Other}
+use Rattle.laws.proofs.Orders.{StrictTotal, ltb-strict, opposite, differs}
+use Rattle.search.proofs.Best.{Falling, Lowest, lowest-of, best-falling, best-of, best-same, best-append, best-part, best-below-all, length-best-le, length-same, enters, entered, lowest-some}
+use Rattle.search.proofs.Least.{least-before, least-holds, least-le, least-same}
 
 -- ---- cells and tests
-
--- numbers by size
-pub ltb-strict : StrictTotal ltb
-ltb-strict =
-    record {
-      irreflexive = λ x. le-ltb x x (omega arith);
-      transitive = λ x y z p q. lt-ltb x z (omega (arith, ltb-true x y p, ltb-true y z q));
-      total = λ x y p q. omega (arith, ltb-false x y p, ltb-false y x q);
-    }
 
 pub has-in : (c : ℕ) (cs : List ℕ) → has c cs ≡ true → c ∈ cs
 has-in c [] h = clash {b = false} h refl

@@ -1,16 +1,16 @@
--- Laws of lists that the ranking cites, each by induction on its list: membership, what holds of each pair, those that pass a test, the last entry.
+-- Laws of lists, each by induction on its list: membership, the same members, what holds of each pair, those that pass a test, the last entry.
 -- Assumes nothing.
 use mathlib.Core.Path.{_≡_, refl, sym, ap, ap₂, _∙_, subst}
 use mathlib.Core.Logic.{_⊎_, inl, inr, ⊎-elim}
 use mathlib.Core.Bool.{Bool, true, false, not}
-use mathlib.Core.List.{List, [], _∷_, _++_, nil≢cons, head-eq-of-cons-eq, List·Memᴰ·head, List·Memᴰ·tail, List·Memᴰ·not-nil, List·Memᴰ·cases-cons, Memᴰ·append-right}
+use mathlib.Core.List.{List, [], _∷_, _++_, map, nil≢cons, head-eq-of-cons-eq, List·Memᴰ·head, List·Memᴰ·tail, List·Memᴰ·not-nil, List·Memᴰ·cases-cons, List·Memᴰ·eq-of-singleton, List·Memᴰ·append-cases, Memᴰ·append-left, Memᴰ·append-right, Memᴰ·map, Memᴰ·of-map}
 use Prim.Native.Nat.{ℕ, zero, suc, _≤_, _<_, suc-le-suc}
 use native.Mathlib.Nat.{eq-or-lt-of-le, le-of-suc-le-suc, not-suc-le-zero}
 use lib.Seq.{take-take, take-length}
 use native.Mathlib.Omega.{arith}
 use lib.ListN.{length, take, drop, getD, take-append-drop}
-use Rattle.ranking.proofs.Tests.{Tested, passed, failed, tested, clash}
-use Rattle.ranking.specs.Best.{_∈_, onLast, only}
+use Rattle.laws.proofs.Tests.{Tested, passed, failed, tested, clash}
+use Rattle.laws.specs.Lists.{_∈_, onLast, only}
 
 pub lt-or-eq : {m n : ℕ} → m ≤ n → (m < n) ⊎ (m ≡ n)
 lt-or-eq h = ⊎-elim (λ e. inr e) (λ l. inl l) (eq-or-lt-of-le h)
@@ -32,6 +32,22 @@ module _ {A : Type 0} where
 
   abbrev pub Same : List A → List A → Type 0
   Same xs ys = (xs ⊆ ys) × (ys ⊆ xs)
+
+  pub same-end : (x : A) (l : List A) → Same (x ∷ l) (l ++ (x ∷ []))
+  same-end x l = (to, from)
+    where
+      to : x ∷ l ⊆ l ++ (x ∷ [])
+      to y k = ⊎-elim (λ e. Memᴰ·append-right l (List·Memᴰ·head e)) (λ m. Memᴰ·append-left (x ∷ []) m) (List·Memᴰ·cases-cons k)
+
+      from : l ++ (x ∷ []) ⊆ x ∷ l
+      from y k = ⊎-elim (λ m. there m) (λ m. List·Memᴰ·head (List·Memᴰ·eq-of-singleton m)) (List·Memᴰ·append-cases l k)
+
+  pub same-swap : (x y : A) (l : List A) → Same (x ∷ y ∷ l) (y ∷ x ∷ l)
+  same-swap x y l = (swap x y, swap y x)
+    where
+      swap : (x y : A) → x ∷ y ∷ l ⊆ y ∷ x ∷ l
+      swap x y z k =
+          ⊎-elim (λ e. there (List·Memᴰ·head e)) (λ m. ⊎-elim (λ e. List·Memᴰ·head e) (λ n. there (there n)) (List·Memᴰ·cases-cons m)) (List·Memᴰ·cases-cons k)
 
   pub take-⊆ : (n : ℕ) (l : List A) → take n l ⊆ l
   take-⊆ zero l x m = absurd (List·Memᴰ·not-nil m)
@@ -119,6 +135,11 @@ module _ {A : Type 0} where
   last-not p x [] = refl
   last-not p x (y ∷ ys) = last-not p y ys
 
+  pub last-same : (p q : A → Bool) (l : List A) → ((x : A) → x ∈ l → p x ≡ q x) → onLast p l ≡ onLast q l
+  last-same p q [] h = refl
+  last-same p q (x ∷ []) h = h x here
+  last-same p q (x ∷ y ∷ l) h = last-same p q (y ∷ l) (λ z m. h z (there m))
+
   -- where a list has entries, its last one is the one at its length less one
   pub last-at : (p : A → Bool) (d x : A) (l : List A) → onLast p (x ∷ l) ≡ p (getD (x ∷ l) (length l) d)
   last-at p d x [] = refl
@@ -171,6 +192,12 @@ module _ {A : Type 0} where
   index-of d l {x} m =
       let r = placed (length l) l (subst (λ s. x ∈ s) (sym (take-length l)) m) in
       (r .0, r .1, getD-left d l (r .0) (r .3))
+
+  pub only-yes : (p : A → Bool) (x : A) (l : List A) → p x ≡ true → only p (x ∷ l) ≡ x ∷ only p l
+  only-yes p x l e = rw (e, only)
+
+  pub only-no : (p : A → Bool) (x : A) (l : List A) → p x ≡ false → only p (x ∷ l) ≡ only p l
+  only-no p x l e = rw (e, only)
 
   pub only-append : (p : A → Bool) (xs ys : List A) → only p (xs ++ ys) ≡ only p xs ++ only p ys
   only-append p [] ys = refl
@@ -225,3 +252,15 @@ module _ {A : Type 0} where
         go (passed t) ih = ih (rw (t, only) at m)
         go (failed t) ih =
             later t (List·Memᴰ·cases-cons (subst (λ z. x ∈ drop (length z) (y ∷ ys)) (none-left y ys w t) (rw (t, only) at m))) (tested (p x))
+
+-- ---- a function over a list
+
+pub map-append : {A B : Type 0} (f : A → B) (xs ys : List A) → map f (xs ++ ys) ≡ map f xs ++ map f ys
+map-append f [] ys = refl
+map-append f (x ∷ xs) ys = ap (λ l. f x ∷ l) (map-append f xs ys)
+
+pub same-map : {A B : Type 0} (f : A → B) (l m : List A) → Same l m → Same (map f l) (map f m)
+same-map {A} {B} f l m s = (over l m (s .0), over m l (s .1))
+  where
+    over : (l m : List A) → l ⊆ m → map f l ⊆ map f m
+    over l m h y k = let r = Memᴰ·of-map f l k in moved (r .2) (Memᴰ·map f (h (r .0) (r .1)))
