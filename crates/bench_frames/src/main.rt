@@ -1,6 +1,6 @@
 // Writes the frames of the reports that standard input asks for, for an outside reader to compare. A request has 75 bytes:
 // sender, loss in 2, shake in 2, number in 4, 1 where there is a note, its length, and 64 of which the first are the note.
-use joining::Bench;
+use bench::Bench;
 use libc::STDIN_FILENO;
 use libc::STDOUT_FILENO;
 use report::Report;

@@ -21,8 +21,8 @@ use Rattle.report.specs.Payload.{payload, size, given, fault}
 use Rattle.report.proofs.Places.{size-payload}
 use Rattle.joining.specs.Frame.{Frame}
 use Rattle.joining.specs.Joining.{packets}
-use Rattle.joining.specs.Bench.{identifier, frames, packetsFrom, frameBytes, roomFor, sendRefusal, sendAnswer, sent}
-use Rattle.joining.proofs.Sending.{length-data, length-announcement}
+use Rattle.bench.specs.Bench.{identifier, frames, packetsFrom, frameBytes, roomFor, sendRefusal, sendAnswer, sent}
+use Rattle.bench.proofs.Sending.{length-data, length-announcement}
 use Rattle.commands.specs.declared.Sending.{Sending}
 use Rattle.commands.specs.declared.Command.{Command}
 use Rattle.commands.specs.declared.Answer.{Answer}

@@ -7,7 +7,7 @@ use lib.Dec.{eqb}
 use Rattle.wire.specs.Bytes.{bytes, field}
 use Rattle.report.specs.Payload.{payload, given}
 use Rattle.joining.specs.Frame.{Frame}
-use Rattle.joining.specs.Bench.{frames, frameBytes, sendRefusal}
+use Rattle.bench.specs.Bench.{frames, frameBytes, sendRefusal}
 use Rattle.commands.specs.declared.Asking.{Asking}
 use Rattle.commands.specs.declared.Sending.{Sending}
 use Rattle.commands.specs.declared.Command.{Command}

@@ -10,7 +10,7 @@ ghost use lib.Seq.{sets};
 ghost use Rattle.lines.specs.Words.{tailAt};
 ghost use Rattle.commands.specs.Lines.{kindOf, firstFalse, valueAt, weightAt, noMore, oneSlot, windowOf, questionOf, removeOf, showOf, reportOf, commandOf, noteIn};
 ghost use Rattle.commands.specs.Items.{questionItem, framesIn, itemsOf, answerOf, reportItems, reportAnswer};
-use joining::Bench;
+use bench::Bench;
 use lines::Number;
 use report::Report;
 use report::Written;

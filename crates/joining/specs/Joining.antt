@@ -81,14 +81,19 @@ sizeIn d = number (part 1 2 d)
 unfoldable pub sound : List ℕ → Bool
 sound d = leb 9 (sizeIn d) && leb (sizeIn d) 1785 && eqb (getD d 3 0) (packets (sizeIn d))
 
--- An announcement: refusals 4, 5, 6 and 7 in their order, or "a good announcement opens it, replacing an open one".
+-- Why an announcement opens no session: refusals 4, 5, 6 and 7 in their order, or 0.
+unfoldable pub announcementRefusal : List ℕ → ℕ
+announcementRefusal d =
+    cond (not (eqb (getD d 0 0) 32)) 4
+    (cond (not (sound d)) 5
+    (cond (not (eqb (number (part 5 3 d)) 65300)) 6
+    (cond (not (carries (sizeIn d))) 7 0)))
+
+-- An announcement: "a good announcement opens it, replacing an open one"; refusal 4 changes nothing, the others leave "that session closed".
 unfoldable pub announce : Session → List ℕ → Taken
 announce s d =
-    cond (not (eqb (getD d 0 0) 32)) (refused 4 s)
-    (cond (not (sound d)) (refused 5 (closed s))
-    (cond (not (eqb (number (part 5 3 d)) 65300)) (refused 6 (closed s))
-    (cond (not (carries (sizeIn d))) (refused 7 (closed s))
-    (record { answer = Kept; session = opened (sizeIn d) }))))
+    cond (eqb (announcementRefusal d) 0) (record { answer = Kept; session = opened (sizeIn d) })
+    (refused (announcementRefusal d) (cond (eqb (announcementRefusal d) 4) s (closed s)))
 
 -- A data packet: refusals 8 "no open session" and 9 "sequence not the next", or the packet is kept, or the last one ends the session.
 unfoldable pub packet : Session → List ℕ → Taken

@@ -1,15 +1,13 @@
-// Frames of several senders in one run, as the bench sender wrote them, through the driver.
+// Frames of several senders in one run, as the bench sender wrote them, through the sessions of all senders.
 ghost use Prim.Native.Nat.{_≤_};
 use crate::frames::bounded;
-use crate::frames::front;
+use crate::print::answer;
 use crate::print::end;
 use crate::print::number;
-use crate::print::refused;
-use crate::print::report;
 use crate::print::session;
 use crate::print::text;
-use joining::Bench;
-use joining::Bus;
+use bench::Bench;
+use bus::Bus;
 use joining::Session;
 use report::Report;
 
@@ -18,7 +16,6 @@ pub fn all() {
     three();
     damaged();
     foreign();
-    edges();
 }
 
 // What each sender reports: 5 as in P1, 9 as in document 01's whole session, 200 with a note.
@@ -121,57 +118,37 @@ fn run(name: &[u8], order: &[u8]) {
 
 // Prints each frame's answer, and the sessions that the run leaves.
 fn hear(name: &[u8], frames: &[u8]) {
-    let mut space = [0u8; 117];
-    let answers: &mut [u8] = &mut space;
-    let heard = Bus::fresh().hear(frames, answers);
-    let n = heard.frames;
-    let bus = heard.bus;
-    answered(name, frames, answers, n);
-    left(name, bus);
-}
-
-fn answered(name: &[u8], frames: &[u8], answers: &[u8], heard: usize) {
-    let n = bounded(heard);
+    let mut room = [0u8; 22098];
+    let bus = Bus::fresh();
+    let sessions = bus.sessions;
+    Bus::fill(&mut room, sessions);
+    let n = bounded(frames.len() / Bench::FRAME);
     let mut i = 0;
     while i < n {
-        one_answer(name, frames, answers, i);
+        one_answer(name, &mut room, frames, i);
         i += 1;
     }
+    left(name, Bus::read(&room));
 }
 
-fn one_answer(name: &[u8], frames: &[u8], answers: &[u8], i: usize)
+fn one_answer(name: &[u8], room: &mut [u8; 22098], frames: &[u8], i: usize)
     requires { ⌜ i ≤ 12 ⌝ }
 {
+    let at = Bench::FRAME * i;
+    let mut data = [0u8; 8];
+    wire::put32(&mut data, 0, wire::read32(frames, at + 4));
+    wire::put32(&mut data, 4, wire::read32(frames, at + 8));
     text(name);
     text(b" frame");
     number(i as u64);
     text(b" sender");
-    number(wire::byte(frames, Bench::FRAME * i) as u64);
-    answer(answers, Bus::ANSWER * i);
-}
-
-// The rest of a line: the answer in the 9 bytes at `at`.
-fn answer(answers: &[u8], at: usize)
-    requires { ⌜ at ≤ 108 ⌝ }
-{
-    let code = wire::byte(answers, at);
-    if code == 255 {
-        report(
-            wire::read16(answers, at + 1),
-            wire::read16(answers, at + 3),
-            wire::read32(answers, at + 5),
-        );
-    } else if code == 0 {
-        text(b" kept");
-    } else {
-        refused(code);
-    }
+    number(wire::byte(frames, at) as u64);
+    answer(Bus::take(room, wire::read32(frames, at), &data));
     end();
 }
 
 // The sessions that are not fresh.
-fn left(name: &[u8], bus: Bus) {
-    let sessions = bus.sessions;
+fn left(name: &[u8], sessions: [Session; 254]) {
     let mut k: usize = 0;
     while k < 254 {
         one_left(name, k, sessions[k]);
@@ -224,30 +201,4 @@ fn foreign() {
     changed(b"format 234", 50, 0xEA);
     changed(b"destination 9", 49, 9);
     changed(b"priority 0", 51, 0);
-}
-
-// Parts of a frame and too little room for answers: only whole frames with room for their answers are taken.
-fn edges() {
-    short(0, 117);
-    short(11, 117);
-    short(12, 117);
-    short(59, 117);
-    short(96, 26);
-    short(96, 27);
-    short(96, 8);
-}
-
-fn short(bytes: usize, room: usize) {
-    let mut space = [0u8; 96];
-    let frames: &mut [u8] = &mut space;
-    weave(frames, &[5u8, 9, 5, 9, 5, 9, 5, 9]);
-    let mut more = [0u8; 117];
-    let answers: &mut [u8] = &mut more;
-    let heard = Bus::fresh().hear(wire::front(frames, bytes), front(answers, room));
-    text(b"short");
-    number(bytes as u64);
-    number(room as u64);
-    text(b" frames");
-    number(heard.frames as u64);
-    end();
 }

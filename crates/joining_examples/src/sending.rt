@@ -7,7 +7,7 @@ use crate::print;
 use crate::print::end;
 use crate::print::number;
 use crate::print::text;
-use joining::Bench;
+use bench::Bench;
 use joining::Session;
 use report::Payload;
 use report::Report;

@@ -10,7 +10,6 @@ use borrow.Author.Tests.{eqb-false, ltb-true, ltb-false, leb-true, lt-ltb, eqb-t
 use lib.Dec.{eqb, ltb, leb}
 use lib.ListN.{getD, take, length, length-append}
 use lib.Seq.{take-nil, take-append-le, take-all, length-take-le}
-use Rattle.wire.specs.Bytes.{number, part}
 use Rattle.laws.proofs.Tests.{clash, and-both, if-not, if-so, either}
 use Rattle.window.specs.History.{Values}
 use Rattle.board.specs.Work.{enterRefusal, enterWork}
@@ -22,7 +21,7 @@ use Rattle.report.proofs.Reader.{range-of}
 use Rattle.report.specs.Payload as payload
 use Rattle.report.specs.declared.Report.{Report}
 use Rattle.joining.specs.Frame.{Frame, senderOf, malformed, foreign, frameRefusal, isAnnouncement}
-use Rattle.joining.specs.Joining.{fit, sound, carries, stored, announce, packet, sizeIn, take-frame, yields}
+use Rattle.joining.specs.Joining.{fit, stored, announcementRefusal, announce, packet, take-frame, yields}
 use Rattle.joining.specs.Joining as joins
 use Rattle.joining.specs.Run.{freshSessions, sessionOf, answerTo, sessionsAt, answersAt}
 use Rattle.joining.specs.declared.Session.{Session}
@@ -31,6 +30,7 @@ use Rattle.joining.specs.declared.Answer.{Answer}
 use Rattle.joining.specs.declared.Answer.the-variants.{Refused, Kept, Complete}
 use Rattle.joining.proofs.Reached as session
 use Rattle.joining.proofs.Driving.{answers-more}
+use Rattle.joining.proofs.Steps.{announcement-refusals}
 use Rattle.text.proofs.Decimal.{below-or}
 use Rattle.journal.specs.Reached.{completed, enteredBy}
 use Rattle.journal.proofs.Printed.{refusal}
@@ -70,12 +70,8 @@ solo-fine s fits id d = go (eqb (frameRefusal id d) 0) refl
     heard =
         either A (isAnnouncement id)
         (λ t.
-        either A (not (eqb (getD d 0 0) 32)) (λ e. (omega arith, omega arith))
-        (λ e.
-        either A (not (sound d)) (λ f. (omega arith, omega arith))
-        (λ f.
-        either A (not (eqb (number (part 5 3 d)) 65300)) (λ g. (omega arith, omega arith))
-        (λ g. either A (not (carries (sizeIn d))) (λ h. (omega arith, omega arith)) (λ h. tt)))))
+        either A (eqb (announcementRefusal d) 0) (λ e. tt)
+        (λ e. let some = eqb-false (announcementRefusal d) 0 e in (omega arith, omega (arith, announcement-refusals d))))
         (λ t.
         either A (eqb (s .size) 0) (λ e. (omega arith, omega arith))
         (λ e.

@@ -13,8 +13,8 @@ ghost use Rattle.pieces.specs.Inner.{itemComes, rowsUsed, withRow, shown
 use board::Arrival;
 use board::Board;
 use board::Gauge;
+use bus::Bus;
 use joining::Answer;
-use joining::Bus;
 use journal::Done;
 use journal::Log;
 use question::Question;

@@ -21,8 +21,8 @@ use Rattle.board.specs.declared.Board.{Board}
 use Rattle.board.specs.Work.{noQuestion}
 use Rattle.board.specs.Gauges.{gaugeOf, isIdle}
 use Rattle.joining.specs.declared.Session.{Session}
-use Rattle.joining.specs.Room.{sessionsIn}
-use Rattle.joining.proofs.Rooms.{next-room}
+use Rattle.bus.specs.Room.{sessionsIn}
+use Rattle.bus.proofs.Rooms.{next-room}
 use Rattle.pieces.specs.Machine.{Feeds, valueIn, hasRoom}
 use Rattle.journal.proofs.Calls.{outcome-is}
 use Rattle.pieces.proofs.Feeding.{Ran, ran-none, ran-more, ran-feeds, place-fits, came-whole, came-not}
