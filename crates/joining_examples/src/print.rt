@@ -1,36 +1,32 @@
-// Lines on standard output.
+// What is answered, on standard output.
 use joining::Answer;
 use joining::Session;
-pub use printing::bytes;
-pub use printing::end;
-pub use printing::number;
-pub use printing::refused;
-pub use printing::text;
+use printing::bytes;
+use printing::number;
+use printing::refused;
+use printing::text;
 use report::Report;
 use report::Written;
 
-// A space and an identifier, in eight hexadecimal digits.
-pub fn identifier(id: u32) {
-    printing::hex(id as u64, 8);
-}
-
 pub fn answer(a: Answer) {
+    text(b"\n ");
     match a {
         Answer::Refused(n) => refused(n),
         Answer::Kept => text(b" kept"),
-        Answer::Complete(r) => report(r.loss, r.shake, r.number),
+        Answer::Complete(r) => report(r),
     }
 }
 
-pub fn report(loss: u16, shake: u16, own: u32) {
+fn report(r: Report) {
     text(b" report");
-    number(loss as u64);
-    number(shake as u64);
-    number(own as u64);
+    number(r.loss as u64);
+    number(r.shake as u64);
+    number(r.number as u64);
 }
 
 // The size, the count and the next packet, and the payload bytes up to the last that isn't 255.
 pub fn session(s: Session) {
+    text(b" |");
     number(s.size as u64);
     number(s.count as u64);
     number(s.next as u64);
@@ -49,16 +45,10 @@ pub fn used(s: &[u8]) -> usize {
     n
 }
 
-// The rest of a line: the sender's answer.
 pub fn written(answer: Written) {
+    text(b" written");
     match answer {
-        Written::Bytes(n) => filled(n),
+        Written::Bytes(n) => number(n as u64),
         Written::Refused(n) => refused(n),
     }
-    end();
-}
-
-fn filled(n: usize) {
-    text(b" written");
-    number(n as u64);
 }

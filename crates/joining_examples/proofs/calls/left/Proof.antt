@@ -1,15 +1,18 @@
--- `joining_examples::mixed::left` is safe and ends: the test keeps the index below 254, and what is left falls.
+-- `joining_examples::calls::left` is safe and ends: the test keeps the index below 254, and what is left falls.
 -- Assumes nothing.
 use Prim.Native.Nat.{_-_}
 use native.Mathlib.Omega.{arith}
-use Rattle.joining_examples.proofs.mixed.left.Statement.{statement}
-use Rattle.joining_examples.proofs.mixed.left.Tie as tie
+use Rattle.joining_examples.proofs.calls.left.Statement.{statement}
+use Rattle.joining_examples.proofs.calls.left.Tie as tie
 
 abbrev Inv-loop : tie.InvT-loop
-Inv-loop name sessions k₀ k = Unit {0}
+Inv-loop room sessions k₀ k = Unit {0}
 
 abbrev μ-loop : tie.MeasureT-loop
-μ-loop name sessions k₀ k = 254 - k
+μ-loop room sessions k₀ k = 254 - k
+
+read-requires : tie.Need-read-requires Inv-loop μ-loop
+read-requires c κs = tt
 
 loop-holds : tie.Need-loop-holds Inv-loop μ-loop
 loop-holds c = tt
@@ -36,4 +39,4 @@ returns : tie.Need-returns Inv-loop μ-loop
 returns c = tt
 
 pub left-spec : {M : Type 1} → statement M
-left-spec = tie.close (tie.spec Inv-loop μ-loop loop-holds mul-one-left array-copy-out-one-left one-left-requires add-k loop-less loop-again returns)
+left-spec = tie.close (tie.spec Inv-loop μ-loop read-requires loop-holds mul-one-left array-copy-out-one-left one-left-requires add-k loop-less loop-again returns)
