@@ -1,6 +1,6 @@
 -- A signed number of 16 bits and its two bytes' number determine each other, by halves.
 -- Assumes nothing.
-use mathlib.Core.Path.{_≡_, refl}
+use mathlib.Core.Path.{_≡_, refl, ap, _∙_}
 use mathlib.Core.Bool.{Bool, true, false, cond}
 use Prim.Native.Nat.{ℕ, _+_, _-_, _<_}
 use native.Mathlib.Omega.{arith}
@@ -8,6 +8,9 @@ use borrow.Author.Tests.{ltb-true, ltb-false, lt-ltb, le-ltb}
 use lib.Dec.{ltb}
 use lib.IntN.{ℤ, pos, negsuc}
 use lib.Signed.{mag}
+use mir.Facts.{toZ-ofZ}
+use mir.Syntax.{w16}
+use mir.Val.{toZ, ofZ}
 use Rattle.items.specs.Items.{signed16, unsigned16}
 
 -- Both halves of two bytes.
@@ -21,6 +24,10 @@ halves P n low high = go (ltb n 32768) refl
 
 pub signed-fits : (n : ℕ) → n < 65536 → mag (signed16 n) < 32768
 signed-fits n h = halves (λ z. mag z < 32768) n (λ low. low) (λ high. omega arith)
+
+-- It is kept where it is stored in 16 bits.
+pub signed-kept : (n : ℕ) {z : ℤ} → n < 65536 → z ≡ signed16 n → toZ w16 (ofZ w16 z) ≡ signed16 n
+signed-kept n h e = ap (λ (y : ℤ). toZ w16 (ofZ w16 y)) e ∙ toZ-ofZ (record { sfits = signed-fits n h })
 
 pub unsigned-below : (z : ℤ) → mag z < 32768 → unsigned16 z < 65536
 unfolding unsigned16
