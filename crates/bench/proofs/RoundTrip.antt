@@ -117,7 +117,7 @@ module _ (sender : ℕ) (known : sender ≤ 253) (p : List ℕ) where
       frame-back (carrier sender p i) (packetsFrom sender p (i + 1) n) n rest (omega arith) (length-data p i)
       ∙ ap (λ (l : List Frame). carrier sender p i ∷ l) (packets-back n (i + 1) rest)
 
-  frames-back : (rest : List ℕ) → framesIn (suc (packets (length p))) (frameBytes (frames sender p) ++ rest) ≡ frames sender p
+  pub frames-back : (rest : List ℕ) → framesIn (suc (packets (length p))) (frameBytes (frames sender p) ++ rest) ≡ frames sender p
   unfolding frames
   frames-back rest =
       let n = packets (length p) in

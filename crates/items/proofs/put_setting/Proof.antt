@@ -1,11 +1,12 @@
--- `commands::put_question` meets its contract: the four parts of the value stand in a row.
+-- `items::put_setting` meets its contract: the four parts of the value stand in a row.
 -- Assumes nothing.
-use mathlib.Core.Path.{_∙_}
-use Rattle.commands.specs.Items.{questionItem}
-use Rattle.commands.proofs.Writing.{question-stored}
+use mathlib.Core.Path.{ap, _∙_}
+use mir.Facts.{toZ-ofZ}
+use Rattle.items.specs.Items.{unsigned16}
+use Rattle.items.proofs.Writing.{setting-stored}
 use borrow.Author.Needs.{needs}
-use Rattle.commands.proofs.put_question.Statement.{statement}
-use Rattle.commands.proofs.put_question.Tie as tie
+use Rattle.items.proofs.put_setting.Statement.{statement}
+use Rattle.items.proofs.put_setting.Tie as tie
 
 slice-aggregate-put : tie.Need-slice-aggregate-put
 slice-aggregate-put c = search needs
@@ -22,11 +23,17 @@ put-requires-2 c κs = search needs
 slice-aggregate-put16 : tie.Need-slice-aggregate-put16
 slice-aggregate-put16 c = search needs
 
+unsigned16-requires : tie.Need-unsigned16-requires
+unsigned16-requires c κs = search needs
+
 put16-requires : tie.Need-put16-requires
 put16-requires c κs = search needs
 
 slice-aggregate-put16-2 : tie.Need-slice-aggregate-put16-2
 slice-aggregate-put16-2 c = search needs
+
+unsigned16-requires-2 : tie.Need-unsigned16-requires-2
+unsigned16-requires-2 c κs = search needs
 
 put16-requires-2 : tie.Need-put16-requires-2
 put16-requires-2 c κs = search needs
@@ -41,19 +48,22 @@ same-length : tie.Need-same-length
 same-length c = search needs
 
 returns : tie.Need-returns
-unfolding questionItem
 returns c =
     let f = c .before .before in
     let fourth = f .before .before .before .before in
-    let third = fourth .before .before .before in
-    let second = third .before .before .before in
+    let b = fourth .before in
+    let third = b .before .before .before .before in
+    let a = third .before in
+    let second = a .before .before .before .before in
     let first = second .before .before .before in
-    let a = first .before .before .before .args in
+    let s = first .before .before .before .args .s in
+    let loss = a .unsigned16 .ensures ∙ ap unsigned16 (toZ-ofZ (record { sfits = a .before .struct-told .given .1 .1 .0 .1 })) in
+    let shake = b .unsigned162 .ensures ∙ ap unsigned16 (toZ-ofZ (record { sfits = b .before .struct-told2 .given .1 .1 .1 .0 .1 })) in
     f .put-field .ensures
-    ∙ rw (question-stored (a .q .slot) (a .q .k) (a .q .a) (a .q .b) (first .put .ensures) (second .put2 .ensures) (third .put16 .ensures) (fourth .put162 .ensures))
+    ∙ rw (setting-stored s loss shake (first .put .ensures) (second .put2 .ensures) (third .put16 .ensures) (fourth .put162 .ensures))
 
-pub put-question-spec : {M : Type 1} → statement M
-put-question-spec =
+pub put-setting-spec : {M : Type 1} → statement M
+put-setting-spec =
     tie.close
     (tie.spec
     slice-aggregate-put
@@ -61,8 +71,10 @@ put-question-spec =
     slice-aggregate-put-2
     put-requires-2
     slice-aggregate-put16
+    unsigned16-requires
     put16-requires
     slice-aggregate-put16-2
+    unsigned16-requires-2
     put16-requires-2
     slice-aggregate-put-field
     put-field-requires
