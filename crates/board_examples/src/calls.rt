@@ -4,7 +4,7 @@ use board::Board;
 use board::Entered;
 use board::Placed;
 use board::Removed;
-use board::Shown;
+use slot::Shown;
 use printing::end;
 use printing::number;
 use printing::text;

@@ -25,10 +25,16 @@ use Rattle.question.specs.Inner.{shown}
 use Rattle.question.proofs.Stored.{no-lines}
 use Rattle.question.proofs.Finding.{searched-rows, searched-arrays}
 use Rattle.board.specs.declared.Board.{Board}
-use Rattle.board.specs.Work.{noQuestion, slotRefusal, readWork, takes, listed, lists, refreshed, outgoing, entering, isSearched, enterRefusal, enterWork, arrival}
+use Rattle.slot.specs.Gauges.{noQuestion}
+use Rattle.board.specs.Work.{slotRefusal, readWork, refreshed, outgoing, isSearched, enterRefusal, enterWork, arrival}
+use Rattle.question.specs.Lines.{takes}
+use Rattle.ranking.specs.Standing.{listed}
+use Rattle.slot.specs.Turn.{lists}
+use Rattle.window.proofs.Reports.{entering}
 use Rattle.board.proofs.Refusals.{zero-is, zero-not, enterable}
-use Rattle.board.proofs.Listing.{listed-not, takes-no-place, place-none}
-use Rattle.board.proofs.Filling.{Filled, filled-more, filled-all, refreshed-searched, refreshed-kept}
+use Rattle.slot.proofs.Listing.{listed-not, takes-no-place, place-none}
+use Rattle.slot.proofs.Filling.{Filled, filled-more, filled-all}
+use Rattle.board.proofs.Filling.{refreshed-searched, refreshed-kept}
 use Rattle.wire.proofs.Fields.{length-part}
 use Rattle.joining.specs.Frame.{Frame}
 use Rattle.joining.specs.Run.{sessionsAfter, answerTo}

@@ -19,7 +19,9 @@ use Rattle.question.specs.Lines.{rowsOf}
 use Rattle.board.specs.declared.Board.{Board}
 use Rattle.board.specs.declared.Placed.{Placed}
 use Rattle.board.specs.declared.Seated.{Seated}
-use Rattle.board.specs.Work.{noQuestion, slotAt, withSlot, setRefusal, setWork, setIn, slotRefusal, removeWork, emptied}
+use Rattle.slot.specs.Gauges.{noQuestion}
+use Rattle.board.specs.Work.{slotAt, withSlot, setRefusal, setWork, slotRefusal, removeWork}
+use Rattle.slot.specs.Asking.{setIn, emptied}
 use Rattle.board.proofs.Seats.{set-seated}
 use Rattle.text.specs.Text.{rLine, sLine}
 use Rattle.journal.specs.declared.Log.{Log}

@@ -18,8 +18,8 @@ use Rattle.journal.specs.declared.Log.{Log}
 use Rattle.pieces.specs.declared.Waiting.{Waiting}
 use Rattle.journal.specs.Log.{Outcome, itemDone}
 use Rattle.board.specs.declared.Board.{Board}
-use Rattle.board.specs.Work.{noQuestion}
-use Rattle.board.specs.Gauges.{gaugeOf, isIdle}
+use Rattle.slot.specs.Gauges.{noQuestion}
+use Rattle.slot.specs.Gauges.{gaugeOf, isIdle}
 use Rattle.joining.specs.declared.Session.{Session}
 use Rattle.bus.specs.Room.{sessionsIn}
 use Rattle.bus.proofs.Rooms.{next-room}
