@@ -10,6 +10,7 @@ use bench::Bench;
 use bus::Bus;
 use joining::Session;
 use report::Report;
+use values::Values;
 
 pub fn all() {
     two();
@@ -22,23 +23,29 @@ pub fn all() {
 fn written(room: &mut [u8], sender: u8) {
     if sender == 5 {
         let r = Report {
-            loss: 100,
-            shake: 200,
-            number: 7,
+            values: Values {
+                loss: 100,
+                shake: 200,
+            },
+            own: 7,
         };
         Bench::send(room, sender, r, false, b"");
     } else if sender == 9 {
         let r = Report {
-            loss: 300,
-            shake: 100,
-            number: 8,
+            values: Values {
+                loss: 300,
+                shake: 100,
+            },
+            own: 8,
         };
         Bench::send(room, sender, r, false, b"");
     } else {
         let r = Report {
-            loss: 4095,
-            shake: 0,
-            number: 9,
+            values: Values {
+                loss: 4095,
+                shake: 0,
+            },
+            own: 9,
         };
         Bench::send(room, sender, r, true, b"abc");
     }

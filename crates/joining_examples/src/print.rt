@@ -18,7 +18,7 @@ pub fn answer(a: Answer) {
     match a {
         Answer::Refused(n) => refused(n),
         Answer::Kept => text(b" kept"),
-        Answer::Complete(r) => report(r.loss, r.shake, r.number),
+        Answer::Complete(r) => report(r.values.loss, r.values.shake, r.own),
     }
 }
 

@@ -12,6 +12,7 @@ use joining::Session;
 use report::Payload;
 use report::Report;
 use report::Written;
+use values::Values;
 
 pub fn all() {
     first_example();
@@ -25,9 +26,11 @@ pub fn all() {
 // The report of document 01's example P1.
 fn example() -> Report {
     Report {
-        loss: 100,
-        shake: 200,
-        number: 7,
+        values: Values {
+            loss: 100,
+            shake: 200,
+        },
+        own: 7,
     }
 }
 
@@ -159,9 +162,8 @@ fn ranges() {
 
 fn measured(name: &[u8], loss: u16, shake: u16, number: u32) {
     let r = Report {
-        loss,
-        shake,
-        number,
+        values: Values { loss, shake },
+        own: number,
     };
     send(name, 5, r, false, b"");
 }
@@ -195,9 +197,8 @@ fn refusal(name: &[u8], sender: u8, loss: u16, length: usize) {
     let room: &mut [u8] = &mut space;
     let note = [0u8; 65];
     let r = Report {
-        loss,
-        shake: 0,
-        number: 0,
+        values: Values { loss, shake: 0 },
+        own: 0,
     };
     text(name);
     print::written(Bench::send(room, sender, r, true, wire::front(&note, length)));
