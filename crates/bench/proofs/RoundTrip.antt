@@ -13,7 +13,8 @@ use lib.Seq.{take-at, drop-at, drop-drop}
 use Rattle.wire.specs.Bytes.{number, bytes, part, head, field}
 use Rattle.wire.proofs.Numbers.{length-bytes, number-bytes}
 use Rattle.report.specs.declared.Report.{Report}
-use Rattle.report.specs.Payload.{payload, inRange, noteFits, size, noteIn, fault}
+use Rattle.values.specs.Range.{inRange}
+use Rattle.report.specs.Payload.{payload, noteFits, size, noteIn, fault}
 use Rattle.report.proofs.Places.{size-payload}
 use Rattle.report.proofs.RoundTrip.{Permitted, write-read, same-note}
 use Rattle.joining.specs.declared.Session.{Session}
@@ -125,29 +126,29 @@ module _ (sender : ℕ) (known : sender ≤ 253) (p : List ℕ) where
       ∙ ap (λ (l : List Frame). opening sender p ∷ l) (packets-back n 1 rest)
 
 -- What the sender does not refuse comes from a sender that has a session, and may be sent.
-sendable : (room : List ℕ) (sender : ℕ) (r : Report) (note : Option (List ℕ)) → r .number < 2 ^ 32 → sendRefusal (length room) sender r note ≡ 0
+sendable : (room : List ℕ) (sender : ℕ) (r : Report) (note : Option (List ℕ)) → r .own < 2 ^ 32 → sendRefusal (length room) sender r note ≡ 0
     → (sender ≤ 253) × Permitted r note
 unfolding sendRefusal fault
-sendable room sender r note number = go (ltb 253 sender) (inRange r) (noteFits note) refl refl refl
+sendable room sender r note own = go (ltb 253 sender) (inRange (r .values)) (noteFits note) refl refl refl
   where
-    go : (a b c : Bool) → ltb 253 sender ≡ a → inRange r ≡ b → noteFits note ≡ c
+    go : (a b c : Bool) → ltb 253 sender ≡ a → inRange (r .values) ≡ b → noteFits note ≡ c
         → _≡_ {A = ℕ} (cond a 3 (cond (eqb (cond b (cond c 0 19) 12) 0) (cond (leb (roomFor note) (length room)) 0 20) (cond b (cond c 0 19) 12))) 0
         → (sender ≤ 253) × Permitted r note
-    go false true true ha hb hc h = (ltb-false 253 sender ha, record { range = hb; short = hc; number = number })
+    go false true true ha hb hc h = (ltb-false 253 sender ha, record { range = hb; short = hc; own = own })
     go false true false ha hb hc h = absurd (omega arith)
     go false false c ha hb hc h = absurd (omega arith)
     go true b c ha hb hc h = absurd (omega arith)
 
 -- So what `send` leaves in its room, read as frames and taken by any fit session, yields the same report, whatever room it was given.
-module _ (room : List ℕ) (sender : ℕ) (r : Report) (note : Option (List ℕ)) (number : r .number < 2 ^ 32) (takes : sendRefusal (length room) sender r note ≡ 0) where
+module _ (room : List ℕ) (sender : ℕ) (r : Report) (note : Option (List ℕ)) (own : r .own < 2 ^ 32) (takes : sendRefusal (length room) sender r note ≡ 0) where
   pub sent-frames : framesIn (1 + packets (size note)) (sent room sender r note) ≡ frames sender (payload r note)
   unfolding sent
   sent-frames =
       let one : 1 + packets (size note) ≡ suc (packets (length (payload r note))) = rw (size-payload r note) (omega arith) in
-      rw (takes, one) (frames-back sender (sendable room sender r note number takes .0) (payload r note) _)
+      rw (takes, one) (frames-back sender (sendable room sender r note own takes .0) (payload r note) _)
 
   pub sent-yields : (s : Session) → fit s ≡ true
       → soloAnswers s (framesIn (1 + packets (size note)) (sent room sender r note)) ≡ replicate (packets (size note)) Kept ++ (Complete r ∷ [])
   sent-yields s ready =
-      let may = sendable room sender r note number takes in
+      let may = sendable room sender r note own takes in
       rw sent-frames (same-report sender (may .0) r note (may .1) s ready)

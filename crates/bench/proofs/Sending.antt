@@ -17,7 +17,8 @@ use Rattle.wire.proofs.Numbers.{length-bytes}
 use Rattle.wire.proofs.Stores.{sets-append, sets-past}
 use Rattle.report.specs.declared.Report.{Report}
 use Rattle.report.specs.declared.Written.the-variants.{Bytes, Refused}
-use Rattle.report.specs.Payload.{payload, size, inRange, noteFits, fault, writeRefusal, written}
+use Rattle.values.specs.Range.{inRange}
+use Rattle.report.specs.Payload.{payload, size, noteFits, fault, writeRefusal, written}
 use Rattle.report.proofs.Places.{size-payload}
 use Rattle.joining.specs.Frame.{Frame}
 use Rattle.joining.specs.Joining.{packets}
@@ -124,7 +125,7 @@ module _ (sender : ℕ) (p : List ℕ) where
 pub size-bound : (r : Report) (note : Option (List ℕ)) → fault r note ≡ 0 → size note ≤ 84
 unfolding fault noteFits
 size-bound r none h = lit≤ tt
-size-bound r (some note) h = go (inRange r) (leb (length note) 64) refl h
+size-bound r (some note) h = go (inRange (r .values)) (leb (length note) 64) refl h
   where
     go : (a b : Bool) → leb (length note) 64 ≡ b → _≡_ {A = ℕ} (cond a (cond b 0 19) 12) 0 → 20 + length note ≤ 84
     go true true e h = omega (arith, leb-true (length note) 64 e)

@@ -8,7 +8,8 @@ use Rattle.items.specs.Items.{signed16, unsigned16, settingBytes}
 use Rattle.items.specs.Run.{runBytes}
 use Rattle.lines.specs.Words.{run, trimmed, behindWord, tailAt, wordAt}
 use Rattle.lines.specs.Numbers.{digitOf, withDigit, numberOn, numberIn, negated, shortIn}
-use Rattle.report.specs.Payload.{payload, inRange, noteFits, fault}
+use Rattle.values.specs.Range.{inRange}
+use Rattle.report.specs.Payload.{payload, noteFits, fault}
 use Rattle.bench.specs.Bench.{announcement, packetData, packetsFrom, frames, frameBytes, sendRefusal}
 use Rattle.commands.specs.Lines.{kindOf, valueAt, weightAt, noMore, firstFalse, windowOf, questionOf, oneSlot, showOf, reportOf, commandOf, noteIn}
 use Rattle.commands.specs.Items.{refusal, reportItems, itemsOf}

@@ -102,24 +102,24 @@ module _ (line : List ℕ) (s k a b : Number) (m : Bool) (w : ℕ) (slot : s ≡
   question-right h = rw (← slot, ← most, ← loss, ← shake, ← end, ← first) (right w kind.Question asked h)
 
 module _ (line : List ℕ) (always : Bool) (s l k n : Number) (w : ℕ) (sender : s ≡ valueAt 1 255 line) (loss : l ≡ valueAt 2 65535 line)
-    (shake : k ≡ valueAt 3 65535 line) (number : n ≡ valueAt 4 4294967295 line)
+    (shake : k ≡ valueAt 3 65535 line) (own : n ≡ valueAt 4 4294967295 line)
     (first : w ≡ firstFalse 1 (s .known ∷ l .known ∷ k .known ∷ n .known ∷ true ∷ [])) where
   abbrev sent : Bool → Command
   sent noted =
       command.Report (record {
         sender = s .value;
-        report = record { loss = l .value; shake = k .value; number = n .value };
+        report = record { values = record { loss = l .value; shake = k .value }; own = n .value };
         noted = noted;
       })
 
   pub report-wrong : (w ≡ 0 → ⊥) → command.Wrong (record { kind = kind.Report; word = w }) ≡ reportOf always line
   unfolding reportOf
-  report-wrong h = rw (← sender, ← loss, ← shake, ← number, ← first) (wrong w kind.Report (sent (always || not (noMore 5 line))) h)
+  report-wrong h = rw (← sender, ← loss, ← shake, ← own, ← first) (wrong w kind.Report (sent (always || not (noMore 5 line))) h)
 
   pub report-right : (noted : Bool) → noted ≡ (always || not (noMore 5 line)) → w ≡ 0 → sent noted ≡ reportOf always line
   unfolding reportOf
   report-right noted e h =
-      rw (← sender, ← loss, ← shake, ← number, ← first, ← e) (right w kind.Report (sent noted) h)
+      rw (← sender, ← loss, ← shake, ← own, ← first, ← e) (right w kind.Report (sent noted) h)
 
 -- ---- how large
 

@@ -112,7 +112,7 @@ reportOf always line =
     kind.Report
     (command.Report (record {
       sender = valueAt 1 255 line .value;
-      report = record { loss = valueAt 2 65535 line .value; shake = valueAt 3 65535 line .value; number = valueAt 4 4294967295 line .value };
+      report = record { values = record { loss = valueAt 2 65535 line .value; shake = valueAt 3 65535 line .value }; own = valueAt 4 4294967295 line .value };
       noted = always || not (noMore 5 line);
     }))
 

@@ -18,6 +18,7 @@ use bench::Bench;
 use lines::Number;
 use report::Report;
 use report::Written;
+use values::Values;
 
 // What the first word of a line asks for.
 pub enum Kind {
@@ -281,8 +282,8 @@ fn one_report(line: &[u8], noted: bool) -> Command
     let sender = value(line, 1, 255);
     let loss = value(line, 2, 65535);
     let shake = value(line, 3, 65535);
-    let number = value(line, 4, 4294967295);
-    let wrong = first_false(sender.known, loss.known, shake.known, number.known, true);
+    let own = value(line, 4, 4294967295);
+    let wrong = first_false(sender.known, loss.known, shake.known, own.known, true);
     if wrong != 0 {
         return Command::Wrong(Fault {
             kind: Kind::Report,
@@ -292,9 +293,11 @@ fn one_report(line: &[u8], noted: bool) -> Command
     Command::Report(Sending {
         sender: sender.value as u8,
         report: Report {
-            loss: loss.value as u16,
-            shake: shake.value as u16,
-            number: number.value,
+            values: Values {
+                loss: loss.value as u16,
+                shake: shake.value as u16,
+            },
+            own: own.value,
         },
         noted: has_note(line, noted),
     })

@@ -6,9 +6,10 @@ use mathlib.Core.Option.{none}
 use mathlib.Core.List.{List, [], _∷_}
 use Prim.Native.Nat.{ℕ}
 use Rattle.wire.specs.Bytes.{number, bytes, head, field}
+use Rattle.values.specs.Range.{inRange}
 use Rattle.report.specs.declared.Report.{Report}
 use Rattle.report.specs.declared.Reading.the-variants as reading
-use Rattle.report.specs.Payload.{payload, readPayload, isPayload, inOrder, inRange, noteFits, noteIn, reportIn}
+use Rattle.report.specs.Payload.{payload, readPayload, isPayload, inOrder, noteFits, noteIn, reportIn}
 use Rattle.joining.specs.declared.Session.{Session}
 use Rattle.joining.specs.declared.Answer.the-variants.{Refused, Kept}
 use Rattle.joining.specs.Frame.{Frame, frameRefusal, malformed, foreign}
@@ -30,7 +31,7 @@ abbrev pub first : Frame
 first = packs (0x01 ∷ 0x01 ∷ 0x02 ∷ 0x00 ∷ 0x64 ∷ 0x00 ∷ 0x02 ∷ 0x02 ∷ [])
 
 abbrev pub report : ℕ → ℕ → ℕ → Report
-report loss shake number = record { loss = loss; shake = shake; number = number }
+report loss shake own = record { values = record { loss = loss; shake = shake }; own = own }
 
 -- A session stands for any fit one: what is answered doesn't depend on what was under way.
 pub record Examples : Type 0 where

@@ -19,6 +19,7 @@ use Rattle.report.specs.Payload.{isPayload, readPayload}
 use Rattle.report.specs.declared.Reading.{Reading}
 use Rattle.report.proofs.Reader.{range-of}
 use Rattle.report.specs.Payload as payload
+use Rattle.values.specs.Range as range
 use Rattle.report.specs.declared.Report.{Report}
 use Rattle.joining.specs.Frame.{Frame, senderOf, malformed, foreign, frameRefusal, isAnnouncement}
 use Rattle.joining.specs.Joining.{fit, stored, announcementRefusal, announce, packet, take-frame, yields}
@@ -39,7 +40,7 @@ use Rattle.journal.proofs.Printed.{refusal}
 abbrev pub Fine : Answer → Type 0
 Fine (Refused n) = (1 ≤ n) × (n ≤ 23)
 Fine Kept = Unit
-Fine (Complete r) = (r .loss ≤ 4095) × (r .shake ≤ 4095)
+Fine (Complete r) = (r .values .loss ≤ 4095) × (r .values .shake ≤ 4095)
 
 -- Refusals 1, 2 and 3 by their tests.
 abbrev first : Bool → Bool → Bool → ℕ
@@ -57,11 +58,11 @@ refusal-fine id d some = go (malformed id d) (foreign id) (ltb 253 (senderOf id)
 
 -- A fit session answers no 24.
 solo-fine : (s : Session) → fit s ≡ true → (id : ℕ) (d : List ℕ) → Fine (take-frame s id d .answer)
-unfolding take-frame announce packet readPayload payload.inRange
+unfolding take-frame announce packet readPayload range.inRange
 solo-fine s fits id d = go (eqb (frameRefusal id d) 0) refl
   where
-    report : (r : Report) → payload.inRange r ≡ true → (r .loss ≤ 4095) × (r .shake ≤ 4095)
-    report r t = let both = and-both (leb (r .loss) 4095) (leb (r .shake) 4095) t in (leb-true _ _ (both .0), leb-true _ _ (both .1))
+    report : (r : Report) → range.inRange (r .values) ≡ true → (r .values .loss ≤ 4095) × (r .values .shake ≤ 4095)
+    report r t = let both = and-both (leb (r .values .loss) 4095) (leb (r .values .shake) 4095) t in (leb-true _ _ (both .0), leb-true _ _ (both .1))
 
     A : Taken → Type 0
     A r = Fine (r .answer)
@@ -114,7 +115,7 @@ completed-more : (l : List Answer) (a : Answer) → completed (l ++ a ∷ []) �
 completed-more [] a = refl
 completed-more (Refused n ∷ l) a = completed-more l a
 completed-more (Kept ∷ l) a = completed-more l a
-completed-more (Complete r ∷ l) a = ap (λ (vs : List Values). record { loss = r .loss; shake = r .shake } ∷ vs) (completed-more l a)
+completed-more (Complete r ∷ l) a = ap (λ (vs : List Values). record { loss = r .values .loss; shake = r .values .shake } ∷ vs) (completed-more l a)
 
 take-more : {A : Type 0} (n : ℕ) (l : List A) (x : A) → take n (l ++ x ∷ []) ≡ cond (ltb (length (take n l)) n) (take n l ++ x ∷ []) (take n l)
 take-more n l x =
@@ -141,9 +142,9 @@ module _ (fs : List Frame) (f : Frame) where
   nothing-more a e z = with-answer a e ∙ ap (take 1000000) (ap (λ l. completed (answersAt freshSessions fs) ++ l) z ∙ append-nil (completed (answersAt freshSessions fs)))
 
   pub one-more : (r : Report) → answer ≡ Complete r
-      → enteredBy (fs ++ f ∷ []) ≡ cond (ltb (length (enteredBy fs)) 1000000) (enteredBy fs ++ (record { loss = r .loss; shake = r .shake }) ∷ []) (enteredBy fs)
+      → enteredBy (fs ++ f ∷ []) ≡ cond (ltb (length (enteredBy fs)) 1000000) (enteredBy fs ++ (record { loss = r .values .loss; shake = r .values .shake }) ∷ []) (enteredBy fs)
   unfolding enteredBy
-  one-more r e = with-answer (Complete r) e ∙ take-more 1000000 (completed (answersAt freshSessions fs)) (record { loss = r .loss; shake = r .shake })
+  one-more r e = with-answer (Complete r) e ∙ take-more 1000000 (completed (answersAt freshSessions fs)) (record { loss = r .values .loss; shake = r .values .shake })
 
 pub enter-refusal : (b : Board) (loss shake : ℕ) → enterWork b loss shake .refusal ≡ enterRefusal (b .window .entered) loss shake
 unfolding enterWork

@@ -166,15 +166,15 @@ module _ (b : Board) {n : ℕ} {past : List Values} (reached : board.Reached n p
     remove-board slot = subst (λ (r : Removed). Boarded fs (r .board)) (remove-known b fits slot) (window (board.remove reached slot) (fit-remove b (kept reached) fits slot) same)
 
     -- A completed report enters as the frames' next one.
-    enter-board : (f : Frame) (r : Report) → answer fs f ≡ Complete r → r .loss ≤ 4095 → r .shake ≤ 4095 → Boarded (fs ++ f ∷ []) (enterWork b (r .loss) (r .shake) .board)
+    enter-board : (f : Frame) (r : Report) → answer fs f ≡ Complete r → r .values .loss ≤ 4095 → r .values .shake ≤ 4095 → Boarded (fs ++ f ∷ []) (enterWork b (r .values .loss) (r .values .shake) .board)
     enter-board f r e h k =
-        let v : Values = record { loss = r .loss; shake = r .shake } in
-        let known = enter-known b fits (r .loss) (r .shake) in
-        let when : eqb (enterCall b (r .loss) (r .shake) .refusal) 0 ≡ ltb (length past) 1000000 =
-        ap (λ (x : Entered). eqb (x .refusal) 0) known ∙ ap (λ (m : ℕ). eqb m 0) (enter-refusal b (r .loss) (r .shake)) ∙ enters-when (b .window .entered) (r .loss) (r .shake) h k
+        let v : Values = record { loss = r .values .loss; shake = r .values .shake } in
+        let known = enter-known b fits (r .values .loss) (r .values .shake) in
+        let when : eqb (enterCall b (r .values .loss) (r .values .shake) .refusal) 0 ≡ ltb (length past) 1000000 =
+        ap (λ (x : Entered). eqb (x .refusal) 0) known ∙ ap (λ (m : ℕ). eqb m 0) (enter-refusal b (r .values .loss) (r .values .shake)) ∙ enters-when (b .window .entered) (r .values .loss) (r .values .shake) h k
         ∙ ap (λ (m : ℕ). ltb m 1000000) (kept reached .since .all-entered) in
         subst (λ (x : Entered). Boarded (fs ++ f ∷ []) (x .board)) known
-        (window (board.enter reached v) (fit-enter b (kept reached) fits (r .loss) (r .shake))
+        (window (board.enter reached v) (fit-enter b (kept reached) fits (r .values .loss) (r .values .shake))
         (ap (λ (t : Bool). cond t (past ++ v ∷ []) past) when
         ∙ ap (λ (l : List Values). cond (ltb (length l) 1000000) (l ++ v ∷ []) l) same ∙ sym (one-more fs f r e)))
 
@@ -269,7 +269,7 @@ module _ (fs : List Frame) (f : Frame) (log : Log) (heard : log .sessions ≡ se
       record { own = record { board-is = window reached fits (same ∙ sym (nothing-more fs f (Refused m) e refl)); heard = heard }; prints = refusal m (h .0) (h .1) refl }
   answered-does Kept e h = record { own = record { board-is = window reached fits (same ∙ sym (nothing-more fs f Kept e refl)); heard = heard }; prints = nothing refl }
   answered-does (Complete r) e h =
-      enter-does (fs ++ f ∷ []) log heard (kept reached .many) (r .loss) (r .shake) (enter-board (log .board) reached fits fs same f r e (h .0) (h .1))
+      enter-does (fs ++ f ∷ []) log heard (kept reached .many) (r .values .loss) (r .values .shake) (enter-board (log .board) reached fits fs same f r e (h .0) (h .1))
 
 frame-does : (fs : List Frame) (log : Log) → log .sessions ≡ sessionsAt freshSessions fs → {n : ℕ} {past : List Values} → board.Reached n past (log .board) → fitBoard (log .board) ≡ true
     → past ≡ enteredBy fs → (v : List ℕ) → Does (fs ++ frameIn v ∷ []) (log .items) (frameItem log v)

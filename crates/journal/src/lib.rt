@@ -245,7 +245,7 @@ impl Log {
         match answer {
             Answer::Refused(n) => self.refused(n, out, at),
             Answer::Kept => Done { log: self, at },
-            Answer::Complete(r) => self.enter_item(r.loss, r.shake, out, at),
+            Answer::Complete(r) => self.enter_item(r.values.loss, r.values.shake, out, at),
         }
     }
 

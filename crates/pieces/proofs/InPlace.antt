@@ -121,12 +121,12 @@ module _ (log : Log) where
   unfolding arrival
   brought-none (Refused n) e = refl
   brought-none Kept e = refl
-  brought-none (Complete r) e = go (tested (eqb (enterRefusal (w .entered) (r .loss) (r .shake)) 0)) e
+  brought-none (Complete r) e = go (tested (eqb (enterRefusal (w .entered) (r .values .loss) (r .values .shake)) 0)) e
     where
-      go : Tested (eqb (enterRefusal (w .entered) (r .loss) (r .shake)) 0) → gives (Complete r) .number ≡ 0
+      go : Tested (eqb (enterRefusal (w .entered) (r .values .loss) (r .values .shake)) 0) → gives (Complete r) .number ≡ 0
           → answered log (Complete r) ≡ record { text = cond (gives (Complete r) .refused) (rLine (log .items) (gives (Complete r) .code)) []; log = log }
       go (passed t) z = absurd (omega (arith, rw t at z))
-      go (failed t) z = rw t (rw t (enter-refused (r .loss) (r .shake) (λ e. clash (eq-eqb (enterRefusal (w .entered) (r .loss) (r .shake)) 0 e) t)))
+      go (failed t) z = rw t (rw t (enter-refused (r .values .loss) (r .values .shake) (λ e. clash (eq-eqb (enterRefusal (w .entered) (r .values .loss) (r .values .shake)) 0 e) t)))
 
   -- A report enters.
   pub record Enters (a : Answer) : Type 0 where
@@ -140,10 +140,10 @@ module _ (log : Log) where
   unfolding arrival
   brought-some (Refused n) e = absurd (e refl)
   brought-some Kept e = absurd (e refl)
-  brought-some (Complete r) e = go (tested (eqb (enterRefusal (w .entered) (r .loss) (r .shake)) 0)) e
+  brought-some (Complete r) e = go (tested (eqb (enterRefusal (w .entered) (r .values .loss) (r .values .shake)) 0)) e
     where
-      go : Tested (eqb (enterRefusal (w .entered) (r .loss) (r .shake)) 0) → (gives (Complete r) .number ≡ 0 → ⊥) → Enters (Complete r)
-      go (passed t) z = record { silent = rw t; next = rw t; oldest = rw t; free = eqb-true (enterRefusal (w .entered) (r .loss) (r .shake)) 0 t; is = refl }
+      go : Tested (eqb (enterRefusal (w .entered) (r .values .loss) (r .values .shake)) 0) → (gives (Complete r) .number ≡ 0 → ⊥) → Enters (Complete r)
+      go (passed t) z = record { silent = rw t; next = rw t; oldest = rw t; free = eqb-true (enterRefusal (w .entered) (r .values .loss) (r .values .shake)) 0 t; is = refl }
       go (failed t) z = absurd (z (rw t))
 
   pub enter-so : (loss shake : ℕ) → enterRefusal (w .entered) loss shake ≡ 0

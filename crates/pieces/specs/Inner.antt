@@ -40,5 +40,5 @@ abbrev pub brought : Answer → (size entered held : ℕ) → Brought
 brought (Refused n) size entered held = record { refused = true; code = n; number = 0; oldest = 0; loss = 0; shake = 0 }
 brought Kept size entered held = record { refused = false; code = 0; number = 0; oldest = 0; loss = 0; shake = 0 }
 brought (Complete r) size entered held =
-    let a = arrival size entered held (r .loss) (r .shake) in
-    record { refused = not (eqb (a .refusal) 0); code = a .refusal; number = a .number; oldest = a .oldest; loss = r .loss; shake = r .shake }
+    let a = arrival size entered held (r .values .loss) (r .values .shake) in
+    record { refused = not (eqb (a .refusal) 0); code = a .refusal; number = a .number; oldest = a .oldest; loss = r .values .loss; shake = r .values .shake }

@@ -396,14 +396,14 @@ fn brings(answer: Answer, size: u16, entered: u32, held: u16) -> Brought
         Answer::Refused(n) => not_brought(true, n),
         Answer::Kept => not_brought(false, 0),
         Answer::Complete(r) => {
-            let arrival = Arrival::of(size, entered, held, r.loss, r.shake);
+            let arrival = Arrival::of(size, entered, held, r.values.loss, r.values.shake);
             Brought {
                 refused: arrival.refusal != 0,
                 code: arrival.refusal,
                 number: arrival.number,
                 oldest: arrival.oldest,
-                loss: r.loss,
-                shake: r.shake,
+                loss: r.values.loss,
+                shake: r.values.shake,
             }
         }
     }

@@ -10,6 +10,7 @@ use print::writing;
 use report::Payload;
 use report::Report;
 use report::Written;
+use values::Values;
 
 fn main() {
     first_example();
@@ -25,9 +26,11 @@ fn main() {
 // The report of document 01's example P1.
 fn example() -> Report {
     Report {
-        loss: 100,
-        shake: 200,
-        number: 7,
+        values: Values {
+            loss: 100,
+            shake: 200,
+        },
+        own: 7,
     }
 }
 
@@ -60,18 +63,22 @@ fn edges() {
 
 fn loss(value: u16) {
     let report = Report {
-        loss: value,
-        shake: 200,
-        number: 7,
+        values: Values {
+            loss: value,
+            shake: 200,
+        },
+        own: 7,
     };
     edge(b"loss", value, report, 3);
 }
 
 fn shake(value: u16) {
     let report = Report {
-        loss: 100,
-        shake: value,
-        number: 7,
+        values: Values {
+            loss: 100,
+            shake: value,
+        },
+        own: 7,
     };
     edge(b"shake", value, report, 8);
 }
@@ -94,9 +101,11 @@ fn own_number(value: u32) {
     let mut space = [0u8; 17];
     let room: &mut [u8] = &mut space;
     let report = Report {
-        loss: 100,
-        shake: 200,
-        number: value,
+        values: Values {
+            loss: 100,
+            shake: 200,
+        },
+        own: value,
     };
     text(b"number");
     number(value as u64);
@@ -164,9 +173,11 @@ fn faults() {
     let mut space = [0u8; 16];
     let room: &mut [u8] = &mut space;
     let report = Report {
-        loss: 4096,
-        shake: 200,
-        number: 7,
+        values: Values {
+            loss: 4096,
+            shake: 200,
+        },
+        own: 7,
     };
     text(b"faults 12 19 20");
     writing(Payload::write(room, report, true, &note));

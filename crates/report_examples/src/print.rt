@@ -39,7 +39,7 @@ pub fn reading(p: &[u8]) {
 
 fn accepted(r: Report) {
     text(b" accepted");
-    number(r.loss as u64);
-    number(r.shake as u64);
-    number(r.number as u64);
+    number(r.values.loss as u64);
+    number(r.values.shake as u64);
+    number(r.own as u64);
 }
