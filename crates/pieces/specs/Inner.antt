@@ -8,7 +8,7 @@ use Rattle.wire.specs.Bytes.{number, part}
 use Rattle.window.specs.Rows.{sized}
 use Rattle.question.specs.declared.Question.{Question}
 use Rattle.board.specs.Work.{arrival}
-use Rattle.board.specs.Gauges.{upToLast}
+use Rattle.slot.specs.Gauges.{upToLast}
 use Rattle.text.specs.Text.{rLine, qLine, sLine, listed}
 use Rattle.joining.specs.declared.Answer.{Answer}
 use Rattle.joining.specs.declared.Answer.the-variants.{Refused, Kept, Complete}
