@@ -1,10 +1,11 @@
 // Writes the frames of the reports that standard input asks for, for an outside reader to compare. A request has 75 bytes:
 // sender, loss in 2, shake in 2, number in 4, 1 where there is a note, its length, and 64 of which the first are the note.
-use joining::Bench;
+use bench::Bench;
 use libc::STDIN_FILENO;
 use libc::STDOUT_FILENO;
 use report::Report;
 use report::Written;
+use values::Values;
 
 // Requests until the input ends; the turns are counted down, from a number that no run uses up, so that the loop ends.
 fn main() {
@@ -31,9 +32,11 @@ fn write(request: &[u8; 75]) {
     let room: &mut [u8] = &mut space;
     let asked: &[u8] = request;
     let report = Report {
-        loss: wire::read16(asked, 1),
-        shake: wire::read16(asked, 3),
-        number: wire::read32(asked, 5),
+        values: Values {
+            loss: wire::read16(asked, 1),
+            shake: wire::read16(asked, 3),
+        },
+        own: wire::read32(asked, 5),
     };
     let length = wire::byte(asked, 10) as usize;
     let note = wire::front(&asked[11..], length);

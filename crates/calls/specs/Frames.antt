@@ -30,11 +30,11 @@ countsOf counts s = set (set (set counts 0 (s .size)) 1 (s .count)) 2 (s .next)
 abbrev pub answerNumber : Answer → ℕ
 answerNumber (Refused n) = told n 0 0 0
 answerNumber Kept = told 0 0 0 0
-answerNumber (Complete r) = told 255 (r .loss) (r .shake) (r .number)
+answerNumber (Complete r) = told 255 (r .values .loss) (r .values .shake) (r .own)
 
 abbrev pub readingNumber : Reading → ℕ
 readingNumber (reading.Refused n) = told n 0 0 0
-readingNumber (reading.Accepted r) = told 0 (r .loss) (r .shake) (r .number)
+readingNumber (reading.Accepted r) = told 0 (r .values .loss) (r .values .shake) (r .own)
 
 abbrev pub writtenNumber : Written → ℕ
 writtenNumber (written.Refused n) = told n 0 0 0

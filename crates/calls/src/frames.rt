@@ -4,18 +4,19 @@ ghost use lib.ListN.{length};
 ghost use lib.Seq.{sets};
 ghost use Rattle.report.specs.Payload.{given, readPayload, hasNote, noteOf};
 ghost use Rattle.joining.specs.Joining.{take-frame};
-ghost use Rattle.joining.specs.Bench.{sendAnswer, sent};
+ghost use Rattle.bench.specs.Bench.{sendAnswer, sent};
 ghost use Rattle.calls.specs.Frames.{sessionOf, countsOf, answerNumber, readingNumber, writtenNumber};
 use crate::count;
 use crate::put;
 use crate::told;
+use bench::Bench;
 use joining::Answer;
-use joining::Bench;
 use joining::Session;
 use report::Payload;
 use report::Reading;
 use report::Report;
 use report::Written;
+use values::Values;
 
 // A frame for the session in `counts` (size, count, next) and `payload` (84 bytes): the answer, and the session as it is left.
 #[no_mangle]
@@ -46,7 +47,7 @@ pub extern "C" fn calls_payload(payload: &[u8]) -> u64
     ensures { λ r. ⌜ r ≡ readingNumber (readPayload (now (payload .entry))) ⌝ }
 {
     match Payload::read(payload) {
-        Reading::Accepted(r) => told(0, r.loss, r.shake, r.number),
+        Reading::Accepted(r) => told(0, r.values.loss, r.values.shake, r.own),
         Reading::Refused(n) => told(n, 0, 0, 0),
     }
 }
@@ -72,13 +73,12 @@ pub extern "C" fn calls_send(
     noted: bool,
     note: &[u8],
 ) -> u64
-    ensures { λ r. ⌜ r ≡ writtenNumber (sendAnswer (length (now (room .entry))) sender (record { loss = loss; shake = shake; number = own }) (given noted (now (note .entry)))) ⌝ }
-    ensures { λ _. ⌜ now (room .exit) ≡ sent (now (room .entry)) sender (record { loss = loss; shake = shake; number = own }) (given noted (now (note .entry))) ⌝ }
+    ensures { λ r. ⌜ r ≡ writtenNumber (sendAnswer (length (now (room .entry))) sender (record { values = record { loss = loss; shake = shake }; own = own }) (given noted (now (note .entry)))) ⌝ }
+    ensures { λ _. ⌜ now (room .exit) ≡ sent (now (room .entry)) sender (record { values = record { loss = loss; shake = shake }; own = own }) (given noted (now (note .entry))) ⌝ }
 {
     let report = Report {
-        loss,
-        shake,
-        number: own,
+        values: Values { loss, shake },
+        own,
     };
     match Bench::send(room, sender, report, noted, note) {
         Written::Bytes(n) => told(0, 0, 0, (n % 4294967296) as u32),
@@ -109,6 +109,6 @@ fn answer_number(answer: Answer) -> u64
     match answer {
         Answer::Refused(n) => told(n, 0, 0, 0),
         Answer::Kept => told(0, 0, 0, 0),
-        Answer::Complete(r) => told(255, r.loss, r.shake, r.number),
+        Answer::Complete(r) => told(255, r.values.loss, r.values.shake, r.own),
     }
 }

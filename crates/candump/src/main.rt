@@ -1,10 +1,10 @@
 // The reader of captures: the text of `candump -L` on standard input, the log items of its frames on standard output. Frames that a
 // log does not hold are counted, and a broken line is named, on standard error.
 use capture::Sort;
+use input::Input;
+use input::Next;
 use libc::STDERR_FILENO;
-use libc::STDIN_FILENO;
 use libc::STDOUT_FILENO;
-use lines::Line;
 
 // How many lines were of each sort.
 struct Counts {
@@ -17,31 +17,33 @@ struct Counts {
     broken: u64,
 }
 
-// The line as far as it has come, how many came before it, what they were, whether there is more to read, and whether what was
-// written so far was taken.
+// What the lines were, and whether what was written for them was taken.
 struct Reader {
-    line: Line,
-    before: u64,
     counts: Counts,
-    more: bool,
     going: bool,
 }
 
+// Takes line after line, to the end of the text or to a write that fails. A proved loop has to end, so it counts its turns down
+// from a number that no run uses up.
 fn main() {
-    let line = Line::fresh();
-    let counts = none();
-    let mut last = all(Reader {
-        line,
-        before: 0,
-        counts,
-        more: true,
-        going: true,
-    });
-    if last.going && 0 < last.line.size {
-        last = ended(last);
+    let mut reader = Reader::fresh();
+    let mut input = Input::fresh();
+    let mut line = [0u8; Input::LONGEST];
+    let mut space = io::buffer();
+    let mut turns = u64::MAX;
+    while turns > 0 {
+        turns -= 1;
+        let Next::Line(found) = input.next(&mut line, &mut space) else {
+            break;
+        };
+        input = found;
+        reader = reader.take(found, &line);
+        if !reader.going {
+            break;
+        }
     }
-    let found = last.counts;
-    summary(found);
+    let counts = reader.counts;
+    summary(counts);
 }
 
 fn none() -> Counts {
@@ -56,110 +58,35 @@ fn none() -> Counts {
     }
 }
 
-// Reads to the end of the text. A proved loop has to end, so it counts its turns down from a number that no run uses up.
-fn all(fresh: Reader) -> Reader {
-    let mut r = fresh;
-    let mut turns = u64::MAX;
-    while turns > 0 {
-        r = some(r);
-        if !r.more || !r.going {
-            return r;
-        }
-        turns -= 1;
-    }
-    r
-}
-
-// Reads once, and takes the lines that came.
-fn some(r: Reader) -> Reader {
-    let mut space = io::buffer();
-    let got = libc::read(STDIN_FILENO, &mut space);
-    let n = io::count(got, &space);
-    if n == 0 {
-        let line = r.line;
-        let counts = r.counts;
-        return Reader {
-            line,
-            before: r.before,
+impl Reader {
+    fn fresh() -> Reader {
+        let counts = none();
+        Reader {
             counts,
-            more: false,
-            going: r.going,
-        };
-    }
-    lines_in(r, &space[..n])
-}
-
-// Takes a piece of the text: each line that ends in it is read, and the rest waits.
-fn lines_in(from: Reader, piece: &[u8]) -> Reader {
-    let mut r = from;
-    let mut at: usize = 0;
-    while at < piece.len() {
-        let end = lines::line_end(piece, at);
-        r = gathered(r, &piece[at..end]);
-        if end < piece.len() {
-            r = ended(r);
-            if !r.going {
-                return r;
-            }
-        }
-        at = end + 1;
-    }
-    r
-}
-
-fn gathered(r: Reader, piece: &[u8]) -> Reader {
-    let line = r.line;
-    let longer = line.add(piece);
-    let counts = r.counts;
-    Reader {
-        line: longer,
-        before: r.before,
-        counts,
-        more: r.more,
-        going: r.going,
-    }
-}
-
-// What a line was, and whether its item, if it has one, was taken.
-struct Taken {
-    sort: Sort,
-    going: bool,
-}
-
-// Takes the line that has come, and begins the next one.
-fn ended(r: Reader) -> Reader {
-    let number = std::num::wrapping_add_u64(r.before, 1);
-    let line = r.line;
-    let bytes = line.bytes;
-    let taken = read(line.fits(), wire::front(&bytes, line.size));
-    let sort = taken.sort;
-    told(number, sort);
-    let counts = counted(r.counts, sort);
-    let next = Line::fresh();
-    Reader {
-        line: next,
-        before: number,
-        counts,
-        more: r.more,
-        going: taken.going,
-    }
-}
-
-// Writes a line's item, if it has one. A line that is too long is broken.
-fn read(fits: bool, line: &[u8]) -> Taken {
-    if !fits {
-        return Taken {
-            sort: Sort::Broken,
             going: true,
-        };
+        }
     }
-    let mut room = [0u8; Sort::ITEM];
-    let sort = capture::write(line, &mut room);
-    let mut going = true;
-    if let Sort::Frame = sort {
-        going = io::write_all(STDOUT_FILENO, &room);
+
+    // Writes a line's item, if it has one. A line that is too long is broken.
+    fn take(self, found: Input, line: &[u8]) -> Reader {
+        if !found.fits() {
+            return self.count(found.number, Sort::Broken, true);
+        }
+        let mut room = [0u8; Sort::ITEM];
+        let sort = capture::write(wire::front(line, found.size), &mut room);
+        let mut going = true;
+        if let Sort::Frame = sort {
+            going = io::write_all(STDOUT_FILENO, &room);
+        }
+        self.count(found.number, sort, going)
     }
-    Taken { sort, going }
+
+    // Counts a line of a sort, and names it where it is broken.
+    fn count(self, number: u64, sort: Sort, going: bool) -> Reader {
+        told(number, sort);
+        let counts = counted(self.counts, sort);
+        Reader { counts, going }
+    }
 }
 
 fn say(text: &[u8]) {

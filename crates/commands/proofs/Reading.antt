@@ -5,6 +5,8 @@ use mathlib.Core.Bool.{Bool, true, false, not, _||_}
 use mathlib.Core.List.{List, [], _∷_}
 use Prim.Native.Nat.{ℕ, _≤_}
 use borrow.Author.Tests.{eq-eqb, ne-eqb}
+use Rattle.items.specs.Items.{signed16}
+use Rattle.items.specs.declared.Item.the-variants as item
 use Rattle.lines.specs.declared.Number.{Number}
 use Rattle.lines.specs.Words.{wordAt}
 use Rattle.lines.proofs.Numbers.{number-most, short-most}
@@ -57,11 +59,11 @@ module _ (line : List ℕ) (v : Number) (m : Bool) (w : ℕ) (one : v ≡ valueA
     (first : w ≡ firstFalse 1 (v .known ∷ m ∷ true ∷ true ∷ true ∷ [])) where
   pub window-wrong : (w ≡ 0 → ⊥) → command.Wrong (record { kind = kind.Window; word = w }) ≡ windowOf line
   unfolding windowOf
-  window-wrong h = rw (← one, ← end, ← first) (wrong w kind.Window (command.Window (v .value)) h)
+  window-wrong h = rw (← one, ← end, ← first) (wrong w kind.Window (command.Item (item.Window (v .value))) h)
 
-  pub window-right : w ≡ 0 → command.Window (v .value) ≡ windowOf line
+  pub window-right : w ≡ 0 → command.Item (item.Window (v .value)) ≡ windowOf line
   unfolding windowOf
-  window-right h = rw (← one, ← end, ← first) (right w kind.Window (command.Window (v .value)) h)
+  window-right h = rw (← one, ← end, ← first) (right w kind.Window (command.Item (item.Window (v .value))) h)
 
 pub slot-is : (line : List ℕ) (v : Number) (m : Bool) (w : ℕ) → v ≡ valueAt 1 255 line → m ≡ noMore 2 line
     → w ≡ firstFalse 1 (v .known ∷ m ∷ true ∷ true ∷ true ∷ []) → _≡_ {A = Slot} (record { wrong = w; slot = v .value }) (oneSlot line)
@@ -71,25 +73,25 @@ slot-is line v m w one end first = rw (← one, ← end, ← first)
 module _ (line : List ℕ) (s : Slot) (e : s ≡ oneSlot line) where
   pub remove-wrong : (s .wrong ≡ 0 → ⊥) → command.Wrong (record { kind = kind.Remove; word = s .wrong }) ≡ removeOf line
   unfolding removeOf
-  remove-wrong h = rw (← e) (wrong (s .wrong) kind.Remove (command.Remove (s .slot)) h)
+  remove-wrong h = rw (← e) (wrong (s .wrong) kind.Remove (command.Item (item.Remove (s .slot))) h)
 
-  pub remove-right : s .wrong ≡ 0 → command.Remove (s .slot) ≡ removeOf line
+  pub remove-right : s .wrong ≡ 0 → command.Item (item.Remove (s .slot)) ≡ removeOf line
   unfolding removeOf
-  remove-right h = rw (← e) (right (s .wrong) kind.Remove (command.Remove (s .slot)) h)
+  remove-right h = rw (← e) (right (s .wrong) kind.Remove (command.Item (item.Remove (s .slot))) h)
 
   pub show-wrong : (s .wrong ≡ 0 → ⊥) → command.Wrong (record { kind = kind.Show; word = s .wrong }) ≡ showOf line
   unfolding showOf
-  show-wrong h = rw (← e) (wrong (s .wrong) kind.Show (command.Show (s .slot)) h)
+  show-wrong h = rw (← e) (wrong (s .wrong) kind.Show (command.Item (item.Show (s .slot))) h)
 
-  pub show-right : s .wrong ≡ 0 → command.Show (s .slot) ≡ showOf line
+  pub show-right : s .wrong ≡ 0 → command.Item (item.Show (s .slot)) ≡ showOf line
   unfolding showOf
-  show-right h = rw (← e) (right (s .wrong) kind.Show (command.Show (s .slot)) h)
+  show-right h = rw (← e) (right (s .wrong) kind.Show (command.Item (item.Show (s .slot))) h)
 
 module _ (line : List ℕ) (s k a b : Number) (m : Bool) (w : ℕ) (slot : s ≡ valueAt 1 255 line) (most : k ≡ valueAt 2 255 line)
     (loss : a ≡ weightAt 3 line) (shake : b ≡ weightAt 4 line) (end : m ≡ noMore 5 line)
     (first : w ≡ firstFalse 1 (s .known ∷ k .known ∷ a .known ∷ b .known ∷ m ∷ [])) where
   abbrev asked : Command
-  asked = command.Question (record { slot = s .value; k = k .value; a = a .value; b = b .value })
+  asked = command.Item (item.Set (record { slot = s .value; k = k .value; loss = signed16 (a .value); shake = signed16 (b .value) }))
 
   pub question-wrong : (w ≡ 0 → ⊥) → command.Wrong (record { kind = kind.Question; word = w }) ≡ questionOf line
   unfolding questionOf
@@ -100,24 +102,24 @@ module _ (line : List ℕ) (s k a b : Number) (m : Bool) (w : ℕ) (slot : s ≡
   question-right h = rw (← slot, ← most, ← loss, ← shake, ← end, ← first) (right w kind.Question asked h)
 
 module _ (line : List ℕ) (always : Bool) (s l k n : Number) (w : ℕ) (sender : s ≡ valueAt 1 255 line) (loss : l ≡ valueAt 2 65535 line)
-    (shake : k ≡ valueAt 3 65535 line) (number : n ≡ valueAt 4 4294967295 line)
+    (shake : k ≡ valueAt 3 65535 line) (own : n ≡ valueAt 4 4294967295 line)
     (first : w ≡ firstFalse 1 (s .known ∷ l .known ∷ k .known ∷ n .known ∷ true ∷ [])) where
   abbrev sent : Bool → Command
   sent noted =
       command.Report (record {
         sender = s .value;
-        report = record { loss = l .value; shake = k .value; number = n .value };
+        report = record { values = record { loss = l .value; shake = k .value }; own = n .value };
         noted = noted;
       })
 
   pub report-wrong : (w ≡ 0 → ⊥) → command.Wrong (record { kind = kind.Report; word = w }) ≡ reportOf always line
   unfolding reportOf
-  report-wrong h = rw (← sender, ← loss, ← shake, ← number, ← first) (wrong w kind.Report (sent (always || not (noMore 5 line))) h)
+  report-wrong h = rw (← sender, ← loss, ← shake, ← own, ← first) (wrong w kind.Report (sent (always || not (noMore 5 line))) h)
 
   pub report-right : (noted : Bool) → noted ≡ (always || not (noMore 5 line)) → w ≡ 0 → sent noted ≡ reportOf always line
   unfolding reportOf
   report-right noted e h =
-      rw (← sender, ← loss, ← shake, ← number, ← first, ← e) (right w kind.Report (sent noted) h)
+      rw (← sender, ← loss, ← shake, ← own, ← first, ← e) (right w kind.Report (sent noted) h)
 
 -- ---- how large
 

@@ -5,6 +5,8 @@ use mathlib.Core.Bool.{Bool, true, false, cond, not, _||_}
 use lib.ListN.{length, getD}
 use lib.Dec.{eqb}
 use Rattle.wire.specs.Bytes.{same}
+use Rattle.items.specs.Items.{signed16}
+use Rattle.items.specs.declared.Item.the-variants as item
 use Rattle.lines.specs.declared.Number.{Number}
 use Rattle.lines.specs.Words.{tailAt, wordAt}
 use Rattle.lines.specs.Numbers.{numberIn, shortIn}
@@ -50,7 +52,7 @@ kindOf w =
 unfoldable pub valueAt : ℕ → ℕ → List ℕ → Number
 valueAt n most line = numberIn 10 most (wordAt n line)
 
--- The weight that is word n, as two bytes hold it.
+-- The weight that is word n, as two bytes hold it; `signed16` is its number.
 unfoldable pub weightAt : ℕ → List ℕ → Number
 weightAt n line = shortIn (wordAt n line)
 
@@ -72,7 +74,7 @@ unless wrong k c = cond (eqb wrong 0) c (command.Wrong (record { kind = k; word 
 unfoldable pub windowOf : List ℕ → Command
 windowOf line =
     unless (firstFalse 1 (valueAt 1 65535 line .known ∷ noMore 2 line ∷ true ∷ true ∷ true ∷ [])) kind.Window
-    (command.Window (valueAt 1 65535 line .value))
+    (command.Item (item.Window (valueAt 1 65535 line .value)))
 
 -- `question SLOT K A B`: a slot and a k that fit a byte, two weights that fit two.
 unfoldable pub questionOf : List ℕ → Command
@@ -80,7 +82,12 @@ questionOf line =
     unless
     (firstFalse 1 (valueAt 1 255 line .known ∷ valueAt 2 255 line .known ∷ weightAt 3 line .known ∷ weightAt 4 line .known ∷ noMore 5 line ∷ []))
     kind.Question
-    (command.Question (record { slot = valueAt 1 255 line .value; k = valueAt 2 255 line .value; a = weightAt 3 line .value; b = weightAt 4 line .value }))
+    (command.Item (item.Set (record {
+      slot = valueAt 1 255 line .value;
+      k = valueAt 2 255 line .value;
+      loss = signed16 (weightAt 3 line .value);
+      shake = signed16 (weightAt 4 line .value);
+    })))
 
 -- One slot that fits a byte, and nothing behind it.
 unfoldable pub oneSlot : List ℕ → Slot
@@ -92,10 +99,10 @@ oneSlot line =
 
 -- `remove SLOT`, and `show SLOT`.
 unfoldable pub removeOf : List ℕ → Command
-removeOf line = unless (oneSlot line .wrong) kind.Remove (command.Remove (oneSlot line .slot))
+removeOf line = unless (oneSlot line .wrong) kind.Remove (command.Item (item.Remove (oneSlot line .slot)))
 
 unfoldable pub showOf : List ℕ → Command
-showOf line = unless (oneSlot line .wrong) kind.Show (command.Show (oneSlot line .slot))
+showOf line = unless (oneSlot line .wrong) kind.Show (command.Item (item.Show (oneSlot line .slot)))
 
 -- `report SENDER LOSS SHAKE NUMBER`, and what stands behind is its note; `noted` has a note also where nothing does.
 unfoldable pub reportOf : Bool → List ℕ → Command
@@ -105,7 +112,7 @@ reportOf always line =
     kind.Report
     (command.Report (record {
       sender = valueAt 1 255 line .value;
-      report = record { loss = valueAt 2 65535 line .value; shake = valueAt 3 65535 line .value; number = valueAt 4 4294967295 line .value };
+      report = record { values = record { loss = valueAt 2 65535 line .value; shake = valueAt 3 65535 line .value }; own = valueAt 4 4294967295 line .value };
       noted = always || not (noMore 5 line);
     }))
 

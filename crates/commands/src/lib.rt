@@ -2,18 +2,23 @@
 // A line is `window N`, `question SLOT K A B`, `remove SLOT`, `show SLOT`, `report SENDER LOSS SHAKE NUMBER`, with a note
 // behind it perhaps, or `noted` for a report whose note may be empty. Empty lines and those that start with # say nothing.
 ghost use mathlib.Core.Path.{_≡_};
-ghost use mathlib.Core.List.{[], _∷_};
+ghost use mathlib.Core.List.{[], _∷_, map};
 ghost use mathlib.Core.Bool.{Bool, not, _||_};
 ghost use Prim.Native.Nat.{_*_, _≤_};
 ghost use lib.ListN.{length, take};
 ghost use lib.Seq.{sets};
+ghost use Rattle.items.specs.Run.{runBytes};
+ghost use Rattle.bench.specs.Bench.{framesIn};
 ghost use Rattle.lines.specs.Words.{tailAt};
 ghost use Rattle.commands.specs.Lines.{kindOf, firstFalse, valueAt, weightAt, noMore, oneSlot, windowOf, questionOf, removeOf, showOf, reportOf, commandOf, noteIn};
-ghost use Rattle.commands.specs.Items.{questionItem, framesIn, itemsOf, answerOf, reportItems, reportAnswer};
-use joining::Bench;
+ghost use Rattle.commands.specs.Items.{frameItem, itemsOf, answerOf, reportItems, reportAnswer};
+use bench::Bench;
+use items::Item;
+use items::Setting;
 use lines::Number;
 use report::Report;
 use report::Written;
+use values::Values;
 
 // What the first word of a line asks for.
 pub enum Kind {
@@ -65,14 +70,6 @@ pub struct Fault {
     pub word: u8,
 }
 
-// A question that is to be set. Weights are as two bytes hold them.
-pub struct Asking {
-    pub slot: u8,
-    pub k: u8,
-    pub a: u16,
-    pub b: u16,
-}
-
 // A report that is to be sent, and whether a note goes with it.
 pub struct Sending {
     pub sender: u8,
@@ -80,13 +77,10 @@ pub struct Sending {
     pub noted: bool,
 }
 
-// What a line stands for.
+// What a line stands for: nothing, one item of the log, a report's frames, or nothing that can be read.
 pub enum Command {
     Nothing,
-    Window(u16),
-    Question(Asking),
-    Remove(u8),
-    Show(u8),
+    Item(Item),
     Report(Sending),
     Wrong(Fault),
 }
@@ -101,7 +95,7 @@ pub enum Answer {
 // Writes the items of a line to the front of `room`; a wrong line writes none. What lies past the room's end is not stored.
 pub fn write(line: &[u8], room: &mut [u8]) -> Answer
     ensures { λ r. ⌜ r ≡ answerOf (commandOf (now (line .entry))) (noteIn (now (line .entry))) ⌝ }
-    ensures { λ _. ⌜ now (room .exit) ≡ sets (now (room .entry)) 0 (itemsOf (commandOf (now (line .entry))) (noteIn (now (line .entry)))) ⌝ }
+    ensures { λ _. ⌜ now (room .exit) ≡ sets (now (room .entry)) 0 (runBytes (itemsOf (commandOf (now (line .entry))) (noteIn (now (line .entry))))) ⌝ }
 {
     let command = Command::of(line);
     let note = lines::tail(line, 5);
@@ -135,27 +129,13 @@ impl Command {
     // Writes a command's items to the front of `room`; `note` is read for a report that has one.
     pub fn put(self, note: &[u8], room: &mut [u8]) -> Answer
         ensures { λ r. ⌜ r ≡ answerOf self (now (note .entry)) ⌝ }
-        ensures { λ _. ⌜ now (room .exit) ≡ sets (now (room .entry)) 0 (itemsOf self (now (note .entry))) ⌝ }
+        ensures { λ _. ⌜ now (room .exit) ≡ sets (now (room .entry)) 0 (runBytes (itemsOf self (now (note .entry)))) ⌝ }
     {
         match self {
             Command::Nothing => Answer::Items(0),
-            Command::Window(n) => {
-                wire::put_field16(room, 0, 16, n);
-                Answer::Items(5)
-            }
-            Command::Question(q) => {
-                put_question(room, q);
-                Answer::Items(9)
-            }
-            Command::Remove(slot) => {
-                let value = [slot];
-                wire::put_field(room, 0, 19, &value);
-                Answer::Items(4)
-            }
-            Command::Show(slot) => {
-                let value = [slot];
-                wire::put_field(room, 0, 20, &value);
-                Answer::Items(4)
+            Command::Item(i) => {
+                let size = i.put(wire::front(note, 0), room, 0);
+                Answer::Items(size)
             }
             Command::Report(s) => put_report(room, s, note),
             Command::Wrong(f) => Answer::Wrong(f),
@@ -220,7 +200,7 @@ fn window(line: &[u8]) -> Command
             word: wrong,
         });
     }
-    Command::Window(n.value as u16)
+    Command::Item(Item::Window(n.value as u16))
 }
 
 fn question(line: &[u8]) -> Command
@@ -237,12 +217,14 @@ fn question(line: &[u8]) -> Command
             word: wrong,
         });
     }
-    Command::Question(Asking {
+    let loss = items::signed16(a.value as u16);
+    let shake = items::signed16(b.value as u16);
+    Command::Item(Item::Set(Setting {
         slot: slot.value as u8,
         k: k.value as u8,
-        a: a.value as u16,
-        b: b.value as u16,
-    })
+        loss,
+        shake,
+    }))
 }
 
 // A slot, or which word is wrong.
@@ -271,7 +253,7 @@ fn remove(line: &[u8]) -> Command
             word: s.wrong,
         });
     }
-    Command::Remove(s.slot)
+    Command::Item(Item::Remove(s.slot))
 }
 
 fn show(line: &[u8]) -> Command
@@ -284,7 +266,7 @@ fn show(line: &[u8]) -> Command
             word: s.wrong,
         });
     }
-    Command::Show(s.slot)
+    Command::Item(Item::Show(s.slot))
 }
 
 // Whether a note goes with a report: where `noted` an empty one too.
@@ -300,8 +282,8 @@ fn one_report(line: &[u8], noted: bool) -> Command
     let sender = value(line, 1, 255);
     let loss = value(line, 2, 65535);
     let shake = value(line, 3, 65535);
-    let number = value(line, 4, 4294967295);
-    let wrong = first_false(sender.known, loss.known, shake.known, number.known, true);
+    let own = value(line, 4, 4294967295);
+    let wrong = first_false(sender.known, loss.known, shake.known, own.known, true);
     if wrong != 0 {
         return Command::Wrong(Fault {
             kind: Kind::Report,
@@ -311,9 +293,11 @@ fn one_report(line: &[u8], noted: bool) -> Command
     Command::Report(Sending {
         sender: sender.value as u8,
         report: Report {
-            loss: loss.value as u16,
-            shake: shake.value as u16,
-            number: number.value,
+            values: Values {
+                loss: loss.value as u16,
+                shake: shake.value as u16,
+            },
+            own: own.value,
         },
         noted: has_note(line, noted),
     })
@@ -321,20 +305,9 @@ fn one_report(line: &[u8], noted: bool) -> Command
 
 // ---- writing
 
-fn put_question(room: &mut [u8], q: Asking)
-    ensures { λ _. ⌜ now (room .exit) ≡ sets (now (room .entry)) 0 (questionItem q) ⌝ }
-{
-    let mut value = [0u8; 6];
-    wire::put(&mut value, 0, q.slot);
-    wire::put(&mut value, 1, q.k);
-    wire::put16(&mut value, 2, q.a);
-    wire::put16(&mut value, 4, q.b);
-    wire::put_field(room, 0, 17, &value);
-}
-
 fn put_report(room: &mut [u8], s: Sending, note: &[u8]) -> Answer
     ensures { λ r. ⌜ r ≡ reportAnswer s (now (note .entry)) ⌝ }
-    ensures { λ _. ⌜ now (room .exit) ≡ sets (now (room .entry)) 0 (reportItems s (now (note .entry))) ⌝ }
+    ensures { λ _. ⌜ now (room .exit) ≡ sets (now (room .entry)) 0 (runBytes (reportItems s (now (note .entry)))) ⌝ }
 {
     let mut frames = [0u8; Bench::LARGEST];
     let report = s.report;
@@ -343,7 +316,7 @@ fn put_report(room: &mut [u8], s: Sending, note: &[u8]) -> Answer
         Written::Bytes(n) => {
             let count = n / Bench::FRAME;
             put_frames(room, &frames, count);
-            Answer::Items(15 * count)
+            Answer::Items(Item::FRAME_BYTES * count)
         }
         Written::Refused(code) => Answer::Refused(code),
     }
@@ -353,13 +326,15 @@ fn put_report(room: &mut [u8], s: Sending, note: &[u8]) -> Answer
 fn put_frames(room: &mut [u8], frames: &[u8], count: usize)
     requires { ⌜ 12 * count ≤ length (now frames) ⌝ }
     requires { ⌜ length (now frames) ≤ 156 ⌝ }
-    ensures { λ _. ⌜ now (room .exit) ≡ sets (now (room .entry)) 0 (framesIn count (now (frames .entry))) ⌝ }
+    ensures { λ _. ⌜ now (room .exit) ≡ sets (now (room .entry)) 0 (runBytes (map frameItem (framesIn count (now (frames .entry))))) ⌝ }
 {
     let mut i: usize = 0;
     while i < count {
         let start = Bench::FRAME * i;
+        let behind = start + Item::DATA;
         let end = start + Bench::FRAME;
-        wire::put_field(room, 15 * i, 18, &frames[start..end]);
+        let item = Item::Frame(wire::read32(frames, start));
+        item.put(&frames[behind..end], room, Item::FRAME_BYTES * i);
         i += 1;
     }
 }

@@ -12,7 +12,7 @@ use Rattle.wire.specs.Bytes.{number, part}
 use Rattle.joining.specs.declared.Session.{Session}
 use Rattle.joining.specs.declared.Answer.the-variants.{Kept}
 use Rattle.joining.specs.Frame.{Frame, senderOf, destinationOf, zeroBitsOf, frameRefusal, isAnnouncement, isPacket, foreign, malformed}
-use Rattle.joining.specs.Joining.{carries, fit, closed, opened, stored, advanced, finishes, refused, sizeIn, sound, announce, packet, take-frame}
+use Rattle.joining.specs.Joining.{carries, fit, closed, opened, stored, advanced, finishes, refused, sizeIn, sound, announcementRefusal, announce, packet, take-frame}
 use Rattle.joining.specs.Run.{soloStep, passes, Announces, Numbered}
 use Rattle.joining.proofs.Frames.{sound-frame}
 
@@ -71,7 +71,7 @@ module _ (f : Frame) where
   -- The tests that a good announcement passes.
   opening : fine ≡ true → isAnnouncement (f .identifier) ≡ true → first ≡ true → sound (f .data-bytes) ≡ true → group ≡ true → carries (sizeIn (f .data-bytes)) ≡ true
       → (s : Session) → fit s ≡ true → soloStep s f ≡ record { answer = Kept; session = opened (sizeIn (f .data-bytes)) }
-  unfolding announce
+  unfolding announce announcementRefusal
   opening well a e₄ e₅ e₆ e₇ s fits = as-announcement well s fits a ∙ rw (e₄, e₅, e₆, e₇)
 
   silent : fine ≡ false → passes f ≡ true
@@ -90,24 +90,24 @@ module _ (f : Frame) where
   module _ (s : Session) (fits : fit s ≡ true) where
     by-size : fine ≡ true → isAnnouncement (f .identifier) ≡ true → first ≡ true → sound (f .data-bytes) ≡ true → group ≡ true
         → (b : Bool) → carries (sizeIn (f .data-bytes)) ≡ b → Case s f
-    unfolding announce
+    unfolding announce announcementRefusal
     by-size well a e₄ e₅ e₆ true e₇ =
         let opens = opening well a e₄ e₅ e₆ e₇ in
         good (told well (inr e₄)) e₇ (record { announcement = a; says = refl; opens = opens }) (opens s fits)
     by-size well a e₄ e₅ e₆ false e₇ = shut 7 (told well (inr e₄)) (as-announcement well s fits a ∙ rw (e₄, e₅, e₆, e₇))
 
     by-group : fine ≡ true → isAnnouncement (f .identifier) ≡ true → first ≡ true → sound (f .data-bytes) ≡ true → (b : Bool) → group ≡ b → Case s f
-    unfolding announce
+    unfolding announce announcementRefusal
     by-group well a e₄ e₅ true e₆ = by-size well a e₄ e₅ e₆ (carries (sizeIn (f .data-bytes))) refl
     by-group well a e₄ e₅ false e₆ = shut 6 (told well (inr e₄)) (as-announcement well s fits a ∙ rw (e₄, e₅, e₆))
 
     by-count : fine ≡ true → isAnnouncement (f .identifier) ≡ true → first ≡ true → (b : Bool) → sound (f .data-bytes) ≡ b → Case s f
-    unfolding announce
+    unfolding announce announcementRefusal
     by-count well a e₄ true e₅ = by-group well a e₄ e₅ group refl
     by-count well a e₄ false e₅ = shut 5 (told well (inr e₄)) (as-announcement well s fits a ∙ rw (e₄, e₅))
 
     by-first : fine ≡ true → isAnnouncement (f .identifier) ≡ true → (b : Bool) → first ≡ b → Case s f
-    unfolding announce
+    unfolding announce announcementRefusal
     by-first well a true e₄ = by-count well a e₄ (sound (f .data-bytes)) refl
     by-first well a false e₄ = passed 4 (lit≤ tt) (lit≤ tt) (other-first a e₄) (as-announcement well s fits a ∙ rw e₄)
 

@@ -1,4 +1,4 @@
--- The bench examples on frames: the definitions compute to what document 01 lists.
+-- The bench examples on one session: the definitions compute to what document 01 lists.
 -- Assumes nothing.
 use mathlib.Core.Path.{_≡_, refl}
 use mathlib.Core.Bool.{true}
@@ -6,43 +6,35 @@ use mathlib.Core.Option.{none}
 use mathlib.Core.List.{List, [], _∷_}
 use Prim.Native.Nat.{ℕ}
 use Rattle.wire.specs.Bytes.{number, bytes, head, field}
+use Rattle.values.specs.Range.{inRange}
 use Rattle.report.specs.declared.Report.{Report}
 use Rattle.report.specs.declared.Reading.the-variants as reading
-use Rattle.report.specs.Payload.{payload, readPayload, isPayload, inOrder, inRange, noteFits, noteIn, reportIn}
+use Rattle.report.specs.Payload.{payload, readPayload, isPayload, inOrder, noteFits, noteIn, reportIn}
 use Rattle.joining.specs.declared.Session.{Session}
 use Rattle.joining.specs.declared.Answer.the-variants.{Refused, Kept}
 use Rattle.joining.specs.Frame.{Frame, frameRefusal, malformed, foreign}
-use Rattle.joining.specs.Joining.{fit, isClosed, isOpen, carries, closed, opened, refused, sound, announce, packet, take-frame}
-use Rattle.joining.specs.Bench.{frames, announcement, packetData, packetsFrom}
+use Rattle.joining.specs.Joining.{fit, isClosed, isOpen, carries, closed, opened, refused, sound, announcementRefusal, announce, packet, take-frame}
 use Rattle.joining.specs.Run.{soloStep, soloAnswers}
 
 -- Sender 5's announcement and data packet.
-abbrev announces : List ℕ → Frame
+abbrev pub announces : List ℕ → Frame
 announces d = record { identifier = 0x1CECFF05; data-bytes = d }
 
-abbrev packs : List ℕ → Frame
+abbrev pub packs : List ℕ → Frame
 packs d = record { identifier = 0x1CEBFF05; data-bytes = d }
 
 -- The announcement of our group with this size, in two bytes, and this count.
-abbrev sized : ℕ → ℕ → ℕ → Frame
+abbrev pub sized : ℕ → ℕ → ℕ → Frame
 sized low high count = announces (0x20 ∷ low ∷ high ∷ count ∷ 0xFF ∷ 0x14 ∷ 0xFF ∷ 0x00 ∷ [])
 
-abbrev first : Frame
+abbrev pub first : Frame
 first = packs (0x01 ∷ 0x01 ∷ 0x02 ∷ 0x00 ∷ 0x64 ∷ 0x00 ∷ 0x02 ∷ 0x02 ∷ [])
 
-abbrev report : ℕ → ℕ → ℕ → Report
-report loss shake number = record { loss = loss; shake = shake; number = number }
+abbrev pub report : ℕ → ℕ → ℕ → Report
+report loss shake own = record { values = record { loss = loss; shake = shake }; own = own }
 
 -- A session stands for any fit one: what is answered doesn't depend on what was under way.
 pub record Examples : Type 0 where
-  -- "Sender 5, (100, 200), number 7: identifiers 1CECFF05 and 1CEBFF05; announcement 20 11 00 03 FF 14 FF 00; packets 01 01 02 00 64 00 02 02,
-  -- 02 00 C8 00 03 04 00 07, 03 00 00 00 FF FF FF FF."
-  pub p1 : frames 5 (payload (report 100 200 7) none)
-      ≡ sized 0x11 0x00 0x03
-      ∷ first
-      ∷ packs (0x02 ∷ 0x00 ∷ 0xC8 ∷ 0x00 ∷ 0x03 ∷ 0x04 ∷ 0x00 ∷ 0x07 ∷ [])
-      ∷ packs (0x03 ∷ 0x00 ∷ 0x00 ∷ 0x00 ∷ 0xFF ∷ 0xFF ∷ 0xFF ∷ 0xFF ∷ [])
-      ∷ []
   -- "Size 17, count 2: refusal 5."
   pub p2 : (s : Session) → fit s ≡ true → soloStep s (sized 17 0 2) ≡ refused 5 (closed s)
   -- "Size 18, count 3: refusal 7."
@@ -57,10 +49,9 @@ pub record Examples : Type 0 where
   pub loss4096 : readPayload (payload (report 4096 0 0) none) ≡ reading.Refused 10
 
 pub examples : Examples
-unfolding frames announcement packetData packetsFrom payload field head bytes number readPayload isPayload inOrder inRange noteFits noteIn reportIn soloAnswers take-frame frameRefusal malformed foreign announce packet sound carries fit isClosed isOpen
+unfolding payload field head bytes number readPayload isPayload inOrder inRange noteFits noteIn reportIn soloAnswers take-frame frameRefusal malformed foreign announce announcementRefusal packet sound carries fit isClosed isOpen
 examples =
     record {
-      p1 = refl;
       p2 = λ s fits. rw fits;
       p3 = λ s fits. rw fits;
       p4 = λ s fits. rw fits;

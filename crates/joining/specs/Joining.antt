@@ -6,7 +6,7 @@ use lib.ListN.{getD, take, drop, replicate}
 use lib.Seq.{sets}
 use lib.Dec.{leb, ltb, eqb}
 use Rattle.wire.specs.Bytes.{number, part}
-use Rattle.report.specs.Payload.{readPayload}
+use Rattle.report.specs.Payload.{largest, readPayload}
 use Rattle.report.specs.declared.Reading.{Reading}
 use Rattle.report.specs.declared.Reading.the-variants as reading
 use Rattle.joining.specs.declared.Session.{Session}
@@ -21,11 +21,11 @@ packets size = (size + 6) / 7
 
 -- The sizes that a payload of ours can have: 17, or 20 to 84.
 unfoldable pub carries : ℕ → Bool
-carries size = eqb size 17 || leb 20 size && leb size 84
+carries size = eqb size 17 || leb 20 size && leb size largest
 
 -- "Fresh, a session has size, count and next packet 0"; "fresh [payload bytes] are 255".
 abbrev pub freshSession : Session
-freshSession = record { bytes = replicate 84 255; size = 0; count = 0; next = 0 }
+freshSession = record { bytes = replicate largest 255; size = 0; count = 0; next = 0 }
 
 -- "Closed, a session has size, count and next packet 0; closing keeps the payload bytes."
 abbrev pub closed : Session → Session
@@ -33,7 +33,7 @@ closed s = record { bytes = s .bytes; size = 0; count = 0; next = 0 }
 
 -- "Opening sets all the session's payload bytes to 255."
 abbrev pub opened : ℕ → Session
-opened size = record { bytes = replicate 84 255; size = size; count = packets size; next = 1 }
+opened size = record { bytes = replicate largest 255; size = size; count = packets size; next = 1 }
 
 unfoldable pub isClosed : Session → Bool
 isClosed s = eqb (s .size) 0 && eqb (s .count) 0 && eqb (s .next) 0
@@ -81,14 +81,19 @@ sizeIn d = number (part 1 2 d)
 unfoldable pub sound : List ℕ → Bool
 sound d = leb 9 (sizeIn d) && leb (sizeIn d) 1785 && eqb (getD d 3 0) (packets (sizeIn d))
 
--- An announcement: refusals 4, 5, 6 and 7 in their order, or "a good announcement opens it, replacing an open one".
+-- Why an announcement opens no session: refusals 4, 5, 6 and 7 in their order, or 0.
+unfoldable pub announcementRefusal : List ℕ → ℕ
+announcementRefusal d =
+    cond (not (eqb (getD d 0 0) 32)) 4
+    (cond (not (sound d)) 5
+    (cond (not (eqb (number (part 5 3 d)) 65300)) 6
+    (cond (not (carries (sizeIn d))) 7 0)))
+
+-- An announcement: "a good announcement opens it, replacing an open one"; refusal 4 changes nothing, the others leave "that session closed".
 unfoldable pub announce : Session → List ℕ → Taken
 announce s d =
-    cond (not (eqb (getD d 0 0) 32)) (refused 4 s)
-    (cond (not (sound d)) (refused 5 (closed s))
-    (cond (not (eqb (number (part 5 3 d)) 65300)) (refused 6 (closed s))
-    (cond (not (carries (sizeIn d))) (refused 7 (closed s))
-    (record { answer = Kept; session = opened (sizeIn d) }))))
+    cond (eqb (announcementRefusal d) 0) (record { answer = Kept; session = opened (sizeIn d) })
+    (refused (announcementRefusal d) (cond (eqb (announcementRefusal d) 4) s (closed s)))
 
 -- A data packet: refusals 8 "no open session" and 9 "sequence not the next", or the packet is kept, or the last one ends the session.
 unfoldable pub packet : Session → List ℕ → Taken

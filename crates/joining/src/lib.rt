@@ -3,20 +3,14 @@ ghost use mathlib.Core.Path.{_≡_};
 ghost use mathlib.Core.Bool.{true};
 ghost use mathlib.Core.List.{[]};
 ghost use Prim.Native.Nat.{_-_, _*_, _≤_};
-ghost use lib.ListN.{length, take, drop};
+ghost use lib.ListN.{take, drop};
 ghost use lib.Seq.{sets};
-ghost use Rattle.report.specs.Payload.{readPayload};
+ghost use Rattle.report.specs.Payload.{largest, readPayload};
 ghost use Rattle.joining.specs.Frame.{foreign, frameRefusal, senderIn};
-ghost use Rattle.joining.specs.Joining.{packets, carries, freshSession, isOpen, fit, closed, opened, stored, finishes, yields, refused, sound, announce, packet, take-frame, sizeHeld, payloadHeld};
+ghost use Rattle.joining.specs.Joining.{packets, carries, freshSession, isOpen, fit, closed, opened, stored, finishes, yields, refused, sound, announcementRefusal, announce, packet, take-frame, sizeHeld, payloadHeld};
 
-mod bench;
-mod bus;
 mod lent;
-mod room;
 
-pub use bench::Bench;
-pub use bus::Bus;
-pub use bus::Heard;
 use report::Payload;
 use report::Reading;
 use report::Report;
@@ -38,7 +32,7 @@ pub enum Answer {
 // What one sender has sent of a report: the payload's bytes so far, its size and packet count, and the packet that is due.
 // All three numbers are 0 where no report is under way.
 pub struct Session {
-    pub bytes: [u8; 84],
+    pub bytes: [u8; Payload::LARGEST],
     pub size: u8,
     pub count: u8,
     pub next: u8,
@@ -85,7 +79,7 @@ impl Frame {
 }
 
 // What a frame is refused for before any session is looked at, or 0.
-pub(crate) fn frame_refusal(id: u32, data: &[u8]) -> u8
+pub fn frame_refusal(id: u32, data: &[u8]) -> u8
     ensures { λ r. ⌜ r ≡ frameRefusal id (now («data» .entry)) ⌝ }
 {
     if Frame::IDENTIFIERS <= id {
@@ -149,7 +143,7 @@ impl Session {
     pub fn fresh() -> Session
         ensures { λ r. ⌜ r ≡ freshSession ⌝ }
     {
-        let bytes = [255u8; 84];
+        let bytes = [255u8; Payload::LARGEST];
         Session {
             bytes,
             size: 0,
@@ -198,7 +192,7 @@ impl Session {
 }
 
 // Whether a session's size, count and next packet are fit.
-fn numbers_fit(size: u8, count: u8, next: u8) -> bool
+pub fn numbers_fit(size: u8, count: u8, next: u8) -> bool
     ensures { λ r. ⌜ r ≡ fit (record { bytes = []; size = size; count = count; next = next }) ⌝ }
 {
     if size == 0 {
@@ -214,21 +208,21 @@ fn numbers_fit(size: u8, count: u8, next: u8) -> bool
 }
 
 // How many packets carry a payload of this size.
-fn packets(size: u16) -> u16
-    requires { ⌜ size ≤ 1785 ⌝ }
+pub fn packets(size: u16) -> u16
     ensures { λ r. ⌜ r ≡ packets size ⌝ }
 {
-    (size + 6) / 7
+    (((size as u32) + 6) / 7) as u16
 }
 
 // Whether a payload of ours can have this size.
 fn carries(size: u16) -> bool
     ensures { λ r. ⌜ r ≡ carries size ⌝ }
 {
-    if size == 17 {
+    let n = size as usize;
+    if n == Payload::PLAIN {
         return true;
     }
-    20 <= size && size <= 84
+    Payload::NOTED <= n && n <= Payload::LARGEST
 }
 
 // The session with no report under way; its bytes stay.
@@ -257,7 +251,7 @@ fn sound(data: &[u8]) -> bool
 
 // The session that an announcement opens, replacing what was under way.
 fn opened(size: u16) -> Session
-    requires { ⌜ size ≤ 84 ⌝ }
+    requires { ⌜ size ≤ largest ⌝ }
     ensures { λ r. ⌜ r ≡ opened size ⌝ }
 {
     let mut s = Session::fresh();
@@ -267,27 +261,40 @@ fn opened(size: u16) -> Session
     s
 }
 
+// Why an announcement opens no session, or 0.
+pub fn announcement_refusal(data: &[u8]) -> u8
+    ensures { λ r. ⌜ r ≡ announcementRefusal (now («data» .entry)) ⌝ }
+{
+    if wire::byte(data, 0) != Session::BROADCAST {
+        return Session::NOT_AN_ANNOUNCEMENT;
+    }
+    if !sound(data) {
+        return Session::BAD_SIZE;
+    }
+    if wire::read24(data, 5) != Session::GROUP {
+        return Session::OTHER_GROUP;
+    }
+    if !carries(wire::read16(data, 1)) {
+        return Session::OTHER_SIZE;
+    }
+    0
+}
+
 // An announcement of the session's sender.
 fn announced(s: Session, data: &[u8]) -> Taken
     ensures { λ r. ⌜ r ≡ announce s (now («data» .entry)) ⌝ }
 {
-    if wire::byte(data, 0) != Session::BROADCAST {
-        return refused(Session::NOT_AN_ANNOUNCEMENT, s);
+    let n = announcement_refusal(data);
+    if n == 0 {
+        return Taken {
+            answer: Answer::Kept,
+            session: opened(wire::read16(data, 1)),
+        };
     }
-    if !sound(data) {
-        return refused(Session::BAD_SIZE, closed(s));
+    if n != Session::NOT_AN_ANNOUNCEMENT {
+        return refused(n, closed(s));
     }
-    if wire::read24(data, 5) != Session::GROUP {
-        return refused(Session::OTHER_GROUP, closed(s));
-    }
-    let size = wire::read16(data, 1);
-    if !carries(size) {
-        return refused(Session::OTHER_SIZE, closed(s));
-    }
-    Taken {
-        answer: Answer::Kept,
-        session: opened(size),
-    }
+    refused(n, s)
 }
 
 fn refused(n: u8, s: Session) -> Taken
@@ -302,7 +309,6 @@ fn refused(n: u8, s: Session) -> Taken
 // A data packet of the session's sender.
 fn packet(s: Session, data: &[u8]) -> Taken
     requires { ⌜ fit s ≡ true ⌝ }
-    requires { ⌜ length (now «data») ≡ 8 ⌝ }
     ensures { λ r. ⌜ r ≡ packet s (now («data» .entry)) ⌝ }
 {
     let size = s.size;
@@ -330,33 +336,32 @@ fn packet(s: Session, data: &[u8]) -> Taken
 }
 
 // The session's bytes with the expected packet's among them, those past the size left out.
-fn stored(s: Session, data: &[u8]) -> [u8; 84]
+fn stored(s: Session, data: &[u8]) -> [u8; Payload::LARGEST]
     requires { ⌜ isOpen s ≡ true ⌝ }
-    requires { ⌜ length (now «data») ≡ 8 ⌝ }
     ensures { λ r. ⌜ r ≡ stored s (now («data» .entry)) ⌝ }
 {
     let mut bytes = s.bytes;
-    store(&mut bytes, s.size, s.next, data);
+    store(&mut bytes, s.size, s.next - 1, data);
     bytes
 }
 
-// Stores the bytes of packet `next` in their place, those past the size left out.
-fn store(bytes: &mut [u8], size: u8, next: u8, data: &[u8])
-    requires { ⌜ (1 ≤ next) × (7 * (next - 1) ≤ size) ⌝ }
-    requires { ⌜ length (now «data») ≡ 8 ⌝ }
-    ensures { λ _. ⌜ now (bytes .exit) ≡ sets (now (bytes .entry)) (7 * (next - 1)) (take (size - 7 * (next - 1)) (drop 1 (now («data» .entry)))) ⌝ }
+// Stores a packet's bytes behind those of the `sent` packets before it, those past the size left out.
+pub fn store(bytes: &mut [u8], size: u8, sent: u8, data: &[u8])
+    ensures { λ _. ⌜ now (bytes .exit) ≡ sets (now (bytes .entry)) (7 * sent) (take (size - 7 * sent) (drop 1 (now («data» .entry)))) ⌝ }
 {
-    let at = Session::PART * ((next - 1) as usize);
-    let left = (size as usize) - at;
-    if left < Session::PART {
-        wire::put_all(bytes, at, &data[1..1 + left]);
-    } else {
-        wire::put_all(bytes, at, &data[1..]);
+    let at = Session::PART * (sent as usize);
+    let end = size as usize;
+    if data.len() == 0 {
+        return;
     }
+    if end <= at {
+        return;
+    }
+    wire::put_all(bytes, at, wire::front(&data[1..], end - at));
 }
 
 // What the last packet answers, and the session that it closes.
-fn finished(bytes: [u8; 84], size: u8) -> Taken
+fn finished(bytes: [u8; Payload::LARGEST], size: u8) -> Taken
     ensures { λ r. ⌜ r ≡ finishes bytes size ⌝ }
 {
     let answer = answered(wire::front(&bytes, size as usize));
@@ -372,7 +377,7 @@ fn finished(bytes: [u8; 84], size: u8) -> Taken
 }
 
 // What a whole payload is answered: its report, or the reader's refusal.
-fn answered(payload: &[u8]) -> Answer
+pub fn answered(payload: &[u8]) -> Answer
     ensures { λ r. ⌜ r ≡ yields (readPayload (now (payload .entry))) ⌝ }
 {
     match Payload::read(payload) {

@@ -1,7 +1,7 @@
 // The calls that are tried, each in one place.
 use crate::print;
-use joining::Bench;
-use joining::Bus;
+use bench::Bench;
+use bus::Bus;
 use joining::Frame;
 use joining::Sender;
 use joining::Session;
@@ -10,6 +10,7 @@ use printing::refused;
 use printing::text;
 use report::Payload;
 use report::Report;
+use values::Values;
 
 // A session with these numbers and the first bytes of P1's payload.
 pub fn made(size: u8, count: u8, next: u8, used: usize) -> Session {
@@ -110,10 +111,13 @@ pub fn write(line: &[u8]) {
 }
 
 fn write_in(room: &mut [u8], line: &[u8]) {
-    let report = Report {
+    let values = Values {
         loss: cases::short(line, 3),
         shake: cases::short(line, 4),
-        number: cases::number(line, 5),
+    };
+    let report = Report {
+        values,
+        own: cases::number(line, 5),
     };
     let words: &[u8] = b"The left sieve lets more grain by than before, since the belt was";
     let note = wire::front(words, cases::byte(line, 7) as usize);

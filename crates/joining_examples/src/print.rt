@@ -19,9 +19,9 @@ pub fn answer(a: Answer) {
 
 fn report(r: Report) {
     text(b" report");
-    number(r.loss as u64);
-    number(r.shake as u64);
-    number(r.number as u64);
+    number(r.values.loss as u64);
+    number(r.values.shake as u64);
+    number(r.own as u64);
 }
 
 // The size, the count and the next packet, and the payload bytes up to the last that isn't 255.

@@ -10,10 +10,8 @@ use borrow.Author.Tests.{eqb-false, ltb-true, ltb-false, leb-true, lt-ltb, eqb-t
 use lib.Dec.{eqb, ltb, leb}
 use lib.ListN.{getD, take, length, length-append}
 use lib.Seq.{take-nil, take-append-le, take-all, length-take-le}
-use Rattle.wire.specs.Bytes.{number, part}
-use Rattle.ranking.proofs.Tests.{clash, and-both}
+use Rattle.laws.proofs.Tests.{clash, and-both, if-not, if-so, either}
 use Rattle.window.specs.History.{Values}
-use Rattle.question.proofs.Taking.{if-not, if-so}
 use Rattle.board.specs.Work.{enterRefusal, enterWork}
 use Rattle.board.specs.declared.Board.{Board}
 use Rattle.board.specs.declared.Entered.{Entered}
@@ -21,9 +19,10 @@ use Rattle.report.specs.Payload.{isPayload, readPayload}
 use Rattle.report.specs.declared.Reading.{Reading}
 use Rattle.report.proofs.Reader.{range-of}
 use Rattle.report.specs.Payload as payload
+use Rattle.values.specs.Range as range
 use Rattle.report.specs.declared.Report.{Report}
 use Rattle.joining.specs.Frame.{Frame, senderOf, malformed, foreign, frameRefusal, isAnnouncement}
-use Rattle.joining.specs.Joining.{fit, sound, carries, stored, announce, packet, sizeIn, take-frame, yields}
+use Rattle.joining.specs.Joining.{fit, stored, announcementRefusal, announce, packet, take-frame, yields}
 use Rattle.joining.specs.Joining as joins
 use Rattle.joining.specs.Run.{freshSessions, sessionOf, answerTo, sessionsAt, answersAt}
 use Rattle.joining.specs.declared.Session.{Session}
@@ -32,20 +31,16 @@ use Rattle.joining.specs.declared.Answer.{Answer}
 use Rattle.joining.specs.declared.Answer.the-variants.{Refused, Kept, Complete}
 use Rattle.joining.proofs.Reached as session
 use Rattle.joining.proofs.Driving.{answers-more}
+use Rattle.joining.proofs.Steps.{announcement-refusals}
 use Rattle.text.proofs.Decimal.{below-or}
 use Rattle.journal.specs.Reached.{completed, enteredBy}
 use Rattle.journal.proofs.Printed.{refusal}
-
--- Both cases of a test.
-pub either : {A : Type 0} (P : A → Type 0) (b : Bool) {x y : A} → (b ≡ true → P x) → (b ≡ false → P y) → P (cond b x y)
-either P true f g = f refl
-either P false f g = g refl
 
 -- What an answer can say where no state is unfit: a refusal below 24, and a report with permitted values.
 abbrev pub Fine : Answer → Type 0
 Fine (Refused n) = (1 ≤ n) × (n ≤ 23)
 Fine Kept = Unit
-Fine (Complete r) = (r .loss ≤ 4095) × (r .shake ≤ 4095)
+Fine (Complete r) = (r .values .loss ≤ 4095) × (r .values .shake ≤ 4095)
 
 -- Refusals 1, 2 and 3 by their tests.
 abbrev first : Bool → Bool → Bool → ℕ
@@ -63,11 +58,11 @@ refusal-fine id d some = go (malformed id d) (foreign id) (ltb 253 (senderOf id)
 
 -- A fit session answers no 24.
 solo-fine : (s : Session) → fit s ≡ true → (id : ℕ) (d : List ℕ) → Fine (take-frame s id d .answer)
-unfolding take-frame announce packet readPayload payload.inRange
+unfolding take-frame announce packet readPayload range.inRange
 solo-fine s fits id d = go (eqb (frameRefusal id d) 0) refl
   where
-    report : (r : Report) → payload.inRange r ≡ true → (r .loss ≤ 4095) × (r .shake ≤ 4095)
-    report r t = let both = and-both (leb (r .loss) 4095) (leb (r .shake) 4095) t in (leb-true _ _ (both .0), leb-true _ _ (both .1))
+    report : (r : Report) → range.inRange (r .values) ≡ true → (r .values .loss ≤ 4095) × (r .values .shake ≤ 4095)
+    report r t = let both = and-both (leb (r .values .loss) 4095) (leb (r .values .shake) 4095) t in (leb-true _ _ (both .0), leb-true _ _ (both .1))
 
     A : Taken → Type 0
     A r = Fine (r .answer)
@@ -76,12 +71,8 @@ solo-fine s fits id d = go (eqb (frameRefusal id d) 0) refl
     heard =
         either A (isAnnouncement id)
         (λ t.
-        either A (not (eqb (getD d 0 0) 32)) (λ e. (omega arith, omega arith))
-        (λ e.
-        either A (not (sound d)) (λ f. (omega arith, omega arith))
-        (λ f.
-        either A (not (eqb (number (part 5 3 d)) 65300)) (λ g. (omega arith, omega arith))
-        (λ g. either A (not (carries (sizeIn d))) (λ h. (omega arith, omega arith)) (λ h. tt)))))
+        either A (eqb (announcementRefusal d) 0) (λ e. tt)
+        (λ e. let some = eqb-false (announcementRefusal d) 0 e in (omega arith, omega (arith, announcement-refusals d))))
         (λ t.
         either A (eqb (s .size) 0) (λ e. (omega arith, omega arith))
         (λ e.
@@ -124,7 +115,7 @@ completed-more : (l : List Answer) (a : Answer) → completed (l ++ a ∷ []) �
 completed-more [] a = refl
 completed-more (Refused n ∷ l) a = completed-more l a
 completed-more (Kept ∷ l) a = completed-more l a
-completed-more (Complete r ∷ l) a = ap (λ (vs : List Values). record { loss = r .loss; shake = r .shake } ∷ vs) (completed-more l a)
+completed-more (Complete r ∷ l) a = ap (λ (vs : List Values). record { loss = r .values .loss; shake = r .values .shake } ∷ vs) (completed-more l a)
 
 take-more : {A : Type 0} (n : ℕ) (l : List A) (x : A) → take n (l ++ x ∷ []) ≡ cond (ltb (length (take n l)) n) (take n l ++ x ∷ []) (take n l)
 take-more n l x =
@@ -151,9 +142,9 @@ module _ (fs : List Frame) (f : Frame) where
   nothing-more a e z = with-answer a e ∙ ap (take 1000000) (ap (λ l. completed (answersAt freshSessions fs) ++ l) z ∙ append-nil (completed (answersAt freshSessions fs)))
 
   pub one-more : (r : Report) → answer ≡ Complete r
-      → enteredBy (fs ++ f ∷ []) ≡ cond (ltb (length (enteredBy fs)) 1000000) (enteredBy fs ++ (record { loss = r .loss; shake = r .shake }) ∷ []) (enteredBy fs)
+      → enteredBy (fs ++ f ∷ []) ≡ cond (ltb (length (enteredBy fs)) 1000000) (enteredBy fs ++ (record { loss = r .values .loss; shake = r .values .shake }) ∷ []) (enteredBy fs)
   unfolding enteredBy
-  one-more r e = with-answer (Complete r) e ∙ take-more 1000000 (completed (answersAt freshSessions fs)) (record { loss = r .loss; shake = r .shake })
+  one-more r e = with-answer (Complete r) e ∙ take-more 1000000 (completed (answersAt freshSessions fs)) (record { loss = r .values .loss; shake = r .values .shake })
 
 pub enter-refusal : (b : Board) (loss shake : ℕ) → enterWork b loss shake .refusal ≡ enterRefusal (b .window .entered) loss shake
 unfolding enterWork

@@ -8,7 +8,7 @@ use borrow.Author.Tests.{ne-eqb}
 use lib.Dec.{eqb}
 use lib.ListN.{length, getD}
 use Rattle.window.specs.Rows.{added}
-use Rattle.board.specs.Work.{slotAt, setRefusal, enterRefusal, setWork}
+use Rattle.board.specs.Work.{slotAt, enterRefusal, setWork}
 use Rattle.board.specs.Calls.{setCall, enterCall}
 use Rattle.board.specs.declared.Board.{Board}
 use Rattle.board.specs.declared.Placed.{Placed}
@@ -47,15 +47,14 @@ module _ {log : Log} (reached : Reached log) (there : log .board .window .size �
   abbrev placed : Placed
   placed = setCall b slot (getD v 1 0) (weightsIn v)
 
-  module _ (six : length v ≡ 6) (taken : setRefusal b slot (getD v 1 0) (weightsIn v) ≡ 0) where
+  module _ (six : length v ≡ 6) (taken : placed .refusal ≡ 0) where
     -- It prints the steps of its search.
     pub set-prints : itemDone log 17 v ≡ record { text = sLine (nextItem (log .items)) slot (placed .steps); log = withBoard (counted log) (placed .board) }
-    unfolding byTag setItem setWork unless known
+    unfolding byTag setItem unless known
     set-prints =
         let done : Placed → Outcome = λ r. record { text = sLine (nextItem (log .items)) slot (r .steps); log = withBoard (counted log) (r .board) } in
-        let work = zero-is _ _ taken in
-        passes log 17 v (no-refusal 17 6 refl refl six) ∙ ap (λ (r : Placed). unless (counted log) (r .refusal) (done r)) work
-        ∙ sym (ap done (same-answers reached there .set slot (getD v 1 0) (weightsIn v) ∙ work))
+        let same = same-answers reached there .set slot (getD v 1 0) (weightsIn v) in
+        passes log 17 v (no-refusal 17 6 refl refl six) ∙ zero-is _ _ (sym (ap (λ (r : Placed). r .refusal) same) ∙ taken) ∙ sym (ap done same)
 
     -- And that search is exact.
     pub set-steps : Exactly (b .window) (getD v 1 0) (weightsIn v) (placed .steps) (slotAt (itemDone log 17 v .log .board) slot)
@@ -66,10 +65,10 @@ module _ {log : Log} (reached : Reached log) (there : log .board .window .size �
 
   -- ---- entering
 
-  module _ (r : Report) (twelve : length v ≡ 12) (completes : answerTo (log .sessions) (frameIn v) ≡ Complete r) (taken : enterRefusal (b .window .entered) (r .loss) (r .shake) ≡ 0) where
+  module _ (r : Report) (twelve : length v ≡ 12) (completes : answerTo (log .sessions) (frameIn v) ≡ Complete r) (taken : enterRefusal (b .window .entered) (r .values .loss) (r .values .shake) ≡ 0) where
     -- What the board's call answers to the report that a frame completes.
     abbrev entered : Entered
-    entered = enterCall b (r .loss) (r .shake)
+    entered = enterCall b (r .values .loss) (r .values .shake)
 
     -- The frame prints the steps of each search that the entry ran.
     pub enter-prints : itemDone log 18 v
@@ -82,13 +81,13 @@ module _ {log : Log} (reached : Reached log) (there : log .board .window .size �
         let next = withSessions (counted log) (sessionsAfter (log .sessions) (frameIn v)) in
         let done : Entered → Outcome = λ x. record { text = sLines (nextItem (log .items)) 0 (x .searched) (x .steps); log = withBoard next (x .board) } in
         passes log 18 v (no-refusal 18 12 refl refl twelve) ∙ ap (answered next) completes
-        ∙ zero-is _ _ (enter-refusal b (r .loss) (r .shake) ∙ taken)
-        ∙ sym (ap done (same-answers reached there .enter (r .loss) (r .shake)))
+        ∙ zero-is _ _ (enter-refusal b (r .values .loss) (r .values .shake) ∙ taken)
+        ∙ sym (ap done (same-answers reached there .enter (r .values .loss) (r .values .shake)))
 
     -- And each of these is exact, over the reports held after the entry.
     pub enter-steps : (i : ℕ) → i < 32 → getD (entered .searched) i false ≡ true
-        → Exactly (added (b .window) (r .loss) (r .shake)) (slotAt b i .k) (slotAt b i .weights) (getD (entered .steps) i 0) (slotAt (itemDone log 18 v .log .board) i)
+        → Exactly (added (b .window) (r .values .loss) (r .values .shake)) (slotAt b i .k) (slotAt b i .weights) (getD (entered .steps) i 0) (slotAt (itemDone log 18 v .log .board) i)
     enter-steps i h s =
         let own = log-board reached there in
-        subst (λ (o : Outcome). Exactly (added (b .window) (r .loss) (r .shake)) (slotAt b i .k) (slotAt b i .weights) (getD (entered .steps) i 0) (slotAt (o .log .board) i)) (sym enter-prints)
-        (enter-exact (own .0) (own .1) (r .loss) (r .shake) taken i h s)
+        subst (λ (o : Outcome). Exactly (added (b .window) (r .values .loss) (r .values .shake)) (slotAt b i .k) (slotAt b i .weights) (getD (entered .steps) i 0) (slotAt (o .log .board) i)) (sym enter-prints)
+        (enter-exact (own .0) (own .1) (r .values .loss) (r .values .shake) taken i h s)

@@ -124,7 +124,7 @@ enterItem log loss shake =
 abbrev pub answered : Log → Answer → Outcome
 answered log (Refused n) = refused log n
 answered log Kept = quiet log
-answered log (Complete r) = enterItem log (r .loss) (r .shake)
+answered log (Complete r) = enterItem log (r .values .loss) (r .values .shake)
 
 -- A frame in 12 bytes: "identifier in 4, data in 8".
 abbrev pub frameIn : List ℕ → Frame

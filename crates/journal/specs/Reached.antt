@@ -33,7 +33,7 @@ abbrev pub completed : List Answer → List Values
 completed [] = []
 completed (Refused n ∷ l) = completed l
 completed (Kept ∷ l) = completed l
-completed (Complete r ∷ l) = record { loss = r .loss; shake = r .shake } ∷ completed l
+completed (Complete r ∷ l) = record { loss = r .values .loss; shake = r .values .shake } ∷ completed l
 
 -- "The program enters a report when its last packet is read"; "at most 1,000,000".
 unfoldable pub enteredBy : List Frame → List Values

@@ -8,8 +8,8 @@ ghost use Rattle.joining.specs.Frame.{frameRefusal};
 ghost use Rattle.text.specs.Text.{behind, sLine};
 ghost use Rattle.journal.specs.Log.{Stores, freshLog, nextItem, counted, withBoard, withSessions, refused, known, itemRefusal, windowItem, signed16, weightsIn, setItem, removeItem, showItem, sLines, enterItem, answered, frameItem, byTag, itemDone};
 use board::Board;
+use bus::Bus;
 use joining::Answer;
-use joining::Bus;
 use joining::Frame;
 use joining::Sender;
 use joining::Session;
@@ -245,7 +245,7 @@ impl Log {
         match answer {
             Answer::Refused(n) => self.refused(n, out, at),
             Answer::Kept => Done { log: self, at },
-            Answer::Complete(r) => self.enter_item(r.loss, r.shake, out, at),
+            Answer::Complete(r) => self.enter_item(r.values.loss, r.values.shake, out, at),
         }
     }
 
@@ -348,7 +348,14 @@ fn put_searches(
 }
 
 // Prints the line of a slot, if it was searched.
-fn put_search(out: &mut [u8], at: usize, item: u64, slot: u8, searched: bool, steps: u16) -> usize
+pub fn put_search(
+    out: &mut [u8],
+    at: usize,
+    item: u64,
+    slot: u8,
+    searched: bool,
+    steps: u16,
+) -> usize
     ensures { λ r. ⌜ r ≡ behind at (cond searched (sLine item slot steps) []) ⌝ }
     ensures { λ _. ⌜ now (out .exit) ≡ sets (now (out .entry)) at (cond searched (sLine item slot steps) []) ⌝ }
 {

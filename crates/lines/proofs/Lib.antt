@@ -2,5 +2,4 @@
 pub mod Words
 pub mod Numbers
 pub mod ReadBack
-pub mod Pieces
 pub mod Outcomes

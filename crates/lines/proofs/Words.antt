@@ -2,7 +2,7 @@
 -- Assumes nothing.
 use mathlib.Core.Path.{_≡_, refl, sym, _∙_, ap}
 use mathlib.Core.Bool.{Bool, true, false, cond, _&&_}
-use mathlib.Core.List.{List, [], _∷_}
+use mathlib.Core.List.{List, [], _∷_, _++_}
 use Prim.Native.Nat.{ℕ, suc, _+_, _-_, _≤_, _<_}
 use native.Mathlib.Numerals.{add-one}
 use native.Mathlib.Omega.{arith}
@@ -12,8 +12,8 @@ use lib.ListN.{length, getD, take, drop, length-drop, drop-of-length-le}
 use lib.Seq.{drop-cons, drop-drop, take-all}
 use Rattle.wire.specs.Bytes.{same}
 use Rattle.lines.specs.declared.Run.{Run}
-use Rattle.lines.specs.declared.Run.the-variants.{Blanks, Letters, Until}
-use Rattle.lines.specs.Words.{counted, run, lineEnd, trimmed, behindWord, tailAt}
+use Rattle.lines.specs.declared.Run.the-variants.{Blanks, Letters}
+use Rattle.lines.specs.Words.{counted, run, trimmed, behindWord, tailAt}
 
 pub run-more : (kind : Run) (s : List ℕ) (i : ℕ) → i < length s → counted kind (getD s i 0) ≡ true
     → i + run kind (drop i s) ≡ i + 1 + run kind (drop (i + 1) s)
@@ -48,10 +48,23 @@ run-behind kind s w e = e ∙ ap (run kind) (all-behind s w)
 pub run-fits : (kind : Run) (s : List ℕ) (w : ℕ) {n : ℕ} → w ≤ length s → n ≡ run kind (drop w s) → w + n ≤ length s
 run-fits kind s w h e = omega (arith, e, run-within kind (drop w s), length-drop w s)
 
--- A line ends within the text.
-pub line-within : (s : List ℕ) (at : ℕ) → at ≤ length s → (at ≤ lineEnd at s) × (lineEnd at s ≤ length s)
-unfolding lineEnd
-line-within s at h = (omega arith, run-fits (Until 10) s at h refl)
+-- A run that fills a text goes on in what stands behind it, and one that doesn't ends there.
+pub run-over : (kind : Run) (p t : List ℕ) → length p ≤ run kind p → run kind (p ++ t) ≡ length p + run kind t
+unfolding run
+run-over kind [] t h = omega arith
+run-over kind (b ∷ p) t h = by-test (counted kind b) (length p) (run kind p) (run kind t) h (run-over kind p t)
+  where
+    by-test : (x : Bool) (l m k : ℕ) {n : ℕ} → suc l ≤ cond x (suc m) 0 → (l ≤ m → n ≡ l + k) → cond x (suc n) 0 ≡ suc l + k
+    by-test true l m k h e = omega (arith, e (omega arith))
+    by-test false l m k h e = absurd (omega arith)
+
+pub run-short : (kind : Run) (p t : List ℕ) → run kind p < length p → run kind (p ++ t) ≡ run kind p
+unfolding run
+run-short kind (b ∷ p) t h = by-test (counted kind b) (length p) (run kind p) h (run-short kind p t)
+  where
+    by-test : (x : Bool) (l m : ℕ) {n : ℕ} → cond x (suc m) 0 < suc l → (m < l → n ≡ m) → cond x (suc n) 0 ≡ cond x (suc m) 0
+    by-test true l m h e = ap suc (e (omega arith))
+    by-test false l m h e = refl
 
 -- Over a word and the blanks behind it.
 pub over-word : (s : List ℕ) {w n : ℕ} → w ≡ run Letters s → n ≡ run Blanks (drop w s) → drop (w + n) s ≡ trimmed (behindWord s)

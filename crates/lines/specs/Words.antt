@@ -18,10 +18,6 @@ unfoldable pub run : Run → List ℕ → ℕ
 run kind [] = 0
 run kind (b ∷ s) = cond (counted kind b) (suc (run kind s)) 0
 
--- Where the line that starts at `at` ends: at the next byte 10, or with the text.
-unfoldable pub lineEnd : ℕ → List ℕ → ℕ
-lineEnd at s = at + run (Until 10) (drop at s)
-
 -- Without the blanks at the front, and without the letters there.
 unfoldable pub trimmed : List ℕ → List ℕ
 trimmed s = drop (run Blanks s) s

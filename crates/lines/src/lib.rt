@@ -1,12 +1,10 @@
-// Words and numbers in a line of text, and lines gathered from input that comes in pieces.
+// Words and numbers in a line of text.
 // Words stand between blanks; a blank is the space or any byte below it, so tabs and carriage returns are blanks too.
 ghost use mathlib.Core.Path.{_≡_};
-ghost use Prim.Native.Nat.{_+_, _*_, _≤_, _<_, min};
+ghost use Prim.Native.Nat.{_+_, _*_, _≤_};
 ghost use lib.ListN.{drop, length};
-ghost use lib.Dec.{leb};
 ghost use Rattle.wire.specs.Bytes.{same};
-ghost use Rattle.lines.specs.Words.{counted, run, lineEnd, tailAt, wordAt, trimmed, behindWord};
-ghost use Rattle.lines.specs.Gathering.{freshLine, added};
+ghost use Rattle.lines.specs.Words.{counted, run, tailAt, wordAt, trimmed, behindWord};
 ghost use Rattle.lines.specs.Numbers.{unknown, digitOf, withDigit, numberOn, numberIn, shortIn, negated};
 
 // Which bytes in a row are counted.
@@ -43,16 +41,6 @@ impl Run {
             Run::Until(end) => b != end,
         }
     }
-}
-
-// Where the line that starts at `at` ends: at the next byte 10, or with the text.
-pub fn line_end(s: &[u8], at: usize) -> usize
-    ensures { λ r. ⌜ r ≡ lineEnd at (now (s .entry)) ⌝ }
-{
-    if s.len() < at {
-        return at;
-    }
-    at + Run::Until(b'\n').length(&s[at..])
 }
 
 // What is left of a line behind its first n words, without blanks before it.
@@ -92,60 +80,6 @@ fn next(s: &[u8]) -> usize
 {
     let word = Run::Letters.length(s);
     word + Run::Blanks.length(&s[word..])
-}
-
-// A line that is gathered piece by piece. Of one that is longer than the longest only the front is kept, and its size is
-// one more.
-pub struct Line {
-    pub bytes: [u8; Line::LONGEST],
-    pub size: usize,
-}
-
-impl Line {
-    pub const LONGEST: usize = 512;
-
-    // Nothing gathered.
-    pub fn fresh() -> Line
-        ensures { λ r. ⌜ r ≡ freshLine ⌝ }
-    {
-        Line {
-            bytes: [0u8; Line::LONGEST],
-            size: 0,
-        }
-    }
-
-    // The line with a piece behind it.
-    pub fn add(self, piece: &[u8]) -> Line
-        ensures { λ r. ⌜ r ≡ added self (now (piece .entry)) ⌝ }
-    {
-        let at = self.size;
-        let mut bytes = self.bytes;
-        wire::put_all(&mut bytes, at, piece);
-        Line {
-            bytes,
-            size: grown(at, piece.len()),
-        }
-    }
-
-    // Whether it is not too long.
-    pub fn fits(self) -> bool
-        ensures { λ r. ⌜ r ≡ leb (self .size) 512 ⌝ }
-    {
-        self.size <= Line::LONGEST
-    }
-}
-
-// A size and n bytes more; where that is too long, one more than the longest.
-fn grown(size: usize, n: usize) -> usize
-    ensures { λ r. ⌜ r ≡ min (size + n) 513 ⌝ }
-{
-    if Line::LONGEST < size {
-        return Line::LONGEST + 1;
-    }
-    if Line::LONGEST - size < n {
-        return Line::LONGEST + 1;
-    }
-    size + n
 }
 
 // Whether two texts are the same.

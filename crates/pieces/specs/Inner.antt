@@ -8,7 +8,7 @@ use Rattle.wire.specs.Bytes.{number, part}
 use Rattle.window.specs.Rows.{sized}
 use Rattle.question.specs.declared.Question.{Question}
 use Rattle.board.specs.Work.{arrival}
-use Rattle.board.specs.Gauges.{upToLast}
+use Rattle.slot.specs.Gauges.{upToLast}
 use Rattle.text.specs.Text.{rLine, qLine, sLine, listed}
 use Rattle.joining.specs.declared.Answer.{Answer}
 use Rattle.joining.specs.declared.Answer.the-variants.{Refused, Kept, Complete}
@@ -40,5 +40,5 @@ abbrev pub brought : Answer → (size entered held : ℕ) → Brought
 brought (Refused n) size entered held = record { refused = true; code = n; number = 0; oldest = 0; loss = 0; shake = 0 }
 brought Kept size entered held = record { refused = false; code = 0; number = 0; oldest = 0; loss = 0; shake = 0 }
 brought (Complete r) size entered held =
-    let a = arrival size entered held (r .loss) (r .shake) in
-    record { refused = not (eqb (a .refusal) 0); code = a .refusal; number = a .number; oldest = a .oldest; loss = r .loss; shake = r .shake }
+    let a = arrival size entered held (r .values .loss) (r .values .shake) in
+    record { refused = not (eqb (a .refusal) 0); code = a .refusal; number = a .number; oldest = a .oldest; loss = r .values .loss; shake = r .values .shake }

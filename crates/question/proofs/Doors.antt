@@ -8,12 +8,12 @@ use Prim.Native.Nat.{ℕ, _+_, min, _≤_, _<_}
 use borrow.Author.Tests.{leb-true, leb-false}
 use lib.Dec.{leb, eqb}
 use lib.ListN.{drop}
-use Rattle.ranking.specs.Best.{only}
+use Rattle.laws.specs.Lists.{only}
 use Rattle.ranking.specs.Cells.{cell, inRange, placeOf, cellAt}
 use Rattle.ranking.specs.Standing.{Held, Entry, above, entry}
-use Rattle.ranking.proofs.Tests.{Tested, passed, failed, tested, clash, and-both}
-use Rattle.ranking.proofs.Lists.{_⊆_, Same, moved, only-in, only-of}
-use Rattle.ranking.proofs.Best.{best-same}
+use Rattle.laws.proofs.Tests.{Tested, passed, failed, tested, clash, and-both}
+use Rattle.laws.proofs.Lists.{_⊆_, Same, moved, only-in, only-of}
+use Rattle.search.proofs.Best.{best-same}
 use Rattle.ranking.proofs.Standing.{above-strict}
 use Rattle.window.specs.declared.Window.{Window}
 use Rattle.window.specs.Rows.{heldReports, fitWindow}

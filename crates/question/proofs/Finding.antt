@@ -13,16 +13,18 @@ use lib.IntN.{ℤ, pos, negsuc}
 use lib.Signed.{ltZ, mag}
 use lib.ListN.{length, take, getD, replicate, length-take, length-append, length-replicate}
 use lib.Seq.{take-nil}
-use Rattle.ranking.specs.Best.{_∈_, best, onLast}
+use Rattle.laws.specs.Lists.{_∈_, onLast}
+use Rattle.search.specs.Best.{best}
 use Rattle.ranking.specs.Cells.{cellAt, visiting, reaching, reachOf}
-use Rattle.ranking.specs.Search.{steps, found}
+use Rattle.search.specs.Search.{steps, found}
 use Rattle.ranking.specs.Standing.{Held, Entry, above, entry, searchOf, Permitted}
 use Rattle.ranking.specs.declared.Weights.{Weights}
 use Rattle.ranking.specs.declared.Reach.{Reach}
-use Rattle.ranking.proofs.Tests.{Tested, passed, failed, tested, clash}
-use Rattle.ranking.proofs.Lists.{getD-past}
-use Rattle.ranking.proofs.Best.{length-best-le, best-skip, one-way}
-use Rattle.ranking.proofs.Search.{All}
+use Rattle.laws.proofs.Tests.{Tested, passed, failed, tested, clash, if-so, if-not}
+use Rattle.laws.proofs.Lists.{getD-past}
+use Rattle.laws.proofs.Orders.{one-way}
+use Rattle.search.proofs.Best.{length-best-le, best-skip}
+use Rattle.search.proofs.Search.{All}
 use Rattle.ranking.proofs.Scan.{left-none}
 use Rattle.ranking.proofs.Standing.{above-strict, found-best, steps-all, steps-full}
 use Rattle.window.specs.declared.Window.{Window}
@@ -34,7 +36,7 @@ use Rattle.question.specs.Lines.{linesOf, lines, asked, searched, search
 use Rattle.question.specs.Inner.{shown, joined, at, barIn, leastAt, barOf, admits, Placing, gathered, endedOf}
 use Rattle.question.proofs.Stored.{Roomy, lines-asked, length-lines, last-line}
 use Rattle.question.proofs.Sliding.{placed-joined}
-use Rattle.question.proofs.Taking.{if-so, if-not, joined-best}
+use Rattle.question.proofs.Taking.{joined-best}
 
 -- ---- the bar
 

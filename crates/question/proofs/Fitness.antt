@@ -16,9 +16,9 @@ use mir.Facts.{toZ-ofZ}
 use mir.Syntax.{w32}
 use mir.Val.{SFits, toZ, ofZ}
 use Rattle.ranking.specs.Standing.{Entry, above}
-use Rattle.ranking.proofs.Tests.{Tested, passed, failed, tested, clash, and-both, or-left, or-right}
-use Rattle.ranking.proofs.Words.{kept}
-use Rattle.ranking.proofs.Whole.{ltZ-strict}
+use Rattle.laws.proofs.Tests.{Tested, passed, failed, tested, clash, and-both, or-left, or-right}
+use Rattle.laws.proofs.Words.{kept}
+use Rattle.laws.proofs.Whole.{ltZ-strict}
 use Rattle.window.specs.Rows.{sized, rowOf}
 use Rattle.question.specs.declared.Question.{Question}
 use Rattle.question.specs.Lines.{linesOf}

@@ -14,11 +14,12 @@ use lib.Seq.{take-all, take-take, take-append-le, length-take-le}
 use mir.Facts.{toZ-ofZ}
 use mir.Syntax.{w32}
 use mir.Val.{SFits, toZ, ofZ}
-use Rattle.ranking.specs.Best.{place}
+use Rattle.search.specs.Best.{place}
 use Rattle.ranking.specs.Standing.{Entry, above}
 use Rattle.ranking.specs.declared.Weights.{Weights}
-use Rattle.ranking.proofs.Best.{place-first, place-later, place-same, one-way}
-use Rattle.ranking.proofs.Tests.{Tested, passed, failed, tested, clash}
+use Rattle.laws.proofs.Orders.{one-way}
+use Rattle.search.proofs.Best.{place-first, place-later, place-same}
+use Rattle.laws.proofs.Tests.{Tested, passed, failed, tested, clash}
 use Rattle.ranking.proofs.Standing.{above-strict}
 use Rattle.question.specs.declared.Question.{Question}
 use Rattle.question.specs.Lines.{linesOf, lines, asked}

@@ -12,11 +12,11 @@ use lib.Dec.{leb}
 use lib.IntN.{ℤ, pos}
 use lib.ListN.{length, take, drop, getD, replicate, length-map, drop-of-length-le}
 use lib.Seq.{take-all, take-suc, length-take-le, drop-cons, getD-take}
-use Rattle.ranking.specs.Best.{onLast}
+use Rattle.laws.specs.Lists.{onLast}
 use Rattle.ranking.specs.Standing.{Entry}
 use Rattle.ranking.specs.declared.Weights.{Weights}
-use Rattle.ranking.proofs.Lists.{last-at}
-use Rattle.ranking.proofs.Tests.{Tested, passed, failed, tested}
+use Rattle.laws.proofs.Lists.{last-at}
+use Rattle.laws.proofs.Tests.{Tested, passed, failed, tested}
 use Rattle.question.specs.declared.Question.{Question}
 use Rattle.question.specs.Lines.{linesOf, lines, asked}
 use Rattle.question.specs.Inner.{shown}

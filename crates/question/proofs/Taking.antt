@@ -2,7 +2,7 @@
 -- Assumes nothing.
 use mathlib.Core.Path.{_≡_, sym, ap, ap₂, _∙_, subst}
 use mathlib.Core.Logic.{⊎-elim}
-use mathlib.Core.Bool.{Bool, true, false, cond, _&&_, and-false}
+use mathlib.Core.Bool.{Bool, true, false, _&&_, and-false}
 use mathlib.Core.List.{List, [], _∷_, _++_, map, append-nil, List·Memᴰ·head, List·Memᴰ·cases-cons, Memᴰ·append-left, Memᴰ·append-right, List·Memᴰ·append-cases}
 use Prim.Native.Nat.{ℕ, suc, _+_, _≤_, _<_}
 use native.Mathlib.Numerals.{add-one}
@@ -12,13 +12,14 @@ use lib.Dec.{eqb, leb, ltb}
 use lib.IntN.{ℤ}
 use lib.ListN.{length, take, getD, length-take}
 use lib.Seq.{take-take, take-nil}
-use Rattle.ranking.specs.Best.{best, place, only}
+use Rattle.laws.specs.Lists.{only}
+use Rattle.search.specs.Best.{best, place}
 use Rattle.ranking.specs.Cells.{cell, placeOf, cellAt}
 use Rattle.ranking.specs.Standing.{Held, Entry, above, entry}
 use Rattle.ranking.specs.declared.Weights.{Weights}
-use Rattle.ranking.proofs.Tests.{Tested, passed, failed, tested, and-true}
-use Rattle.ranking.proofs.Lists.{_⊆_, there}
-use Rattle.ranking.proofs.Best.{best-cons, best-snoc, best-append, best-same, length-best-le}
+use Rattle.laws.proofs.Tests.{Tested, passed, failed, tested, and-true, if-so, if-not}
+use Rattle.laws.proofs.Lists.{_⊆_, there, only-yes, only-no}
+use Rattle.search.proofs.Best.{best-cons, best-snoc, best-append, best-same, length-best-le}
 use Rattle.ranking.proofs.Standing.{above-strict}
 use Rattle.window.specs.declared.Window.{Window}
 use Rattle.window.specs.Rows.{reportIn, standing}
@@ -27,20 +28,6 @@ use Rattle.question.specs.Lines.{linesOf, lines, asked, cutToK, stepped,
 use Rattle.question.specs.Inner.{joined, taking, listTaken, at}
 use Rattle.question.proofs.Stored.{Roomy, lineAt, take-line, lines-asked}
 use Rattle.question.proofs.Placed.{Has, has-none}
-
--- ---- tests
-
-pub if-so : {A : Type 0} {b : Bool} (x y : A) → b ≡ true → cond b x y ≡ x
-if-so x y e = ap (λ t. cond t x y) e
-
-pub if-not : {A : Type 0} {b : Bool} (x y : A) → b ≡ false → cond b x y ≡ y
-if-not x y e = ap (λ t. cond t x y) e
-
-only-yes : {A : Type 0} (p : A → Bool) (x : A) (l : List A) → p x ≡ true → only p (x ∷ l) ≡ x ∷ only p l
-only-yes p x l e = rw (e, only)
-
-only-no : {A : Type 0} (p : A → Bool) (x : A) (l : List A) → p x ≡ false → only p (x ∷ l) ≡ only p l
-only-no p x l e = rw (e, only)
 
 module _ (q : Question) (h : Held) where
   pub taking-none : eqb (h .number) 0 ≡ true → taking q h ≡ q

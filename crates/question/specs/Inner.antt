@@ -6,7 +6,8 @@ use mathlib.Core.List.{List, [], _∷_, map, _++_}
 use lib.ListN.{length, take, drop, getD, replicate}
 use lib.IntN.{ℤ, pos, negsuc}
 use lib.Dec.{eqb}
-use Rattle.ranking.specs.Best.{best, place, only}
+use Rattle.laws.specs.Lists.{only}
+use Rattle.search.specs.Best.{best, place}
 use Rattle.ranking.specs.Cells.{cell, cellAt, reaching}
 use Rattle.ranking.specs.Standing.{Held, Entry, above, entry}
 use Rattle.window.specs.declared.Window.{Window}

@@ -5,7 +5,7 @@ ghost use Prim.Native.Nat.{min, _+_, _%_, _≤_, _<_};
 ghost use Rattle.window.specs.Rows.{standing};
 ghost use lib.ListN.{take, drop};
 ghost use lib.IntN.{pos};
-ghost use Rattle.ranking.specs.Best.{best};
+ghost use Rattle.search.specs.Best.{best};
 ghost use Rattle.ranking.specs.Standing.{above};
 ghost use Rattle.question.specs.Lines.{asked, linesOf, lines, emptySlot, withEntry, cutToK, finished, begun, stepOn, rowsOf, searchedOn, searchedFirst, stepsTaken, isMarked, marksOf};
 ghost use Rattle.question.specs.Calls.{allOf, holdsNumber, heldAs, falls, blank, rangesFit, fitQuestion, stepCall, beginCall};

@@ -14,14 +14,14 @@ use lib.IntN.{ℤ, pos, negsuc, natAbs, _*ℤ_}
 use lib.Signed.{ltZ, natAbs-le}
 use mir.Syntax.{w16, w32}
 use mir.Val.{SFits}
-use Rattle.ranking.specs.Best.{_∈_}
+use Rattle.laws.specs.Lists.{_∈_}
 use Rattle.ranking.specs.Cells.{score, cell, corner, bestScore, greater, before, count, cells, visiting}
 use Rattle.ranking.specs.declared.Weights.{Weights}
-use Rattle.ranking.proofs.Tests.{Tested, passed, failed, tested, clash}
-use Rattle.ranking.proofs.Lists.{Pairwise, Distinct, Same, there, pairwise-map, lt-or-eq}
-use Rattle.ranking.proofs.Best.{StrictTotal, Falling, one-way, rank-in, rank-of, rank-falling, falling-distinct, length-rank}
-use Rattle.ranking.proofs.Search.{ltb-strict}
-use Rattle.ranking.proofs.Whole.{ltZ-strict, Up, up-le, up-sum, up-times, down-times, mag-le, abs-times, abs-sum}
+use Rattle.laws.proofs.Tests.{Tested, passed, failed, tested, clash}
+use Rattle.laws.proofs.Lists.{Pairwise, Distinct, Same, there, pairwise-map, lt-or-eq}
+use Rattle.laws.proofs.Orders.{StrictTotal, one-way, ltb-strict}
+use Rattle.search.proofs.Best.{Falling, rank-in, rank-of, rank-falling, falling-distinct, length-rank}
+use Rattle.laws.proofs.Whole.{ltZ-strict, Up, up-le, up-sum, up-times, down-times, mag-le, abs-times, abs-sum}
 
 -- ---- by a number, and then by a tie
 

@@ -6,12 +6,12 @@ use mathlib.Core.List.{List, [], _∷_}
 use Prim.Native.Nat.{ℕ, _%_, _/_}
 use lib.IntN.{ℤ, pos, negsuc, _+ℤ_, _*ℤ_, zero-*ℤ}
 use lib.Signed.{ltZ}
-use Rattle.ranking.specs.Best.{_∈_}
-use Rattle.ranking.specs.Search.{steps, marks, entries}
+use Rattle.laws.specs.Lists.{_∈_}
+use Rattle.search.specs.Search.{steps, marks, entries}
 use Rattle.ranking.specs.Cells.{score, corner, visiting}
 use Rattle.ranking.specs.Standing.{Held, Entry, searchOf, reaches}
 use Rattle.ranking.specs.declared.Weights.{Weights}
-use Rattle.ranking.proofs.Search.{entries-of, all-steps}
+use Rattle.search.proofs.Search.{entries-of, all-steps}
 use Rattle.ranking.proofs.Cells.{length-visiting}
 use Rattle.ranking.proofs.Standing.{above-strict}
 

@@ -1,14 +1,6 @@
-pub mod Tests
-pub mod Lists
-pub mod Best
-pub mod Least
-pub mod Search
-pub mod Whole
 pub mod Cells
 pub mod Standing
 pub mod Scan
 pub mod Reaching
-pub mod Guard
-pub mod Words
 pub mod Examples
 pub mod Outcomes

@@ -1,7 +1,7 @@
 -- Any two outcomes that a contract allows are equal, since each contract is an equation.
 -- Assumes nothing.
 use mathlib.Core.Path.{sym, _∙_}
-use Rattle.wire.proofs.Outcomes.{OneAnswer}
+use Rattle.laws.proofs.Outcomes.{OneAnswer}
 use Rattle.ranking.proofs.Weights.fit.Kinds as fit-kinds
 use Rattle.ranking.proofs.Weights.fit.Reads as fit-reads
 use Rattle.ranking.proofs.Weights.score.Kinds as score-kinds

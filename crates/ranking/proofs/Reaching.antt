@@ -13,16 +13,16 @@ use lib.Dec.{leb, ltb}
 use lib.IntN.{ℤ}
 use lib.ListN.{length, drop}
 use lib.Signed.{ltZ}
-use Rattle.ranking.specs.Best.{_∈_, only}
+use Rattle.laws.specs.Lists.{_∈_, only}
 use Rattle.ranking.specs.Cells.{bestScore, before, count, cells, visiting, reaching, reachOf}
 use Rattle.ranking.specs.Scan.{met, metRow}
 use Rattle.ranking.specs.declared.Sought.{Sought}
 use Rattle.ranking.specs.declared.Weights.{Weights}
-use Rattle.ranking.proofs.Tests.{Tested, passed, failed, tested, clash, or-left, or-right}
-use Rattle.ranking.proofs.Lists.{First, Other, pairwise-map, pairwise-only, only-in, only-of, fails-left, left-fails}
-use Rattle.ranking.proofs.Best.{ahead, length-same}
-use Rattle.ranking.proofs.Search.{ltb-strict}
-use Rattle.ranking.proofs.Whole.{ltZ-strict}
+use Rattle.laws.proofs.Tests.{Tested, passed, failed, tested, clash, or-left, or-right}
+use Rattle.laws.proofs.Lists.{First, Other, pairwise-map, pairwise-only, only-in, only-of, fails-left, left-fails}
+use Rattle.laws.proofs.Orders.{ahead, ltb-strict}
+use Rattle.search.proofs.Best.{length-same}
+use Rattle.laws.proofs.Whole.{ltZ-strict}
 use Rattle.ranking.proofs.Cells.{more, greater-by, greater-tie, Numbers, less, equal, numbers, less-by, before-best, cells-distinct, visiting-in, visiting-same, visiting-falling, visiting-distinct}
 use Rattle.ranking.proofs.Scan.{Scanned, scanned-none, scanned-take, scanned-leave, scanned-left, counted-yes, counted-no}
 

@@ -12,14 +12,14 @@ use borrow.Author.Tests.{lt-ltb, le-ltb, ltb-true, ltb-false}
 use lib.Dec.{ltb}
 use lib.ListN.{length, take, drop, length-append, take-append-drop, drop-of-length-le}
 use lib.Seq.{take-suc, drop-cons}
-use Rattle.ranking.specs.Best.{_∈_, only}
+use Rattle.laws.specs.Lists.{_∈_, only}
 use Rattle.ranking.specs.Cells.{before, count, cells, visiting, placeOf, cellAt}
 use Rattle.ranking.specs.Scan.{leads, nearer, placeAfter}
 use Rattle.ranking.specs.declared.Weights.{Weights}
-use Rattle.ranking.proofs.Tests.{Tested, passed, failed, tested, clash, and-both, and-true}
-use Rattle.ranking.proofs.Lists.{Pairwise, here, drop-⊆, lt-or-eq, pairwise-at, pairwise-drop, pairwise-only, only-in, only-of, index-of, getD-in, getD-left, getD-past, only-append, placed, inside, take-more, Other}
-use Rattle.ranking.proofs.Best.{opposite, differs, falling-place, length-same}
-use Rattle.ranking.proofs.Search.{ltb-strict}
+use Rattle.laws.proofs.Tests.{Tested, passed, failed, tested, clash, and-both, and-true}
+use Rattle.laws.proofs.Lists.{Pairwise, here, drop-⊆, lt-or-eq, pairwise-at, pairwise-drop, pairwise-only, only-in, only-of, index-of, getD-in, getD-left, getD-past, only-append, placed, inside, take-more, Other}
+use Rattle.laws.proofs.Orders.{opposite, differs, ltb-strict}
+use Rattle.search.proofs.Best.{falling-place, length-same}
 use Rattle.ranking.proofs.Cells.{before-strict, visiting-in, visiting-of, visiting-same, visiting-falling, visiting-distinct, length-visiting, cells-distinct}
 
 -- ---- counting

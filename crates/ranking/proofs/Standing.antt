@@ -11,16 +11,18 @@ use lib.Dec.{ltb}
 use lib.ListN.{length, length-map}
 use lib.IntN.{ℤ}
 use lib.Signed.{ltZ}
-use Rattle.ranking.specs.Best.{_∈_, best, onLast, only}
-use Rattle.ranking.specs.Search.{heldIn, entries, steps, found, marks, matters}
+use Rattle.laws.specs.Lists.{_∈_, onLast, only}
+use Rattle.search.specs.Best.{best}
+use Rattle.search.specs.Search.{heldIn, entries, steps, found, marks, matters}
 use Rattle.ranking.specs.Cells.{score, cell, corner, bestScore, greater, before, cells, visiting, reaching}
 use Rattle.ranking.specs.Standing.{Held, Entry, above, entry, reaches, searchOf, Permitted, Wanted}
 use Rattle.ranking.specs.declared.Weights.{Weights}
-use Rattle.ranking.proofs.Tests.{Tested, passed, failed, tested, clash}
-use Rattle.ranking.proofs.Lists.{Distinct, pairwise-map, pairwise-take, Pairwise, Same, Other, only-in, only-of, only-same, pairwise-only, take-⊆}
-use Rattle.ranking.proofs.Best.{StrictTotal, ahead, length-best, one-way, length-same}
-use Rattle.ranking.proofs.Search.{All, Sound, Newest, ltb-strict, found-is, steps-open, marked, mattering, steps-count, steps-le, wanted, local-found, local-marks, local-steps, length-marks}
-use Rattle.ranking.proofs.Whole.{ltZ-strict}
+use Rattle.laws.proofs.Tests.{Tested, passed, failed, tested, clash}
+use Rattle.laws.proofs.Lists.{Distinct, pairwise-map, pairwise-take, Pairwise, Same, Other, only-in, only-of, only-same, pairwise-only, take-⊆}
+use Rattle.laws.proofs.Orders.{StrictTotal, ahead, one-way, ltb-strict}
+use Rattle.search.proofs.Best.{length-best, length-same}
+use Rattle.search.proofs.Search.{All, Sound, Newest, found-is, steps-open, marked, mattering, steps-count, steps-le, wanted, local-found, local-marks, local-steps, length-marks}
+use Rattle.laws.proofs.Whole.{ltZ-strict}
 use Rattle.ranking.proofs.Cells.{more, greater-by, greater-tie, Numbers, less, equal, numbers, greater-strict, visiting-in, visiting-of, visiting-same, visiting-falling, visiting-distinct, length-visiting, cells-distinct, before-best, score-bound, corner-cell, corner-loss, corner-shake, cell-fits, greater-of, less-by, cells-in, cells-of}
 
 -- reports are ranked strictly and totally

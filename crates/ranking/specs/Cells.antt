@@ -6,7 +6,8 @@ use lib.Dec.{ltb}
 use lib.ListN.{length, getD}
 use lib.IntN.{ℤ, pos, negsuc, _+ℤ_, _*ℤ_}
 use lib.Signed.{ltZ, leZ}
-use Rattle.ranking.specs.Best.{rank, only}
+use Rattle.laws.specs.Lists.{only}
+use Rattle.search.specs.Best.{rank}
 use Rattle.ranking.specs.declared.Weights.{Weights}
 use Rattle.ranking.specs.declared.Reach.{Reach}
 

@@ -6,8 +6,9 @@ use Prim.Native.Nat.{ℕ, _≤_, _<_}
 use lib.Dec.{ltb}
 use lib.IntN.{ℤ}
 use lib.Signed.{ltZ}
-use Rattle.ranking.specs.Best.{best, _∈_}
-use Rattle.ranking.specs.Search.{Search}
+use Rattle.laws.specs.Lists.{_∈_}
+use Rattle.search.specs.Best.{best}
+use Rattle.search.specs.Search.{Search}
 use Rattle.ranking.specs.Cells.{score, cell, bestScore, greater, visiting}
 use Rattle.ranking.specs.declared.Weights.{Weights}
 

@@ -17,6 +17,7 @@ use report::Payload;
 use report::Reading;
 use report::Report;
 use report::Written;
+use values::Values;
 
 fn main() {
     let mut space = io::large_buffer();
@@ -66,10 +67,13 @@ fn write(line: &[u8]) {
 
 // What the writer answers, and the room that it leaves.
 fn written(room: &mut [u8], line: &[u8], noted: bool, note: &[u8]) {
-    let report = Report {
+    let values = Values {
         loss: cases::short(line, 2),
         shake: cases::short(line, 3),
-        number: cases::number(line, 4),
+    };
+    let report = Report {
+        values,
+        own: cases::number(line, 4),
     };
     text(b" written");
     match Payload::write(room, report, noted, note) {
@@ -93,9 +97,9 @@ fn read(p: &[u8]) {
 
 fn accepted(r: Report) {
     text(b" accepted");
-    number(r.loss as u64);
-    number(r.shake as u64);
-    number(r.number as u64);
+    number(r.values.loss as u64);
+    number(r.values.shake as u64);
+    number(r.own as u64);
 }
 
 fn long(line: &[u8]) {

@@ -4,117 +4,40 @@ use commands::Answer;
 use commands::Command;
 use commands::Fault;
 use commands::Kind;
+use input::Input;
+use input::Next;
 use libc::STDERR_FILENO;
-use libc::STDIN_FILENO;
 use libc::STDOUT_FILENO;
-use lines::Line;
 
-// The line as far as it has come, how many came before it, whether there is more to read, and
-// whether what was written so far was taken.
-struct Sender {
-    line: Line,
-    before: u64,
-    more: bool,
-    going: bool,
-}
-
+// Sends line after line, to the end of the text or to a write that fails. A proved loop has to end, so it counts its turns down
+// from a number that no run uses up.
 fn main() {
-    let line = Line::fresh();
-    let last = all(Sender {
-        line,
-        before: 0,
-        more: true,
-        going: true,
-    });
-    if last.going && 0 < last.line.size {
-        ended(last);
-    }
-}
-
-// Reads to the end of the text. A proved loop has to end, so it counts its turns down from a number that no run uses up.
-fn all(fresh: Sender) -> Sender {
-    let mut s = fresh;
+    let mut input = Input::fresh();
+    let mut line = [0u8; Input::LONGEST];
+    let mut space = io::buffer();
     let mut turns = u64::MAX;
     while turns > 0 {
-        s = some(s);
-        if !s.more || !s.going {
-            return s;
-        }
         turns -= 1;
-    }
-    s
-}
-
-// Reads once, and sends the lines that came.
-fn some(s: Sender) -> Sender {
-    let mut space = io::buffer();
-    let got = libc::read(STDIN_FILENO, &mut space);
-    let n = io::count(got, &space);
-    if n == 0 {
-        let line = s.line;
-        return Sender {
-            line,
-            before: s.before,
-            more: false,
-            going: s.going,
+        let Next::Line(found) = input.next(&mut line, &mut space) else {
+            break;
         };
-    }
-    lines_in(s, &space[..n])
-}
-
-// Takes a piece of the text: each line that ends in it is sent, and the rest waits.
-fn lines_in(from: Sender, piece: &[u8]) -> Sender {
-    let mut s = from;
-    let mut at: usize = 0;
-    while at < piece.len() {
-        let end = lines::line_end(piece, at);
-        s = gathered(s, &piece[at..end]);
-        if end < piece.len() {
-            s = ended(s);
-            if !s.going {
-                return s;
-            }
+        input = found;
+        if !sent(found, &line) {
+            break;
         }
-        at = end + 1;
-    }
-    s
-}
-
-fn gathered(s: Sender, piece: &[u8]) -> Sender {
-    let line = s.line;
-    let longer = line.add(piece);
-    Sender {
-        line: longer,
-        before: s.before,
-        more: s.more,
-        going: s.going,
-    }
-}
-
-// Sends the line that has come, and begins the next one.
-fn ended(s: Sender) -> Sender {
-    let number = std::num::wrapping_add_u64(s.before, 1);
-    let line = s.line;
-    let bytes = line.bytes;
-    let going = sent(number, line.fits(), wire::front(&bytes, line.size));
-    let next = Line::fresh();
-    Sender {
-        line: next,
-        before: number,
-        more: s.more,
-        going,
     }
 }
 
 // Writes a line's items, or what is wrong with it. False where its items could not be written.
-fn sent(number: u64, fits: bool, line: &[u8]) -> bool {
-    if !fits {
+fn sent(found: Input, line: &[u8]) -> bool {
+    let number = found.number;
+    if !found.fits() {
         wrong(number);
         say(b"longer than 512 bytes\n");
         return true;
     }
     let mut room = [0u8; Command::LARGEST];
-    let answer = commands::write(line, &mut room);
+    let answer = commands::write(wire::front(line, found.size), &mut room);
     match answer {
         Answer::Items(n) => io::write_all(STDOUT_FILENO, wire::front(&room, n)),
         Answer::Wrong(fault) => {

@@ -10,8 +10,8 @@ use borrow.Author.Tests.{leb-true, eqb-true, le-leb, lt-ltb, le-ltb, eq-eqb, ne-
 use lib.Dec.{leb, ltb, eqb}
 use lib.ListN.{length, getD, set, length-set, replicate, length-replicate, getD-replicate}
 use lib.Seq.{getD-set-same, getD-set-other}
-use Rattle.ranking.proofs.Tests.{Tested, passed, failed, tested, clash, and-both, and-true}
-use Rattle.ranking.proofs.Lists.{lt-or-eq}
+use Rattle.laws.proofs.Tests.{Tested, passed, failed, tested, clash, and-both, and-true}
+use Rattle.laws.proofs.Lists.{lt-or-eq}
 use Rattle.window.specs.Rows.{sized, empty, freshWindow, rowOf, age, due, holds, rowFit, rowsFit, countsFit, fitWindow, grown, added}
 use Rattle.window.specs.declared.Window.{Window}
 use Rattle.window.proofs.Ring.{Ring, next-ring, due-new, due-later}

@@ -9,8 +9,8 @@ use native.Mathlib.Omega.{arith}
 use lib.ListN.{length, drop, length-append}
 use lib.Seq.{drop-append-le, drop-drop, drop-nil}
 use Rattle.ranking.specs.Standing.{Held, Permitted}
-use Rattle.ranking.proofs.Lists.{here, there}
-use Rattle.ranking.proofs.Search.{All}
+use Rattle.laws.proofs.Lists.{here, there}
+use Rattle.search.proofs.Search.{All}
 use Rattle.window.specs.Rows.{sized, empty, heldReports, fitWindow, added, grown}
 use Rattle.window.specs.History.{Values, numbered, latest, after}
 use Rattle.window.specs.declared.Window.{Window}

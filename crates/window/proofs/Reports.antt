@@ -8,9 +8,9 @@ use native.Mathlib.Nat.{add-zero, eq-or-lt-of-le, not-suc-le-zero}
 use native.Mathlib.Omega.{arith}
 use lib.ListN.{length, drop}
 use lib.Seq.{getD-set-other}
-use Rattle.ranking.specs.Best.{_∈_}
+use Rattle.laws.specs.Lists.{_∈_}
 use Rattle.ranking.specs.Standing.{Held}
-use Rattle.ranking.proofs.Lists.{Pairwise, pairwise-map, there}
+use Rattle.laws.proofs.Lists.{Pairwise, pairwise-map, there}
 use Rattle.window.specs.Rows.{empty, rowOf, reportOf, reportsFrom, oldest, heldReports, grown, added}
 use Rattle.window.specs.declared.Window.{Window}
 use Rattle.window.proofs.Ring.{rows-differ}

@@ -7,7 +7,7 @@ use native.Mathlib.Nat.{mod-lt, mod-eq-of-lt, div-add-mod, add-mod-right, add-mu
 use native.Mathlib.Omega.{arith}
 use borrow.Author.Tests.{lt-ltb, ltb-true, ltb-false, eqb-true, eqb-false}
 use lib.Dec.{ltb, eqb}
-use Rattle.ranking.proofs.Tests.{Tested, passed, failed, tested, and-both}
+use Rattle.laws.proofs.Tests.{Tested, passed, failed, tested, and-both}
 use Rattle.window.specs.Rows.{rowOf, age, due}
 
 -- Two numbers that differ by a multiple of N lie in one row.

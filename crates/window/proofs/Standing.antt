@@ -10,13 +10,14 @@ use native.Mathlib.Omega.{arith}
 use borrow.Author.Tests.{eq-eqb, eqb-true, eqb-false, le-ltb}
 use lib.Dec.{eqb, ltb}
 use lib.ListN.{getD}
-use Rattle.ranking.specs.Best.{_∈_, best}
+use Rattle.laws.specs.Lists.{_∈_}
+use Rattle.search.specs.Best.{best}
 use Rattle.ranking.specs.Standing.{Held, Entry, above, entry, Permitted}
 use Rattle.ranking.specs.declared.Weights.{Weights}
-use Rattle.ranking.proofs.Tests.{Tested, passed, failed, tested}
-use Rattle.ranking.proofs.Lists.{Same, lt-or-eq, moved, there}
-use Rattle.ranking.proofs.Best.{best-same}
-use Rattle.ranking.proofs.Search.{All}
+use Rattle.laws.proofs.Tests.{Tested, passed, failed, tested}
+use Rattle.laws.proofs.Lists.{Same, lt-or-eq, moved, there}
+use Rattle.search.proofs.Best.{best-same}
+use Rattle.search.proofs.Search.{All}
 use Rattle.ranking.proofs.Standing.{above-strict}
 use Rattle.window.specs.Rows.{rowOf, reportOf, heldReports, due, fitWindow, reportIn, standing}
 use Rattle.window.specs.declared.Window.{Window}

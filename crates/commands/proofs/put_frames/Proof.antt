@@ -5,43 +5,50 @@ use Prim.Native.Nat.{_≤_, _-_, _+_, _*_}
 use lib.ListN.{length}
 use denote.Ref.{now}
 use lib.Seq.{sets, length-sets}
-use Rattle.commands.specs.Items.{framesIn}
-use Rattle.commands.proofs.Writing.{frames-more}
+use Rattle.items.specs.Run.{runBytes}
+use Rattle.bench.specs.Bench.{framesIn}
+use Rattle.commands.proofs.Writing.{cut, frames-more}
 use borrow.Author.Needs.{needs}
 use native.Mathlib.Omega.{arith}
 use Rattle.commands.proofs.put_frames.Statement.{statement}
 use Rattle.commands.proofs.put_frames.Tie as tie
 
 abbrev Inv-loop : tie.InvT-loop
-Inv-loop room₀ frames count i₀ room i = (i ≤ count) × (length room ≡ length room₀) × (room ≡ sets room₀ 0 (framesIn i frames))
+Inv-loop room₀ frames count i₀ room i = (i ≤ count) × (length room ≡ length room₀) × (room ≡ sets room₀ 0 (cut i frames))
 
 abbrev μ-loop : tie.MeasureT-loop
 μ-loop room₀ frames count i₀ room i = count - i
 
 loop-holds : tie.Need-loop-holds Inv-loop μ-loop
-unfolding framesIn
+unfolding framesIn runBytes
 loop-holds c = (omega arith, refl, refl)
 
 mul-start : tie.Need-mul-start Inv-loop μ-loop
 mul-start c = omega (arith, c .before .loop .inv .0)
 
+add-behind : tie.Need-add-behind Inv-loop μ-loop
+add-behind c = omega (arith, c .before .loop .inv .0)
+
 add-end : tie.Need-add-end Inv-loop μ-loop
-add-end c = omega arith
+add-end c = omega (arith, c .before .loop .inv .0)
 
-mul-put-field : tie.Need-mul-put-field Inv-loop μ-loop
-mul-put-field c = omega arith
+read32-requires : tie.Need-read32-requires Inv-loop μ-loop
+read32-requires c κs = search needs
 
-sub-put-field : tie.Need-sub-put-field Inv-loop μ-loop
-sub-put-field c = omega arith
+sub-put : tie.Need-sub-put Inv-loop μ-loop
+sub-put c = omega arith
 
-part-put-field-start : tie.Need-part-put-field-start Inv-loop μ-loop
-part-put-field-start c = omega arith
+part-put-start : tie.Need-part-put-start Inv-loop μ-loop
+part-put-start c = omega arith
 
-part-put-field-end : tie.Need-part-put-field-end Inv-loop μ-loop
-part-put-field-end c = omega arith
+part-put-end : tie.Need-part-put-end Inv-loop μ-loop
+part-put-end c = omega arith
 
-put-field-requires : tie.Need-put-field-requires Inv-loop μ-loop
-put-field-requires c κs = search needs
+mul-put : tie.Need-mul-put Inv-loop μ-loop
+mul-put c = omega arith
+
+put-requires : tie.Need-put-requires Inv-loop μ-loop
+put-requires c κs = search needs
 
 add-i : tie.Need-add-i Inv-loop μ-loop
 add-i c = omega arith
@@ -52,11 +59,12 @@ loop-less c = omega arith
 loop-again : tie.Need-loop-again Inv-loop μ-loop
 loop-again c =
     let p = c .before .before in
-    let l = p .before .before .before .before in
+    let r = p .before .before .before in
+    let l = r .before .before in
     let a = l .before .before .before .args in
     let i = l .loop .i in
-    let part : 12 * i + 12 - 12 * i ≡ 12 = omega arith in
-    (omega arith, rw (p .put-field .ensures, length-sets) (l .loop .inv .1), frames-more (now (a .room)) i (now (a .frames)) (omega arith) (l .loop .inv .2) (rw part at (p .put-field .ensures)))
+    let eight : 12 * i + 12 - (12 * i + 4) ≡ 8 = omega arith in
+    (omega arith, rw (p .put .ensures .1, length-sets) (l .loop .inv .1), frames-more (now (a .room)) i (now (a .frames)) (omega arith) (l .loop .inv .2) (rw (eight, r .read32 .ensures) at (p .put .ensures .1)))
 
 same-length : tie.Need-same-length Inv-loop μ-loop
 same-length c = c .before .loop .inv .1
@@ -76,12 +84,14 @@ put-frames-spec =
     μ-loop
     loop-holds
     mul-start
+    add-behind
     add-end
-    mul-put-field
-    sub-put-field
-    part-put-field-start
-    part-put-field-end
-    put-field-requires
+    read32-requires
+    sub-put
+    part-put-start
+    part-put-end
+    mul-put
+    put-requires
     add-i
     loop-less
     loop-again

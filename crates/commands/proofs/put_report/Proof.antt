@@ -4,6 +4,7 @@ use mathlib.Core.Path.{refl, sym, _∙_}
 use Prim.Native.Nat.{ℕ}
 use denote.Ref.{now}
 use lib.ListN.{replicate, length-replicate}
+use Rattle.items.specs.Run.{runBytes}
 use Rattle.commands.proofs.Writing.{items-sent, items-counted, items-refused}
 use borrow.Author.Needs.{needs}
 use native.Mathlib.Omega.{arith}
@@ -54,6 +55,7 @@ returns c =
     (items-counted (a .s) (now (a .note)) (omega (arith, s .send .kept .0)) sent, f .put-frames .ensures ∙ rw (sent .items))
 
 returns-2 : tie.Need-returns-2
+unfolding runBytes
 returns-2 c =
     let m = c .before in
     let s = m .before .before .before in

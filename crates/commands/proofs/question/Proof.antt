@@ -1,11 +1,43 @@
 -- `commands::question` meets its contract: each answer is what the definition says.
 -- Assumes nothing.
+use mathlib.Core.Path.{ap, _∙_}
+use Prim.Native.Nat.{_≤_}
 use denote.Ref.{now}
+use Rattle.items.specs.Items.{signed16}
+use Rattle.items.specs.declared.Item.the-variants as item
+use Rattle.items.proofs.Signs.{signed-kept}
+use Rattle.commands.specs.declared.Command.the-variants as command
 use Rattle.commands.proofs.Reading.{question-wrong, question-right, value-most, weight-most}
 use borrow.Author.Needs.{needs}
 use native.Mathlib.Omega.{arith}
 use Rattle.commands.proofs.question.Statement.{statement}
 use Rattle.commands.proofs.question.Tie as tie
+
+-- The numbers of the four words fit their bytes.
+module _ (f : tie.After-first-false) where
+  abbrev b : tie.After-weight2
+  b = f .before .before
+
+  abbrev a : tie.After-weight
+  a = b .before
+
+  abbrev k : tie.After-value2
+  k = a .before
+
+  abbrev s : tie.After-value
+  s = k .before
+
+  slot-small : s .value .result .value ≤ 255
+  slot-small = value-most 1 255 (now (s .before .before .args .line)) (s .value .result) (s .value .ensures)
+
+  k-small : k .value2 .result .value ≤ 255
+  k-small = value-most 2 255 (now (s .before .before .args .line)) (k .value2 .result) (k .value2 .ensures)
+
+  loss-small : a .weight .result .value ≤ 65535
+  loss-small = weight-most 3 (now (s .before .before .args .line)) (a .weight .result) (a .weight .ensures)
+
+  shake-small : b .weight2 .result .value ≤ 65535
+  shake-small = weight-most 4 (now (s .before .before .args .line)) (b .weight2 .result) (b .weight2 .ensures)
 
 value-requires : tie.Need-value-requires
 value-requires c κs = search needs
@@ -29,37 +61,39 @@ returns : tie.Need-returns
 returns c =
     let f = c .before in
     let m = f .before in
-    let b = m .before in
-    let a = b .before in
-    let k = a .before in
-    let s = k .before in
-    let line = now (s .before .before .args .line) in
-    question-wrong line (s .value .result) (k .value2 .result) (a .weight .result) (b .weight2 .result) (m .no-more .result) (f .first-false .result)
-    (s .value .ensures) (k .value2 .ensures) (a .weight .ensures) (b .weight2 .ensures) (m .no-more .ensures) (f .first-false .ensures) (c .if1 .taken)
+    question-wrong (now (s f .before .before .args .line)) (s f .value .result) (k f .value2 .result) (a f .weight .result) (b f .weight2 .result) (m .no-more .result) (f .first-false .result)
+    (s f .value .ensures) (k f .value2 .ensures) (a f .weight .ensures) (b f .weight2 .ensures) (m .no-more .ensures) (f .first-false .ensures) (c .if1 .taken)
 
-cast-t10 : tie.Need-cast-t10
-cast-t10 c = let v = c .before .before .before .before .before .before .before in omega (arith, value-most 1 255 (now (v .before .before .args .line)) (v .value .result) (v .value .ensures))
+cast-signed16 : tie.Need-cast-signed16
+cast-signed16 c = omega (arith, loss-small (c .before .before))
 
-cast-t11 : tie.Need-cast-t11
-cast-t11 c = let v = c .before .before .before .before .before .before .before in omega (arith, value-most 2 255 (now (v .before .before .before .args .line)) (v .value2 .result) (v .value2 .ensures))
+signed16-requires : tie.Need-signed16-requires
+signed16-requires c κs = search needs
 
-cast-t12 : tie.Need-cast-t12
-cast-t12 c = let v = c .before .before .before .before .before .before .before in omega (arith, weight-most 3 (now (v .before .before .before .before .args .line)) (v .weight .result) (v .weight .ensures))
+cast-signed16-2 : tie.Need-cast-signed16-2
+cast-signed16-2 c = omega (arith, shake-small (c .before .before .before .before))
+
+signed16-requires-2 : tie.Need-signed16-requires-2
+signed16-requires-2 c κs = search needs
 
 cast-t13 : tie.Need-cast-t13
-cast-t13 c = let v = c .before .before .before .before .before .before .before in omega (arith, weight-most 4 (now (v .before .before .before .before .before .args .line)) (v .weight2 .result) (v .weight2 .ensures))
+cast-t13 c = omega (arith, slot-small (c .before .before .before .before .before .before))
+
+cast-t14 : tie.Need-cast-t14
+cast-t14 c = omega (arith, k-small (c .before .before .before .before .before .before .before))
 
 returns-2 : tie.Need-returns-2
 returns-2 c =
-    let f = c .before .before .before .before .before in
+    let second = c .before .before in
+    let first = second .before .before in
+    let e = first .before .before in
+    let f = e .before in
     let m = f .before in
-    let b = m .before in
-    let a = b .before in
-    let k = a .before in
-    let s = k .before in
-    let line = now (s .before .before .args .line) in
-    question-right line (s .value .result) (k .value2 .result) (a .weight .result) (b .weight2 .result) (m .no-more .result) (f .first-false .result)
-    (s .value .ensures) (k .value2 .ensures) (a .weight .ensures) (b .weight2 .ensures) (m .no-more .ensures) (f .first-false .ensures) (c .before .before .before .before .if1 .left)
+    let loss = signed-kept (a f .weight .result .value) (omega (arith, loss-small f)) (first .signed16 .ensures) in
+    let shake = signed-kept (b f .weight2 .result .value) (omega (arith, shake-small f)) (second .signed162 .ensures) in
+    (λ i. command.Item (item.Set (record { slot = s f .value .result .value; k = k f .value2 .result .value; loss = loss i; shake = shake i })))
+    ∙ question-right (now (s f .before .before .args .line)) (s f .value .result) (k f .value2 .result) (a f .weight .result) (b f .weight2 .result) (m .no-more .result) (f .first-false .result)
+    (s f .value .ensures) (k f .value2 .ensures) (a f .weight .ensures) (b f .weight2 .ensures) (m .no-more .ensures) (f .first-false .ensures) (e .if1 .left)
 
 pub question-spec : {M : Type 1} → statement M
 question-spec =
@@ -72,8 +106,10 @@ question-spec =
     no-more-requires
     first-false-requires
     returns
-    cast-t10
-    cast-t11
-    cast-t12
+    cast-signed16
+    signed16-requires
+    cast-signed16-2
+    signed16-requires-2
     cast-t13
+    cast-t14
     returns-2)

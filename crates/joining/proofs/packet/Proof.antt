@@ -29,7 +29,7 @@ unfolding packet
 returns-2 c = c .refused2 .ensures ∙ rw (c .before .closed .ensures, ne-eqb _ _ (c .before .before .before .before .if1 .left), ← c .before .before .before .byte .ensures, ne-eqb _ _ (c .before .before .if2 .taken))
 
 stored-requires : tie.Need-stored-requires
-stored-requires c κs = (sym (fit-other (c .before .before .before .before .args .s) (c .before .before .if1 .left)) ∙ c .before .before .before .before .pre .0, c .before .before .before .before .pre .1)
+stored-requires c κs = sym (fit-other (c .before .before .before .before .args .s) (c .before .before .if1 .left)) ∙ c .before .before .before .before .pre
 
 add-t11 : tie.Need-add-t11
 add-t11 c = search needs

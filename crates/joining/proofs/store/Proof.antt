@@ -1,85 +1,79 @@
--- `joining::store` meets its contract: what is left of the size is taken of the packet, and of a packet in the middle all 7 bytes.
+-- `joining::store` meets its contract: what is left of the size is taken of the packet's bytes behind its number; nothing is stored where either is empty.
 -- Assumes nothing.
-use Prim.Native.Nat.{ℕ, _-_, _*_}
-use native.Mathlib.Nat.{add-sub-cancel-left}
-use lib.ListN.{length, take, drop, length-drop}
-use lib.Seq.{sets, take-all}
-use mathlib.Core.Path.{sym, _∙_, ap}
+use mathlib.Core.Path.{_≡_, refl, sym, _∙_, ap}
+use mathlib.Core.List.{List, [], _∷_}
+use Prim.Native.Nat.{ℕ, _-_, _*_, _≤_}
 use native.Mathlib.Omega.{arith}
+use lib.ListN.{length, take, drop, length-drop}
+use lib.Seq.{sets, take-all, take-nil}
 use denote.Ref.{now}
 use borrow.Author.Needs.{needs}
 use Rattle.joining.proofs.store.Statement.{statement}
 use Rattle.joining.proofs.store.Tie as tie
 
-sub-at : tie.Need-sub-at
-sub-at c = search needs
+-- A packet with no bytes, or one that begins past the size.
+no-packet : (n : ℕ) (d : List ℕ) → length d ≡ 0 → take n (drop 1 d) ≡ []
+no-packet n [] h = take-nil n
+no-packet n (b ∷ d) h = absurd (omega (arith, h))
 
-cast-at : tie.Need-cast-at
-cast-at c = search needs
+none-left : (size at : ℕ) (d : List ℕ) → size ≤ at → take (size - at) d ≡ []
+none-left size at d h = let e : size - at ≡ 0 = omega arith in rw e
 
 mul-at : tie.Need-mul-at
 mul-at c = search needs
 
-sub-left : tie.Need-sub-left
-sub-left c = search needs
+returns : tie.Need-returns
+returns c =
+    let a = c .before .before .before .args in
+    sym (ap (sets (now (a .bytes)) (7 * a .sent)) (no-packet (a .size - 7 * a .sent) (now (a .«data»)) (c .if1 .taken)))
 
-add-put-all : tie.Need-add-put-all
-add-put-all c = search needs
+returns-2 : tie.Need-returns-2
+returns-2 c =
+    let a = c .before .before .before .before .args in
+    sym (ap (sets (now (a .bytes)) (7 * a .sent)) (none-left (a .size) (7 * a .sent) (drop 1 (now (a .«data»))) (c .if2 .taken)))
 
-sub-put-all : tie.Need-sub-put-all
-sub-put-all c = search needs
+sub-front : tie.Need-sub-front
+sub-front c = search needs
 
-part-put-all-start : tie.Need-part-put-all-start
-part-put-all-start c = search needs
+part-front-start : tie.Need-part-front-start
+part-front-start c = search needs
 
-part-put-all-end : tie.Need-part-put-all-end
-part-put-all-end c = search needs
+part-front-end : tie.Need-part-front-end
+part-front-end c = search needs
+
+sub-front-2 : tie.Need-sub-front-2
+sub-front-2 c = search needs
+
+front-requires : tie.Need-front-requires
+front-requires c κs = search needs
 
 put-all-requires : tie.Need-put-all-requires
 put-all-requires c κs = search needs
 
-sub-put-all-2 : tie.Need-sub-put-all-2
-sub-put-all-2 c = search needs
-
-part-put-all-start-2 : tie.Need-part-put-all-start-2
-part-put-all-start-2 c = search needs
-
-part-put-all-end-2 : tie.Need-part-put-all-end-2
-part-put-all-end-2 c = search needs
-
-put-all-requires-2 : tie.Need-put-all-requires-2
-put-all-requires-2 c κs = search needs
-
 same-length : tie.Need-same-length
 same-length c = search needs
 
-returns : tie.Need-returns
-returns c = let a = c .before .before .before .before .before .before .before .before .args in c .before .before .put-all .ensures ∙ ap (λ (k : ℕ). sets (now (a .bytes)) (7 * (a .next - 1)) (take k (drop 1 (now (a .«data»))))) (add-sub-cancel-left 1 (a .size - 7 * (a .next - 1)))
-
-same-length-2 : tie.Need-same-length-2
-same-length-2 c = search needs
-
-returns-2 : tie.Need-returns-2
-returns-2 c = let a = c .before .before .before .before .before .before .before .before .args in c .before .before .put-all2 .ensures ∙ ap (sets (now (a .bytes)) (7 * (a .next - 1))) (take-all (length (now (a .«data»)) - 1) (drop 1 (now (a .«data»))) (rw length-drop (omega arith)) ∙ sym (take-all (a .size - 7 * (a .next - 1)) (drop 1 (now (a .«data»))) (rw length-drop (omega arith))))
+returns-3 : tie.Need-returns-3
+returns-3 c =
+    let a = c .before .before .before .before .before .before .before .before .before .before .args in
+    let d = now (a .«data») in
+    c .before .before .put-all .ensures
+    ∙ ap (sets (now (a .bytes)) (7 * a .sent))
+    (c .before .before .before .front .ensures
+    ∙ ap (take (a .size - 7 * a .sent)) (take-all (length d - 1) (drop 1 d) (rw length-drop (omega arith))))
 
 pub store-spec : {M : Type 1} → statement M
 store-spec =
     tie.close
     (tie.spec
-    sub-at
-    cast-at
     mul-at
-    sub-left
-    add-put-all
-    sub-put-all
-    part-put-all-start
-    part-put-all-end
-    put-all-requires
-    sub-put-all-2
-    part-put-all-start-2
-    part-put-all-end-2
-    put-all-requires-2
-    same-length
     returns
-    same-length-2
-    returns-2)
+    returns-2
+    sub-front
+    part-front-start
+    part-front-end
+    sub-front-2
+    front-requires
+    put-all-requires
+    same-length
+    returns-3)

@@ -41,7 +41,7 @@ returns-3 c =
     let known = c .before .before .before .answer2 .given in
     let r = known .0 .0 in
     rw (known .1)
-    (ap (λ (a : Arrival). record { refused = not (eqb (a .refusal) 0); code = a .refusal; number = a .number; oldest = a .oldest; loss = r .loss; shake = r .shake }) (c .before .of .ensures))
+    (ap (λ (a : Arrival). record { refused = not (eqb (a .refusal) 0); code = a .refusal; number = a .number; oldest = a .oldest; loss = r .values .loss; shake = r .values .shake }) (c .before .of .ensures))
 
 pub brings-spec : {M : Type 1} → statement M
 brings-spec =

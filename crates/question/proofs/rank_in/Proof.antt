@@ -11,7 +11,7 @@ use mir.Facts.{toZ-ofZ}
 use mir.Syntax.{w32}
 use mir.Val.{toZ, ofZ}
 use Rattle.ranking.specs.Standing.{Entry, above}
-use Rattle.ranking.proofs.Words.{kept}
+use Rattle.laws.proofs.Words.{kept}
 use Rattle.question.specs.Lines.{linesOf}
 use Rattle.question.specs.Inner.{rankIn}
 use Rattle.question.proofs.Stored.{Roomy, lineAt, drop-line, none-left}

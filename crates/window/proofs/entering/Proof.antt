@@ -5,7 +5,7 @@ use native.Mathlib.Nat.{mod-lt}
 use native.Mathlib.Omega.{arith}
 use borrow.Author.Needs.{needs}
 use borrow.Author.Tests.{lt-ltb}
-use Rattle.ranking.proofs.Tests.{and-true}
+use Rattle.laws.proofs.Tests.{and-true}
 use Rattle.window.specs.Rows.{added}
 use Rattle.window.proofs.Fitness.{size-range}
 use Rattle.window.proofs.entering.Statement.{statement}

@@ -5,7 +5,7 @@ use Prim.Native.Nat.{ℕ}
 use native.Mathlib.Omega.{arith}
 use lib.Dec.{ltb, leb}
 use borrow.Author.Tests.{eq-eqb, ne-eqb, le-leb, lt-leb, lt-ltb, le-ltb, ltb-true, ltb-false}
-use Rattle.ranking.proofs.Tests.{Tested, passed, failed, tested}
+use Rattle.laws.proofs.Tests.{Tested, passed, failed, tested}
 use Rattle.window.proofs.holds.Statement.{statement}
 use Rattle.window.proofs.holds.Tie as tie
 

@@ -9,7 +9,7 @@ use borrow.Author.Tests.{not-true, not-false}
 use lib.ListN.{getD}
 use Rattle.window.specs.Rows.{due, holds, rowFit, rowsFit}
 use Rattle.window.specs.declared.Window.{Window}
-use Rattle.ranking.proofs.Tests.{and-true}
+use Rattle.laws.proofs.Tests.{and-true}
 use Rattle.window.proofs.Fitness.{counts, unfit-row}
 use Rattle.window.proofs.rows_fit.Statement.{statement}
 use Rattle.window.proofs.rows_fit.Tie as tie

@@ -1,14 +1,24 @@
 -- `commands::Command::put` meets its contract: a case for each command.
 -- Assumes nothing.
-use mathlib.Core.Path.{refl}
+use mathlib.Core.Path.{_≡_, refl, sym, ap, _∙_}
+use mathlib.Core.List.{List, [], _∷_, append-nil}
+use Prim.Native.Nat.{ℕ}
 use denote.Ref.{now}
-use Rattle.wire.specs.Bytes.{field, head, bytes}
+use lib.ListN.{length}
+use lib.Seq.{sets}
+use Rattle.items.specs.declared.Item.{Item}
+use Rattle.items.specs.Items.{itemBytes}
+use Rattle.items.specs.Run.{runBytes}
 use Rattle.commands.specs.declared.Command.the-variants as command
-use Rattle.commands.specs.Items.{questionItem}
+use Rattle.commands.specs.declared.Answer.the-variants as answer
 use Rattle.commands.proofs.Writing.{put-is}
 use borrow.Author.Needs.{needs}
 use Rattle.commands.proofs.Command.put.Statement.{statement}
 use Rattle.commands.proofs.Command.put.Tie as tie
+
+alone : (i : Item) → itemBytes i [] ≡ runBytes (record { item = i; data-bytes = [] } ∷ [])
+unfolding runBytes
+alone i = sym (append-nil (itemBytes i []))
 
 enum-told : tie.Need-enum-told
 enum-told c = search needs
@@ -16,104 +26,58 @@ enum-told c = search needs
 enum-known-self : tie.Need-enum-known-self
 enum-known-self c = search needs
 
-put-field16-requires : tie.Need-put-field16-requires
-put-field16-requires c κs = search needs
+front-requires : tie.Need-front-requires
+front-requires c κs = search needs
+
+put-requires : tie.Need-put-requires
+put-requires c κs = search needs
 
 enum-known-self-2 : tie.Need-enum-known-self-2
 enum-known-self-2 c = search needs
 
-put-question-requires : tie.Need-put-question-requires
-put-question-requires c κs = search needs
+put-report-requires : tie.Need-put-report-requires
+put-report-requires c κs = search needs
 
 enum-known-self-3 : tie.Need-enum-known-self-3
 enum-known-self-3 c = search needs
 
-slice-aggregate-put-field : tie.Need-slice-aggregate-put-field
-slice-aggregate-put-field c = search needs
-
-put-field-requires : tie.Need-put-field-requires
-put-field-requires c κs = search needs
-
-enum-known-self-4 : tie.Need-enum-known-self-4
-enum-known-self-4 c = search needs
-
-slice-aggregate-put-field-2 : tie.Need-slice-aggregate-put-field-2
-slice-aggregate-put-field-2 c = search needs
-
-put-field-requires-2 : tie.Need-put-field-requires-2
-put-field-requires-2 c κs = search needs
-
-enum-known-self-5 : tie.Need-enum-known-self-5
-enum-known-self-5 c = search needs
-
-put-report-requires : tie.Need-put-report-requires
-put-report-requires c κs = search needs
-
-enum-known-self-6 : tie.Need-enum-known-self-6
-enum-known-self-6 c = search needs
-
 returns : tie.Need-returns
-returns c = search needs
+unfolding runBytes
+returns c =
+    let a = c .before .before .before .before .args in
+    put-is (a .self) command.Nothing (now (a .note)) (now (a .room)) (c .enum-told .given .1) (refl, refl)
 
 same-length : tie.Need-same-length
 same-length c = search needs
 
 returns-2 : tie.Need-returns-2
-unfolding field head bytes
 returns-2 c =
     let p = c .before .before in
-    let m = p .before .before .before in
+    let f = p .before .before in
+    let m = f .before .before in
     let a = m .before .before .before .before .args in
-    put-is (a .self) (command.Window (m .self .given .0 .0)) (now (a .note)) (now (a .room)) (m .self .given .1) (refl, p .put-field16 .ensures)
+    let i = m .self .given .0 .0 in
+    put-is (a .self) (command.Item i) (now (a .note)) (now (a .room)) (m .self .given .1) (
+      ap answer.Items (p .put .ensures .0 ∙ ap (λ (ds : List ℕ). length (itemBytes i ds)) (f .front .ensures) ∙ ap length (alone i)),
+      p .put .ensures .1 ∙ ap (λ (ds : List ℕ). sets (now (a .room)) 0 (itemBytes i ds)) (f .front .ensures) ∙ ap (sets (now (a .room)) 0) (alone i),
+    )
 
 same-length-2 : tie.Need-same-length-2
 same-length-2 c = search needs
 
 returns-3 : tie.Need-returns-3
-unfolding field head bytes questionItem
 returns-3 c =
     let p = c .before .before in
     let m = p .before .before .before in
     let a = m .before .before .before .before .args in
-    put-is (a .self) (command.Question (m .self2 .given .0 .0)) (now (a .note)) (now (a .room)) (m .self2 .given .1) (refl, p .put-question .ensures)
-
-same-length-3 : tie.Need-same-length-3
-same-length-3 c = search needs
+    put-is (a .self) (command.Report (m .self2 .given .0 .0)) (now (a .note)) (now (a .room)) (m .self2 .given .1) (p .put-report .ensures)
 
 returns-4 : tie.Need-returns-4
-unfolding field head bytes
+unfolding runBytes
 returns-4 c =
-    let p = c .before .before in
-    let m = p .before .before .before .before in
-    let a = m .before .before .before .before .args in
-    put-is (a .self) (command.Remove (m .self3 .given .0 .0)) (now (a .note)) (now (a .room)) (m .self3 .given .1) (refl, p .put-field .ensures)
-
-same-length-4 : tie.Need-same-length-4
-same-length-4 c = search needs
-
-returns-5 : tie.Need-returns-5
-unfolding field head bytes
-returns-5 c =
-    let p = c .before .before in
-    let m = p .before .before .before .before in
-    let a = m .before .before .before .before .args in
-    put-is (a .self) (command.Show (m .self4 .given .0 .0)) (now (a .note)) (now (a .room)) (m .self4 .given .1) (refl, p .put-field2 .ensures)
-
-same-length-5 : tie.Need-same-length-5
-same-length-5 c = search needs
-
-returns-6 : tie.Need-returns-6
-returns-6 c =
-    let p = c .before .before in
-    let m = p .before .before .before in
-    let a = m .before .before .before .before .args in
-    put-is (a .self) (command.Report (m .self5 .given .0 .0)) (now (a .note)) (now (a .room)) (m .self5 .given .1) (p .put-report .ensures)
-
-returns-7 : tie.Need-returns-7
-returns-7 c =
     let m = c .before in
     let a = m .before .before .before .before .args in
-    put-is (a .self) (command.Wrong (m .self6 .given .0 .0)) (now (a .note)) (now (a .room)) (m .self6 .given .1) (refl, refl)
+    put-is (a .self) (command.Wrong (m .self3 .given .0 .0)) (now (a .note)) (now (a .room)) (m .self3 .given .1) (refl, refl)
 
 pub put-spec : {M : Type 1} → statement M
 put-spec =
@@ -121,27 +85,14 @@ put-spec =
     (tie.spec
     enum-told
     enum-known-self
-    put-field16-requires
+    front-requires
+    put-requires
     enum-known-self-2
-    put-question-requires
-    enum-known-self-3
-    slice-aggregate-put-field
-    put-field-requires
-    enum-known-self-4
-    slice-aggregate-put-field-2
-    put-field-requires-2
-    enum-known-self-5
     put-report-requires
-    enum-known-self-6
+    enum-known-self-3
     returns
     same-length
     returns-2
     same-length-2
     returns-3
-    same-length-3
-    returns-4
-    same-length-4
-    returns-5
-    same-length-5
-    returns-6
-    returns-7)
+    returns-4)

@@ -1,6 +1,5 @@
 -- `joining::Session::frame` meets its contract: 1 to 3 come first, then 24, and then the announcement's or the packet's own refusals.
 -- Assumes nothing.
-use Rattle.joining.proofs.Frames.{sound-frame}
 use mathlib.Core.Path.{sym, _∙_}
 use borrow.Author.Tests.{eq-eqb, ne-eqb, not-true}
 use Rattle.report.proofs.Places.{passes}
@@ -27,7 +26,7 @@ announced-requires : tie.Need-announced-requires
 announced-requires c κs = search needs
 
 packet-requires : tie.Need-packet-requires
-packet-requires c κs = (passes _ (c .before .before .fit .ensures) (c .before .if2 .left), sound-frame _ _ (sym (c .before .before .before .before .frame-refusal .ensures) ∙ c .before .before .before .if1 .left) .eight)
+packet-requires c κs = passes _ (c .before .before .fit .ensures) (c .before .if2 .left)
 
 returns-3 : tie.Need-returns-3
 unfolding take-frame

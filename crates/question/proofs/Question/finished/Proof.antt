@@ -7,7 +7,7 @@ use lib.IntN.{pos}
 use lib.ListN.{getD}
 use lib.Signed.{ltZ}
 use mir.Syntax.{w32}
-use Rattle.ranking.proofs.Words.{kept}
+use Rattle.laws.proofs.Words.{kept}
 use Rattle.question.proofs.Stored.{roomy}
 use Rattle.question.proofs.Ending.{finished-none, finished-other, finished-empty, finished-full}
 use Rattle.question.proofs.Question.finished.Statement.{statement}

@@ -7,9 +7,9 @@ use borrow.Author.Needs.{needs}
 use lib.IntN.{pos}
 use lib.ListN.{take, getD}
 use mir.Syntax.{w32}
-use Rattle.ranking.specs.Best.{best}
+use Rattle.search.specs.Best.{best}
 use Rattle.ranking.specs.Standing.{above}
-use Rattle.ranking.proofs.Words.{kept}
+use Rattle.laws.proofs.Words.{kept}
 use Rattle.question.specs.Lines.{linesOf, asked}
 use Rattle.question.specs.Inner.{joined}
 use Rattle.question.proofs.Stored.{Roomy, roomy, all-lines}

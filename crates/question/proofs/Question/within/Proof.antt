@@ -4,7 +4,7 @@ use mathlib.Core.Path.{ap, ap₂, _∙_}
 use borrow.Author.Needs.{needs}
 use lib.ListN.{take}
 use mir.Facts.{toZ-ofZ}
-use Rattle.ranking.specs.Best.{place}
+use Rattle.search.specs.Best.{place}
 use Rattle.ranking.specs.Standing.{above}
 use Rattle.question.specs.Lines.{asked}
 use Rattle.question.proofs.Stored.{roomy, shown-lines}

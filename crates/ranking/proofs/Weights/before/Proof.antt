@@ -5,7 +5,7 @@ use borrow.Author.Needs.{needs}
 use lib.Dec.{ltb}
 use mir.Syntax.{w32}
 use Rattle.ranking.specs.Cells.{greater}
-use Rattle.ranking.proofs.Words.{kept}
+use Rattle.laws.proofs.Words.{kept}
 use Rattle.ranking.proofs.Weights.before.Statement.{statement}
 use Rattle.ranking.proofs.Weights.before.Tie as tie
 

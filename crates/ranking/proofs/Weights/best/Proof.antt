@@ -7,7 +7,7 @@ use borrow.Author.Needs.{needs}
 use mir.Syntax.{w16, w32}
 use Rattle.ranking.specs.Cells.{score, corner}
 use Rattle.ranking.proofs.Cells.{corner-loss, corner-shake}
-use Rattle.ranking.proofs.Words.{kept}
+use Rattle.laws.proofs.Words.{kept}
 use Rattle.ranking.proofs.Weights.best.Statement.{statement}
 use Rattle.ranking.proofs.Weights.best.Tie as tie
 

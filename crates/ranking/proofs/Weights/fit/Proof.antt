@@ -5,7 +5,7 @@ use mathlib.Core.Bool.{_&&_}
 use borrow.Author.Needs.{needs}
 use mir.Syntax.{w16}
 use Rattle.ranking.specs.Cells.{inRange}
-use Rattle.ranking.proofs.Words.{kept}
+use Rattle.laws.proofs.Words.{kept}
 use Rattle.ranking.proofs.Weights.fit.Statement.{statement}
 use Rattle.ranking.proofs.Weights.fit.Tie as tie
 

@@ -8,7 +8,7 @@ use Prim.Native.Nat.{ℕ, _+_, _-_, _≤_}
 use native.Mathlib.Omega.{arith}
 use borrow.Author.Needs.{needs}
 use lib.ListN.{length}
-use Rattle.ranking.specs.Best.{only}
+use Rattle.laws.specs.Lists.{only}
 use Rattle.ranking.specs.Cells.{before, count}
 use Rattle.ranking.proofs.Scan.{counted-yes, counted-no}
 use Rattle.ranking.proofs.Weights.rank.Statement.{statement}

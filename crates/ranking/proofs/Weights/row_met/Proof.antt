@@ -10,7 +10,7 @@ use mir.Val.{toZ, ofZ}
 use Rattle.ranking.specs.Cells.{bestScore}
 use Rattle.ranking.specs.Scan.{met, metRow}
 use Rattle.ranking.specs.declared.Sought.{Sought}
-use Rattle.ranking.proofs.Words.{kept}
+use Rattle.laws.proofs.Words.{kept}
 use Rattle.ranking.proofs.Reaching.{met-few, row-none, row-more}
 use Rattle.ranking.proofs.Weights.row_met.Statement.{statement}
 use Rattle.ranking.proofs.Weights.row_met.Tie as tie

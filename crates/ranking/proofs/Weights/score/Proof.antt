@@ -11,7 +11,7 @@ use mir.Val.{SFits, toZ, ofZ}
 use Rattle.ranking.specs.Cells.{score}
 use Rattle.ranking.specs.declared.Weights.{Weights}
 use Rattle.ranking.proofs.Cells.{score-fits}
-use Rattle.ranking.proofs.Words.{kept}
+use Rattle.laws.proofs.Words.{kept}
 use Rattle.ranking.proofs.Weights.score.Statement.{statement}
 use Rattle.ranking.proofs.Weights.score.Tie as tie
 

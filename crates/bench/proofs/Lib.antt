@@ -1,0 +1,6 @@
+-- Laws that the crates above cite.
+pub mod Sending
+pub mod Joins
+pub mod RoundTrip
+pub mod Examples
+pub mod Outcomes

@@ -1,0 +1,2 @@
+-- The bench sender: what its function is held to.
+pub mod Bench

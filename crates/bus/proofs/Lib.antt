@@ -1,0 +1,5 @@
+-- Laws that the crates above cite.
+pub mod Places
+pub mod Placed
+pub mod Rooms
+pub mod Outcomes

@@ -1,0 +1,84 @@
+-- A frame does to the bytes where a session stands what it does to the session: each case of the rules, with the bytes that it leaves.
+-- Assumes nothing.
+use mathlib.Core.Path.{_≡_, refl, sym, _∙_, ap}
+use mathlib.Core.Bool.{Bool, true, false, cond}
+use mathlib.Core.List.{List, _++_}
+use Prim.Native.Nat.{ℕ, _+_, _-_, _*_, _≤_, _<_}
+use native.Mathlib.Omega.{arith}
+use borrow.Author.Tests.{lt-ltb, ne-eqb}
+use lib.Dec.{ltb}
+use lib.ListN.{length, getD, take, drop, set, length-take}
+use lib.Seq.{sets, set-getD, length-sets}
+use Rattle.joining.specs.declared.Session.{Session}
+use Rattle.joining.specs.declared.Answer.{Answer}
+use Rattle.joining.specs.declared.Answer.the-variants.{Refused}
+use Rattle.joining.specs.declared.Taken.{Taken}
+use Rattle.joining.specs.Frame.{Frame, senderOf, frameRefusal}
+use Rattle.joining.specs.Joining.{place, stored, refused, take-frame}
+use Rattle.joining.specs.Run.{nobody, sessionsAfter, answerTo}
+use Rattle.joining.proofs.Fitness.{Open}
+use Rattle.joining.proofs.Frames.{sound-frame}
+use Rattle.joining.proofs.Steps.{due}
+use Rattle.bus.specs.Room.{sessionAt, sessionBytes, sessionsOf, sessionsIn, roomOf}
+use Rattle.bus.proofs.Places.{take-sets, session-of, put-session, room-of-sessions}
+
+-- A step's answer and bytes, where the step is known.
+pub step : {t u : Taken} {r : Answer} {p : List ℕ} → t ≡ u → r ≡ u .answer → p ≡ sessionBytes (u .session) → (r ≡ t .answer) × (p ≡ sessionBytes (t .session))
+step e a b = rw e (a, b)
+
+-- The expected packet's bytes, stored where the session stands.
+pub stored-at : (p d : List ℕ) → Open (sessionAt p) → {q : List ℕ}
+    → q ≡ sets p (place (sessionAt p)) (take (sessionAt p .size - place (sessionAt p)) (drop 1 d))
+    → take 84 q ≡ stored (sessionAt p) d
+stored-at p d o e =
+    let s = sessionAt p in
+    let new = take (s .size - place s) (drop 1 d) in
+    ap (take 84) e ∙ take-sets 84 p (place s) new (omega (arith, length-take (s .size - place s) (drop 1 d), due s o, o .high))
+
+pub stored-long : (p d : List ℕ) → length p ≡ 87 → {q : List ℕ}
+    → q ≡ sets p (place (sessionAt p)) (take (sessionAt p .size - place (sessionAt p)) (drop 1 d)) → length q ≡ 87
+stored-long p d h e =
+    let s = sessionAt p in
+    ap length e ∙ length-sets p (place s) (take (s .size - place s) (drop 1 d)) ∙ h
+
+-- A frame in a room: one that is refused at once changes no byte, and another changes its sender's session.
+module _ (room : List ℕ) (id : ℕ) (d : List ℕ) (long : length room ≡ 22098) where
+  abbrev frame : Frame
+  frame = record { identifier = id; data-bytes = d }
+
+  abbrev sessions : List Session
+  sessions = sessionsIn room
+
+  passed-by : (s : Session) → (frameRefusal id d ≡ 0 → ⊥) → take-frame s id d ≡ refused (frameRefusal id d) s
+  unfolding take-frame
+  passed-by s h = rw (ne-eqb (frameRefusal id d) 0 h)
+
+  abbrev own : Session
+  own = getD sessions (senderOf id) nobody
+
+  passed-over : (b : Bool) → (frameRefusal id d ≡ 0 → ⊥)
+      → (Refused (frameRefusal id d) ≡ cond b (take-frame own id d .answer) (Refused (frameRefusal id d)))
+      × (room ≡ roomOf (cond b (set sessions (senderOf id) (take-frame own id d .session)) sessions))
+  passed-over true h =
+      let t = passed-by own h in (
+        ap (λ (u : Taken). u .answer) (sym t),
+        sym
+            (ap (λ (u : Taken). roomOf (set sessions (senderOf id) (u .session))) t
+            ∙ ap roomOf (set-getD sessions (senderOf id) nobody)
+            ∙ room-of-sessions 254 room long),
+      )
+  passed-over false h = (refl, sym (room-of-sessions 254 room long))
+
+  pub unheard : {n : ℕ} → n ≡ frameRefusal id d → (n ≡ 0 → ⊥) → (Refused n ≡ answerTo sessions frame) × (room ≡ roomOf (sessionsAfter sessions frame))
+  unheard e h =
+      let p = passed-over (ltb (senderOf id) 254) (λ z. h (e ∙ z)) in
+      (ap Refused e ∙ p .0, p .1)
+
+  pub heard : {r : Answer} {q : List ℕ} → frameRefusal id d ≡ 0 → r ≡ take-frame (sessionAt (drop (87 * senderOf id) room)) id d .answer
+      → q ≡ (take (87 * senderOf id) room ++ sessionBytes (take-frame (sessionAt (drop (87 * senderOf id) room)) id d .session)) ++ drop (87 * senderOf id + 87) room
+      → (r ≡ answerTo sessions frame) × (q ≡ roomOf (sessionsAfter sessions frame))
+  heard e a b =
+      let own : senderOf id < 254 = omega (arith, sound-frame id d e .sender) in
+      let same = session-of 254 (senderOf id) room own in
+      let put = put-session 254 (senderOf id) room (take-frame (sessionAt (drop (87 * senderOf id) room)) id d .session) own long in
+      rw (lt-ltb (senderOf id) 254 own, same) (a, b ∙ sym put)

@@ -1,0 +1,4 @@
+-- Laws that the crates above cite.
+pub mod Cutting
+pub mod Reading
+pub mod Outcomes

@@ -1,0 +1,168 @@
+-- `items::Item::put` meets its contract: a case for each item.
+-- Assumes nothing.
+use mathlib.Core.Path.{sym, _∙_}
+use mathlib.Core.List.{[], _∷_}
+use denote.Ref.{now}
+use Rattle.wire.specs.Bytes.{bytes}
+use Rattle.wire.proofs.Fields.{length-field}
+use Rattle.items.specs.declared.Item.the-variants.{Window, Set, Frame, Remove, Show, Unknown}
+use Rattle.items.specs.Items.{settingBytes}
+use Rattle.items.proofs.Writing.{frame-long, put-is}
+use borrow.Author.Needs.{needs}
+use Rattle.items.proofs.Item.put.Statement.{statement}
+use Rattle.items.proofs.Item.put.Tie as tie
+
+enum-known-self : tie.Need-enum-known-self
+enum-known-self c = search needs
+
+put-field16-requires : tie.Need-put-field16-requires
+put-field16-requires c κs = search needs
+
+add-result : tie.Need-add-result
+add-result c = search needs
+
+enum-known-self-2 : tie.Need-enum-known-self-2
+enum-known-self-2 c = search needs
+
+put-setting-requires : tie.Need-put-setting-requires
+put-setting-requires c κs = search needs
+
+add-result-2 : tie.Need-add-result-2
+add-result-2 c = search needs
+
+enum-known-self-3 : tie.Need-enum-known-self-3
+enum-known-self-3 c = search needs
+
+put-frame-requires : tie.Need-put-frame-requires
+put-frame-requires c κs = search needs
+
+add-result-3 : tie.Need-add-result-3
+add-result-3 c = search needs
+
+add-result-4 : tie.Need-add-result-4
+add-result-4 c = search needs
+
+enum-known-self-4 : tie.Need-enum-known-self-4
+enum-known-self-4 c = search needs
+
+put-slot-requires : tie.Need-put-slot-requires
+put-slot-requires c κs = search needs
+
+add-result-5 : tie.Need-add-result-5
+add-result-5 c = search needs
+
+enum-known-self-5 : tie.Need-enum-known-self-5
+enum-known-self-5 c = search needs
+
+put-slot-requires-2 : tie.Need-put-slot-requires-2
+put-slot-requires-2 c κs = search needs
+
+add-result-6 : tie.Need-add-result-6
+add-result-6 c = search needs
+
+enum-told : tie.Need-enum-told
+enum-told c = search needs
+
+front-requires : tie.Need-front-requires
+front-requires c κs = search needs
+
+put-field-requires : tie.Need-put-field-requires
+put-field-requires c κs = search needs
+
+same-length : tie.Need-same-length
+same-length c = search needs
+
+returns : tie.Need-returns
+unfolding bytes
+returns c =
+    let p = c .before .before in
+    let m = p .before .before .before in
+    let a = m .before .before .before .before .args in
+    put-is (a .self) (Window (m .self .given .0 .0)) (now (a .data)) (now (a .room)) (a .at) (m .self .given .1) (sym (length-field 16 (bytes 2 (m .self .given .0 .0))), p .put-field16 .ensures)
+
+same-length-2 : tie.Need-same-length-2
+same-length-2 c = search needs
+
+returns-2 : tie.Need-returns-2
+unfolding bytes settingBytes
+returns-2 c =
+    let p = c .before .before in
+    let m = p .before .before .before in
+    let a = m .before .before .before .before .args in
+    put-is (a .self) (Set (m .self2 .given .0 .0)) (now (a .data)) (now (a .room)) (a .at) (m .self2 .given .1) (sym (length-field 17 (settingBytes (m .self2 .given .0 .0))), p .put-setting .ensures)
+
+same-length-3 : tie.Need-same-length-3
+same-length-3 c = search needs
+
+returns-3 : tie.Need-returns-3
+returns-3 c =
+    let p = c .before .before in
+    let m = p .before .before .before in
+    let a = m .before .before .before .before .args in
+    put-is (a .self) (Frame (m .self3 .given .0 .0)) (now (a .data)) (now (a .room)) (a .at) (m .self3 .given .1) (sym (frame-long (m .self3 .given .0 .0) (now (a .data))), p .put-frame .ensures)
+
+same-length-4 : tie.Need-same-length-4
+same-length-4 c = search needs
+
+returns-4 : tie.Need-returns-4
+returns-4 c =
+    let p = c .before .before in
+    let m = p .before .before .before in
+    let a = m .before .before .before .before .args in
+    put-is (a .self) (Remove (m .self4 .given .0 .0)) (now (a .data)) (now (a .room)) (a .at) (m .self4 .given .1) (sym (length-field 19 (m .self4 .given .0 .0 ∷ [])), p .put-slot .ensures)
+
+same-length-5 : tie.Need-same-length-5
+same-length-5 c = search needs
+
+returns-5 : tie.Need-returns-5
+returns-5 c =
+    let p = c .before .before in
+    let m = p .before .before .before in
+    let a = m .before .before .before .before .args in
+    put-is (a .self) (Show (m .self5 .given .0 .0)) (now (a .data)) (now (a .room)) (a .at) (m .self5 .given .1) (sym (length-field 20 (m .self5 .given .0 .0 ∷ [])), p .put-slot2 .ensures)
+
+same-length-6 : tie.Need-same-length-6
+same-length-6 c = search needs
+
+returns-6 : tie.Need-returns-6
+returns-6 c =
+    let p = c .before .before in
+    let m = p .before .before .before in
+    let a = m .before .before .before .before .args in
+    put-is (a .self) Unknown (now (a .data)) (now (a .room)) (a .at) (m .enum-told .given .1) (sym (length-field 0 []), p .put-field .ensures ∙ rw (p .before .front .ensures))
+
+pub put-spec : {M : Type 1} → statement M
+put-spec =
+    tie.close
+    (tie.spec
+    enum-known-self
+    put-field16-requires
+    add-result
+    enum-known-self-2
+    put-setting-requires
+    add-result-2
+    enum-known-self-3
+    put-frame-requires
+    add-result-3
+    add-result-4
+    enum-known-self-4
+    put-slot-requires
+    add-result-5
+    enum-known-self-5
+    put-slot-requires-2
+    add-result-6
+    enum-told
+    front-requires
+    put-field-requires
+    same-length
+    returns
+    same-length-2
+    returns-2
+    same-length-3
+    returns-3
+    same-length-4
+    returns-4
+    same-length-5
+    returns-5
+    same-length-6
+    returns-6)

@@ -1,0 +1,182 @@
+-- Both round trips: what is written for an item reads back as that item, and a known tag and value is what the writer writes for the item that it says.
+-- Assumes nothing.
+use mathlib.Core.Path.{_≡_, refl, sym, ap, ap₂, _∙_, subst}
+use mathlib.Core.Bool.{Bool, true, false, cond, and-eq-true-iff}
+use mathlib.Core.List.{List, [], _∷_, _++_}
+use Prim.Native.Nat.{ℕ, _+_, _^_, _≤_, _<_}
+use native.Mathlib.Omega.{arith}
+use borrow.Author.Tests.{eqb-true}
+use lib.Dec.{eqb}
+use lib.ListN.{length, getD, drop, length-append, length-drop}
+use lib.Seq.{take-at, drop-at, take-all, drop-cons}
+use lib.Signed.{mag}
+use Rattle.wire.specs.Bytes.{number, bytes, part}
+use Rattle.wire.proofs.Numbers.{Bytes, length-bytes, number-bytes, number-below}
+use Rattle.wire.proofs.Fields.{part-number, part-split, bytes-part, length-part}
+use Rattle.items.specs.declared.Setting.{Setting}
+use Rattle.items.specs.declared.Item.{Item}
+use Rattle.items.specs.declared.Item.the-variants.{Window, Set, Frame, Remove, Show, Unknown}
+use Rattle.items.specs.Items.{signed16, unsigned16, settingBytes, settingIn, tagOf, valueOf, is, dataIn, itemIn}
+use Rattle.items.specs.Run.{Meant, meantBy}
+use Rattle.items.proofs.Signs.{unsigned-below, unsigned-signed, signed-unsigned}
+
+-- ---- written, then read
+
+-- What fits an item's bytes: numbers of their width, and 8 data bytes with a frame, none with any other item.
+abbrev pub Fits : Item → List ℕ → Type 0
+Fits (Window n) ds = (n < 65536) × (ds ≡ [])
+Fits (Set s) ds = (mag (s .loss) < 32768) × (mag (s .shake) < 32768) × (ds ≡ [])
+Fits (Frame id) ds = (id < 4294967296) × (length ds ≡ 8)
+Fits (Remove slot) ds = ds ≡ []
+Fits (Show slot) ds = ds ≡ []
+Fits Unknown ds = ds ≡ []
+
+abbrev pub meant : Item → List ℕ → Meant
+meant i ds = record { item = i; data-bytes = ds }
+
+window-back : (n : ℕ) → n < 65536 → itemIn 16 (bytes 2 n) ≡ Window n
+unfolding itemIn
+window-back n h =
+    rw (length-bytes 2 n, take-all 2 (bytes 2 n) (omega (arith, length-bytes 2 n)), number-bytes 2 n h)
+
+-- The four parts of a question's value.
+module _ (s : Setting) where
+  abbrev a : ℕ
+  a = unsigned16 (s .loss)
+
+  abbrev b : ℕ
+  b = unsigned16 (s .shake)
+
+  first-part : part 2 2 (settingBytes s) ≡ bytes 2 a
+  unfolding settingBytes bytes
+  first-part = refl
+
+  second-part : part 4 2 (settingBytes s) ≡ bytes 2 b
+  unfolding settingBytes bytes
+  second-part = refl
+
+  six : length (settingBytes s) ≡ 6
+  unfolding settingBytes bytes
+  six = refl
+
+  setting-back : mag (s .loss) < 32768 → mag (s .shake) < 32768 → settingIn (settingBytes s) ≡ s
+  unfolding settingBytes
+  setting-back h k =
+      let loss : signed16 (number (part 2 2 (settingBytes s))) ≡ s .loss =
+      ap (λ (l : List ℕ). signed16 (number l)) first-part ∙ ap signed16 (number-bytes 2 a (unsigned-below (s .loss) h)) ∙ signed-unsigned (s .loss) h in
+      let shake : signed16 (number (part 4 2 (settingBytes s))) ≡ s .shake =
+      ap (λ (l : List ℕ). signed16 (number l)) second-part ∙ ap signed16 (number-bytes 2 b (unsigned-below (s .shake) k)) ∙ signed-unsigned (s .shake) k in
+      λ i. record { slot = s .slot; k = s .k; loss = loss i; shake = shake i }
+
+  set-back : mag (s .loss) < 32768 → mag (s .shake) < 32768 → itemIn 17 (settingBytes s) ≡ Set s
+  unfolding itemIn
+  set-back h k = rw six (ap Set (setting-back h k))
+
+module _ (id : ℕ) (ds : List ℕ) (eight : length ds ≡ 8) where
+  twelve : length (bytes 4 id ++ ds) ≡ 12
+  twelve = omega (arith, length-append (bytes 4 id) ds, length-bytes 4 id)
+
+  data-back : dataIn (bytes 4 id ++ ds) ≡ ds
+  data-back = rw (drop-at (bytes 4 id) ds 4 (length-bytes 4 id)) (take-all 8 ds (omega arith))
+
+  frame-back : id < 4294967296 → itemIn 18 (bytes 4 id ++ ds) ≡ Frame id
+  unfolding itemIn
+  frame-back h = rw (twelve, take-at (bytes 4 id) ds 4 (length-bytes 4 id), number-bytes 4 id h)
+
+remove-back : (slot : ℕ) → meantBy 19 (slot ∷ []) ≡ meant (Remove slot) []
+unfolding itemIn
+remove-back slot = refl
+
+show-back : (slot : ℕ) → meantBy 20 (slot ∷ []) ≡ meant (Show slot) []
+unfolding itemIn
+show-back slot = refl
+
+unknown-back : meantBy 0 [] ≡ meant Unknown []
+unfolding itemIn
+unknown-back = refl
+
+-- What is written for an item is read as that item.
+pub written-back : (i : Item) (ds : List ℕ) → Fits i ds → meantBy (tagOf i) (valueOf i ds) ≡ meant i ds
+written-back (Window n) ds fits = rw (window-back n (fits .0), fits .1)
+written-back (Set s) ds fits = rw (set-back s (fits .0) (fits .1), fits .2)
+written-back (Frame id) ds fits = rw (frame-back id ds (fits .1) (fits .0), data-back id ds (fits .1))
+written-back (Remove slot) ds fits = rw fits (remove-back slot)
+written-back (Show slot) ds fits = rw fits (show-back slot)
+written-back Unknown ds fits = rw fits unknown-back
+
+-- ---- read, then written
+
+-- The cases of reading: P holds of what is read if it holds of each item with what led to it.
+module _ (P : Item → Type 0) (tag : ℕ) (v : List ℕ) where
+  case : (want size : ℕ) (x : Item) {y : Item} → (tag ≡ want → length v ≡ size → P x) → P y → P (cond (is tag v want size) x y)
+  case want size x {y} f g = go (is tag v want size) refl
+    where
+      go : (b : Bool) → is tag v want size ≡ b → P (cond b x y)
+      go true e = let both = and-eq-true-iff (eqb tag want) (eqb (length v) size) .0 e in f (eqb-true _ _ (both .0)) (eqb-true _ _ (both .1))
+      go false e = g
+
+  pub by-cases : (tag ≡ 16 → length v ≡ 2 → P (Window (number (part 0 2 v)))) → (tag ≡ 17 → length v ≡ 6 → P (Set (settingIn v)))
+      → (tag ≡ 18 → length v ≡ 12 → P (Frame (number (part 0 4 v)))) → (tag ≡ 19 → length v ≡ 1 → P (Remove (getD v 0 0)))
+      → (tag ≡ 20 → length v ≡ 1 → P (Show (getD v 0 0))) → P Unknown → P (itemIn tag v)
+  unfolding itemIn
+  by-cases w s f r q u =
+      case 16 2 (Window (number (part 0 2 v))) w
+      (case 17 6 (Set (settingIn v)) s
+      (case 18 12 (Frame (number (part 0 4 v))) f (case 19 1 (Remove (getD v 0 0)) r (case 20 1 (Show (getD v 0 0)) q u))))
+
+one-byte : (v : List ℕ) → length v ≡ 1 → getD v 0 0 ∷ [] ≡ v
+one-byte [] e = absurd (omega arith)
+one-byte (b ∷ []) e = refl
+one-byte (a ∷ (b ∷ v)) e = absurd (omega arith)
+
+-- Bytes up to their end are those of the number that they stand for.
+to-the-end : (v : List ℕ) (at n : ℕ) → at + n ≡ length v → part at n v ≡ drop at v
+to-the-end v at n e = take-all n (drop at v) (rw length-drop (omega arith))
+
+-- The weight in two bytes.
+weight-bytes : (v : List ℕ) (at : ℕ) → Bytes v → at + 2 ≤ length v → bytes 2 (unsigned16 (signed16 (number (part at 2 v)))) ≡ part at 2 v
+weight-bytes v at bs h =
+    let two : length (part at 2 v) ≡ 2 = length-part v at 2 h in
+    let small : number (part at 2 v) < 65536 = subst (λ (n : ℕ). number (part at 2 v) < 256 ^ n) two (number-below (part at 2 v) (bytes-part v at 2 bs)) in
+    ap (bytes 2) (unsigned-signed (number (part at 2 v)) small) ∙ sym (part-number v at 2 bs h)
+
+setting-bytes : (v : List ℕ) → Bytes v → length v ≡ 6 → settingBytes (settingIn v) ≡ v
+unfolding settingBytes
+setting-bytes v bs six =
+    ap₂ (λ (x y : List ℕ). getD v 0 0 ∷ (getD v 1 0 ∷ (x ++ y))) (weight-bytes v 2 bs (omega arith)) (weight-bytes v 4 bs (omega arith) ∙ to-the-end v 4 2 (omega arith))
+    ∙ sym (drop-cons v 0 0 (omega arith) ∙ ap (λ (l : List ℕ). getD v 0 0 ∷ l) (drop-cons v 1 0 (omega arith) ∙ ap (λ (l : List ℕ). getD v 1 0 ∷ l) (part-split v 2 2)))
+
+frame-bytes : (v : List ℕ) → Bytes v → length v ≡ 12 → bytes 4 (number (part 0 4 v)) ++ dataIn v ≡ v
+frame-bytes v bs e =
+    ap₂ (λ (x y : List ℕ). x ++ y) (sym (part-number v 0 4 bs (omega arith))) (to-the-end v 4 8 (omega arith)) ∙ sym (part-split v 0 4)
+
+-- A known tag and value is what is written for the item that it says.
+pub read-back : (tag : ℕ) (v : List ℕ) → Bytes v → (itemIn tag v ≡ Unknown → ⊥) → (tagOf (itemIn tag v) ≡ tag) × (valueOf (itemIn tag v) (dataIn v) ≡ v)
+read-back tag v bs =
+    by-cases (λ i. (i ≡ Unknown → ⊥) → (tagOf i ≡ tag) × (valueOf i (dataIn v) ≡ v)) tag v
+    (λ t e k. (sym t, sym (part-number v 0 2 bs (omega arith)) ∙ to-the-end v 0 2 (omega arith)))
+    (λ t e k. (sym t, setting-bytes v bs e))
+    (λ t e k. (sym t, frame-bytes v bs e))
+    (λ t e k. (sym t, one-byte v e))
+    (λ t e k. (sym t, one-byte v e))
+    (λ k. absurd (k refl))
+
+-- No value that is empty or of more than 12 bytes is known.
+pub long-unknown : (tag : ℕ) (v : List ℕ) → 12 < length v → itemIn tag v ≡ Unknown
+long-unknown tag v h =
+    by-cases (λ i. i ≡ Unknown) tag v (λ t e. absurd (omega arith)) (λ t e. absurd (omega arith)) (λ t e. absurd (omega arith)) (λ t e. absurd (omega arith)) (λ t e. absurd (omega arith)) refl
+
+pub empty-unknown : (tag : ℕ) → itemIn tag [] ≡ Unknown
+empty-unknown tag =
+    by-cases (λ i. i ≡ Unknown) tag [] (λ t e. absurd (omega arith)) (λ t e. absurd (omega arith)) (λ t e. absurd (omega arith)) (λ t e. absurd (omega arith)) (λ t e. absurd (omega arith)) refl
+
+-- A frame's value has 12 bytes.
+pub frame-sized : (tag : ℕ) (v : List ℕ) (id : ℕ) → itemIn tag v ≡ Frame id → length v ≡ 12
+frame-sized tag v id =
+    by-cases (λ i. i ≡ Frame id → length v ≡ 12) tag v
+    (λ t e f. let z : _≡_ {A = ℕ} 0 1 = cc in absurd (omega arith))
+    (λ t e f. let z : _≡_ {A = ℕ} 0 1 = cc in absurd (omega arith))
+    (λ t e f. e)
+    (λ t e f. let z : _≡_ {A = ℕ} 0 1 = cc in absurd (omega arith))
+    (λ t e f. let z : _≡_ {A = ℕ} 0 1 = cc in absurd (omega arith))
+    (λ f. let z : _≡_ {A = ℕ} 0 1 = cc in absurd (omega arith))

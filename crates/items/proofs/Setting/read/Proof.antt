@@ -1,0 +1,47 @@
+-- `items::Setting::read` meets its contract: a signed number of 16 bits is kept where it is stored.
+-- Assumes nothing.
+use mathlib.Core.Path.{ap, _∙_}
+use Rattle.items.specs.Items.{signed16}
+use Rattle.items.proofs.Signs.{signed-kept}
+use borrow.Author.Needs.{needs}
+use Rattle.items.proofs.Setting.read.Statement.{statement}
+use Rattle.items.proofs.Setting.read.Tie as tie
+
+byte-requires : tie.Need-byte-requires
+byte-requires c κs = search needs
+
+byte-requires-2 : tie.Need-byte-requires-2
+byte-requires-2 c κs = search needs
+
+read16-requires : tie.Need-read16-requires
+read16-requires c κs = search needs
+
+signed16-requires : tie.Need-signed16-requires
+signed16-requires c κs = search needs
+
+read16-requires-2 : tie.Need-read16-requires-2
+read16-requires-2 c κs = search needs
+
+signed16-requires-2 : tie.Need-signed16-requires-2
+signed16-requires-2 c κs = search needs
+
+returns : tie.Need-returns
+returns c =
+    let r = c .before .before .before in
+    let loss = signed-kept (r .read16 .result) (search needs) (c .before .before .signed16 .ensures) ∙ ap signed16 (r .read16 .ensures) in
+    let shake = signed-kept (c .before .read162 .result) (search needs) (c .signed162 .ensures) ∙ ap signed16 (c .before .read162 .ensures) in
+    let slot = r .before .before .byte .ensures in
+    let k = r .before .byte2 .ensures in
+    λ i. record { slot = slot i; k = k i; loss = loss i; shake = shake i }
+
+pub read-spec : {M : Type 1} → statement M
+read-spec =
+    tie.close
+    (tie.spec
+    byte-requires
+    byte-requires-2
+    read16-requires
+    signed16-requires
+    read16-requires-2
+    signed16-requires-2
+    returns)

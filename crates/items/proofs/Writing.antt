@@ -1,0 +1,40 @@
+-- The parts of an item stand in a row: each store goes behind the last.
+-- Assumes nothing.
+use mathlib.Core.Path.{_≡_, refl, sym, ap, _∙_, subst}
+use mathlib.Core.List.{List, _∷_, _++_}
+use Prim.Native.Nat.{ℕ, _+_, _%_}
+use native.Mathlib.Omega.{arith}
+use lib.IntN.{ℤ}
+use lib.ListN.{length, set, replicate, length-append}
+use lib.Seq.{sets}
+use Rattle.wire.specs.Bytes.{bytes, head, field}
+use Rattle.wire.proofs.Fields.{length-field}
+use Rattle.wire.proofs.Numbers.{length-bytes}
+use Rattle.wire.proofs.Stores.{put-tag, put-value, head-low, sets-append}
+use Rattle.items.specs.declared.Item.{Item}
+use Rattle.items.specs.declared.Setting.{Setting}
+use Rattle.items.specs.Items.{unsigned16, settingBytes, itemBytes}
+
+-- A question's value.
+pub setting-stored : (s : Setting) {a b : ℕ} {b₁ b₂ b₃ b₄ : List ℕ} → a ≡ unsigned16 (s .loss) → b ≡ unsigned16 (s .shake)
+    → b₁ ≡ set (replicate 6 0) 0 (s .slot) → b₂ ≡ set b₁ 1 (s .k) → b₃ ≡ sets b₂ 2 (bytes 2 a) → b₄ ≡ sets b₃ 4 (bytes 2 b) → b₄ ≡ settingBytes s
+unfolding settingBytes bytes
+setting-stored s e f e₁ e₂ e₃ e₄ = rw (e₄, e₃, e₂, e₁, e, f)
+
+-- A frame's tag, length, identifier and data.
+pub frame-stored : (b : List ℕ) {b₁ b₂ b₃ b₄ : List ℕ} (at id : ℕ) (d : List ℕ) → b₁ ≡ set b at 18 → b₂ ≡ sets b₁ (at + 1) (bytes 2 ((4 + length d) % 65536))
+    → b₃ ≡ sets b₂ (at + 3) (bytes 4 id) → b₄ ≡ sets b₃ (at + 3 + 4) d → b₄ ≡ sets b at (field 18 (bytes 4 id ++ d))
+frame-stored b {b₁} {b₂} {b₃} {b₄} at id d e₁ e₂ e₃ e₄ =
+    let value = bytes 4 id ++ d in
+    let long : length value ≡ 4 + length d = omega (arith, length-append (bytes 4 id) d, length-bytes 4 id) in
+    let row : b₄ ≡ sets b₂ (at + 3) value =
+    rw (e₄, e₃, sets-append b₂ (at + 3) (bytes 4 id) d, length-bytes 4 id) in
+    put-value b at 18 ((4 + length d) % 65536) value (head-low 18 (4 + length d) ∙ ap (head 18) (sym long)) (put-tag b at 18 ((4 + length d) % 65536) e₁ e₂) row
+
+pub frame-long : (id : ℕ) (d : List ℕ) → length (field 18 (bytes 4 id ++ d)) ≡ 3 + 4 + length d
+frame-long id d = omega (arith, length-field 18 (bytes 4 id ++ d), length-append (bytes 4 id) d, length-bytes 4 id)
+
+-- An item is what its variant says.
+pub put-is : (self v : Item) (d room : List ℕ) (at : ℕ) {n : ℕ} {left : List ℕ} → self ≡ v
+    → (n ≡ length (itemBytes v d)) × (left ≡ sets room at (itemBytes v d)) → (n ≡ length (itemBytes self d)) × (left ≡ sets room at (itemBytes self d))
+put-is self v d room at {n} {left} e h = subst (λ (i : Item). (n ≡ length (itemBytes i d)) × (left ≡ sets room at (itemBytes i d))) (sym e) h

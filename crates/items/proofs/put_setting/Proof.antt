@@ -1,0 +1,82 @@
+-- `items::put_setting` meets its contract: the four parts of the value stand in a row.
+-- Assumes nothing.
+use mathlib.Core.Path.{ap, _∙_}
+use mir.Facts.{toZ-ofZ}
+use Rattle.items.specs.Items.{unsigned16}
+use Rattle.items.proofs.Writing.{setting-stored}
+use borrow.Author.Needs.{needs}
+use Rattle.items.proofs.put_setting.Statement.{statement}
+use Rattle.items.proofs.put_setting.Tie as tie
+
+slice-aggregate-put : tie.Need-slice-aggregate-put
+slice-aggregate-put c = search needs
+
+put-requires : tie.Need-put-requires
+put-requires c κs = search needs
+
+slice-aggregate-put-2 : tie.Need-slice-aggregate-put-2
+slice-aggregate-put-2 c = search needs
+
+put-requires-2 : tie.Need-put-requires-2
+put-requires-2 c κs = search needs
+
+slice-aggregate-put16 : tie.Need-slice-aggregate-put16
+slice-aggregate-put16 c = search needs
+
+unsigned16-requires : tie.Need-unsigned16-requires
+unsigned16-requires c κs = search needs
+
+put16-requires : tie.Need-put16-requires
+put16-requires c κs = search needs
+
+slice-aggregate-put16-2 : tie.Need-slice-aggregate-put16-2
+slice-aggregate-put16-2 c = search needs
+
+unsigned16-requires-2 : tie.Need-unsigned16-requires-2
+unsigned16-requires-2 c κs = search needs
+
+put16-requires-2 : tie.Need-put16-requires-2
+put16-requires-2 c κs = search needs
+
+slice-aggregate-put-field : tie.Need-slice-aggregate-put-field
+slice-aggregate-put-field c = search needs
+
+put-field-requires : tie.Need-put-field-requires
+put-field-requires c κs = search needs
+
+same-length : tie.Need-same-length
+same-length c = search needs
+
+returns : tie.Need-returns
+returns c =
+    let f = c .before .before in
+    let fourth = f .before .before .before .before in
+    let b = fourth .before in
+    let third = b .before .before .before .before in
+    let a = third .before in
+    let second = a .before .before .before .before in
+    let first = second .before .before .before in
+    let s = first .before .before .before .args .s in
+    let loss = a .unsigned16 .ensures ∙ ap unsigned16 (toZ-ofZ (record { sfits = a .before .struct-told .given .1 .1 .0 .1 })) in
+    let shake = b .unsigned162 .ensures ∙ ap unsigned16 (toZ-ofZ (record { sfits = b .before .struct-told2 .given .1 .1 .1 .0 .1 })) in
+    f .put-field .ensures
+    ∙ rw (setting-stored s loss shake (first .put .ensures) (second .put2 .ensures) (third .put16 .ensures) (fourth .put162 .ensures))
+
+pub put-setting-spec : {M : Type 1} → statement M
+put-setting-spec =
+    tie.close
+    (tie.spec
+    slice-aggregate-put
+    put-requires
+    slice-aggregate-put-2
+    put-requires-2
+    slice-aggregate-put16
+    unsigned16-requires
+    put16-requires
+    slice-aggregate-put16-2
+    unsigned16-requires-2
+    put16-requires-2
+    slice-aggregate-put-field
+    put-field-requires
+    same-length
+    returns)

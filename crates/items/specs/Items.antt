@@ -1,0 +1,72 @@
+-- The log's items (document 01, "Bench sender and log program"): "16 length 2, N; 17 length 6, slot, k, a, b (a and b signed 16-bit);
+-- 18 length 12, a frame; 19 length 1, remove slot; 20 length 1, show slot".
+use Prim.Native.Nat.{ℕ, _-_}
+use mathlib.Core.List.{List, [], _∷_, _++_}
+use mathlib.Core.Bool.{Bool, cond, _&&_}
+use lib.ListN.{length, getD}
+use lib.Dec.{ltb, eqb}
+use lib.IntN.{ℤ, pos, negsuc}
+use Rattle.wire.specs.Bytes.{number, bytes, part, field}
+use Rattle.items.specs.declared.Setting.{Setting}
+use Rattle.items.specs.declared.Item.{Item}
+use Rattle.items.specs.declared.Item.the-variants.{Window, Set, Frame, Remove, Show, Unknown}
+
+-- "Signed 16-bit": the number that two bytes then stand for, and the other way.
+unfoldable pub signed16 : ℕ → ℤ
+signed16 n = cond (ltb n 32768) (pos n) (negsuc (65535 - n))
+
+unfoldable pub unsigned16 : ℤ → ℕ
+unsigned16 (pos n) = n
+unsigned16 (negsuc n) = 65535 - n
+
+-- ---- writing
+
+-- "Slot, k, a, b (a and b signed 16-bit)."
+unfoldable pub settingBytes : Setting → List ℕ
+settingBytes s = s .slot ∷ (s .k ∷ (bytes 2 (unsigned16 (s .loss)) ++ bytes 2 (unsigned16 (s .shake))))
+
+-- An item's tag; no log knows 0.
+abbrev pub tagOf : Item → ℕ
+tagOf (Window n) = 16
+tagOf (Set s) = 17
+tagOf (Frame id) = 18
+tagOf (Remove slot) = 19
+tagOf (Show slot) = 20
+tagOf Unknown = 0
+
+-- Its value. A frame's data bytes stand beside the item: "identifier in 4, data in 8".
+abbrev pub valueOf : Item → List ℕ → List ℕ
+valueOf (Window n) ds = bytes 2 n
+valueOf (Set s) ds = settingBytes s
+valueOf (Frame id) ds = bytes 4 id ++ ds
+valueOf (Remove slot) ds = slot ∷ []
+valueOf (Show slot) ds = slot ∷ []
+valueOf Unknown ds = []
+
+-- Its bytes: a tagged field.
+abbrev pub itemBytes : Item → List ℕ → List ℕ
+itemBytes i ds = field (tagOf i) (valueOf i ds)
+
+-- ---- reading
+
+-- A tag and a value of this length.
+abbrev pub is : ℕ → List ℕ → ℕ → ℕ → Bool
+is tag v want size = eqb tag want && eqb (length v) size
+
+-- The question in a value.
+abbrev pub settingIn : List ℕ → Setting
+settingIn v = record { slot = getD v 0 0; k = getD v 1 0; loss = signed16 (number (part 2 2 v)); shake = signed16 (number (part 4 2 v)) }
+
+-- The data bytes in a frame's value.
+abbrev pub dataIn : List ℕ → List ℕ
+dataIn v = part 4 8 v
+
+-- What an item of this tag and value says; any other tag, or another length, is unknown.
+unfoldable pub itemIn : ℕ → List ℕ → Item
+itemIn tag v =
+    cond (is tag v 16 2) (Window (number (part 0 2 v)))
+    (cond (is tag v 17 6) (Set (settingIn v))
+    (cond (is tag v 18 12) (Frame (number (part 0 4 v)))
+    (cond (is tag v 19 1) (Remove (getD v 0 0))
+    (cond (is tag v 20 1) (Show (getD v 0 0))
+    Unknown))))

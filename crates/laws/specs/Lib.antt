@@ -1,0 +1,2 @@
+-- Words on lists that definitions use.
+pub mod Lists
