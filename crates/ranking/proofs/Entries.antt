@@ -2,23 +2,23 @@
 -- report which enters after all others has a place.
 -- Assumes nothing.
 use mathlib.Core.Path.{_≡_, refl, sym, ap, ap₂, _∙_, subst}
-use mathlib.Core.Bool.{Bool, true, false, not, cond, _&&_, _||_}
-use mathlib.Core.List.{List, [], _∷_, _++_, map, Memᴰ·map, Memᴰ·of-map}
+use mathlib.Core.Bool.{Bool, true, false, not, cond, _||_}
+use mathlib.Core.List.{List, [], _∷_, _++_, Memᴰ·map, Memᴰ·of-map}
 use mathlib.Core.Logic.{_⊎_, inl, inr}
 use Prim.Native.Nat.{ℕ, min, _+_, _≤_, _<_}
 use native.Mathlib.Omega.{arith}
-use borrow.Author.Tests.{lt-ltb, le-leb, lt-leb, ltb-true, ltb-false, eq-eqb, ne-eqb}
-use lib.Dec.{leb, ltb, eqb}
-use lib.ListN.{length, take, length-map, length-take}
-use lib.IntN.{ℤ, pos, negsuc}
-use lib.Signed.{ltZ, leZ}
+use borrow.Author.Tests.{lt-ltb, eq-eqb, ne-eqb}
+use lib.Dec.{ltb}
+use lib.ListN.{length, take, length-map}
+use lib.IntN.{ℤ, pos}
+use lib.Signed.{ltZ}
 use Rattle.laws.specs.Lists.{_∈_, onLast}
 use Rattle.laws.specs.Whole.{equal as same}
 use Rattle.laws.proofs.Tests.{and-both, and-true}
 use Rattle.laws.proofs.Lists.{Same, Pairwise, Distinct, same-map, map-append, last-same}
 use Rattle.laws.proofs.Orders.{StrictTotal, one-way, ltb-strict}
 use Rattle.laws.proofs.Whole.{ltZ-strict, le-is, equal-is, equal-refl}
-use Rattle.search.specs.Best.{best, place}
+use Rattle.search.specs.Best.{place}
 use Rattle.search.proofs.Best.{best-same, best-of, best-rule, best-cons, length-best}
 use Rattle.ranking.specs.Cells.{noRule, isNone, score, greater}
 use Rattle.ranking.specs.Standing.{Held, Entry, goesFirst, above, entry, entries, top, passes, hasPlace, placeBy}

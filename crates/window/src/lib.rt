@@ -2,7 +2,7 @@
 ghost use mathlib.Core.Path.{_≡_};
 ghost use mathlib.Core.Bool.{true};
 ghost use Prim.Native.Nat.{min, _+_, _-_, _%_, _<_, _≤_};
-ghost use Rattle.window.specs.Rows.{rowCount, reportLimit, freshWindow, fitWindow, added, sized, empty, rowOf, counted, placeFor, due, holds, rowsFit, countsFit};
+ghost use Rattle.window.specs.Rows.{rowCount, reportLimit, freshWindow, fitWindow, added, sized, empty, rowOf, placeFor, due, holds, rowsFit, countsFit};
 use values::Values;
 
 // How many rows are used, N; how many reports were entered, which is the last one's number; and how many of the latest are

@@ -1,11 +1,10 @@
 -- The best possible score is the score at the cell's corner, whose values have 12 bits.
 -- Assumes nothing.
-use mathlib.Core.Path.{_≡_, ap, ap₂, _∙_}
+use mathlib.Core.Path.{ap, ap₂, _∙_}
 use Prim.Native.Nat.{_%_, _/_}
 use borrow.Author.Needs.{needs}
 use mir.Syntax.{w16, w32}
 use Rattle.laws.proofs.Words.{kept}
-use Rattle.values.specs.declared.Values.{Values}
 use Rattle.values.specs.Range.{low}
 use Rattle.values.proofs.Facts.{low-same}
 use Rattle.ranking.specs.Cells.{score, corner, cornerOf}
