@@ -16,7 +16,7 @@ use Rattle.ranking.specs.declared.Weights.{Weights}
 use Rattle.laws.proofs.Tests.{clash, and-both, and-true, or-right}
 use Rattle.laws.proofs.Lists.{index-of, getD-in}
 use Rattle.search.proofs.Best.{length-best-le}
-use Rattle.ranking.proofs.Standing.{above-strict}
+use Rattle.ranking.proofs.Entries.{above-strict}
 use Rattle.window.specs.declared.Window.{Window}
 use Rattle.window.specs.Rows.{heldReports, fitWindow, added}
 use Rattle.window.specs.History.{Values, numbered, latest}

@@ -15,7 +15,7 @@ use Rattle.ranking.specs.Standing.{Held, Entry, Permitted, above, entry}
 use Rattle.laws.proofs.Tests.{Tested, passed, failed, tested}
 use Rattle.laws.proofs.Lists.{_⊆_, there, drop-⊆}
 use Rattle.search.proofs.Best.{best-of}
-use Rattle.ranking.proofs.Standing.{above-strict}
+use Rattle.ranking.proofs.Entries.{above-strict}
 use Rattle.window.specs.declared.Window.{Window}
 use Rattle.window.specs.Rows.{heldReports, fitWindow, added, reportOf}
 use Rattle.window.proofs.Fitness as window

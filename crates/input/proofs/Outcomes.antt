@@ -5,7 +5,7 @@ use mathlib.Core.Path.{sym, _∙_}
 use mathlib.Core.List.{List}
 use Prim.Native.Nat.{ℕ}
 use denote.Ref.{now}
-use Rattle.wire.proofs.Outcomes.{OneAnswer, OneLeft}
+use Rattle.laws.proofs.Outcomes.{OneAnswer, OneLeft}
 use Rattle.input.proofs.Input.fresh.Kinds as fresh-kinds
 use Rattle.input.proofs.Input.fresh.Reads as fresh-reads
 use Rattle.input.proofs.Input.fits.Kinds as fits-kinds

@@ -26,7 +26,8 @@ use Rattle.laws.proofs.Orders.{one-way}
 use Rattle.search.proofs.Best.{length-best-le, best-skip}
 use Rattle.search.proofs.Search.{All}
 use Rattle.ranking.proofs.Scan.{left-none}
-use Rattle.ranking.proofs.Standing.{above-strict, found-best, steps-all, steps-full}
+use Rattle.ranking.proofs.Entries.{above-strict}
+use Rattle.ranking.proofs.Standing.{found-best, steps-all, steps-full}
 use Rattle.window.specs.declared.Window.{Window}
 use Rattle.window.specs.Rows.{reportIn, standing}
 use Rattle.question.specs.declared.Question.{Question}

@@ -20,7 +20,7 @@ use Rattle.ranking.specs.declared.Weights.{Weights}
 use Rattle.laws.proofs.Orders.{one-way}
 use Rattle.search.proofs.Best.{place-first, place-later, place-same}
 use Rattle.laws.proofs.Tests.{Tested, passed, failed, tested, clash}
-use Rattle.ranking.proofs.Standing.{above-strict}
+use Rattle.ranking.proofs.Entries.{above-strict}
 use Rattle.question.specs.declared.Question.{Question}
 use Rattle.question.specs.Lines.{linesOf, lines, asked}
 use Rattle.question.specs.Inner as inner

@@ -20,7 +20,7 @@ use Rattle.ranking.specs.declared.Weights.{Weights}
 use Rattle.laws.proofs.Tests.{Tested, passed, failed, tested, and-true, if-so, if-not}
 use Rattle.laws.proofs.Lists.{_⊆_, there, only-yes, only-no}
 use Rattle.search.proofs.Best.{best-cons, best-snoc, best-append, best-same, length-best-le}
-use Rattle.ranking.proofs.Standing.{above-strict}
+use Rattle.ranking.proofs.Entries.{above-strict}
 use Rattle.window.specs.declared.Window.{Window}
 use Rattle.window.specs.Rows.{reportIn, standing}
 use Rattle.question.specs.declared.Question.{Question}

@@ -7,7 +7,8 @@ use lib.Dec.{leb, ltb, eqb}
 use lib.IntN.{ℤ, pos}
 use lib.Signed.{ltZ}
 use Rattle.ranking.specs.declared.Weights.{Weights}
-use Rattle.ranking.specs.Cells.{inRange, score}
+use Rattle.values.specs.Range.{inRange}
+use Rattle.ranking.specs.Cells.{score}
 use Rattle.ranking.specs.Standing.{Entry, above, entry}
 use Rattle.window.specs.declared.Window.{Window}
 use Rattle.window.specs.Rows.{sized, rowOf, reportIn, heldReports, fitWindow}

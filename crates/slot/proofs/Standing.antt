@@ -14,7 +14,8 @@ use lib.ListN.{length}
 use lib.Signed.{ltZ, leZ}
 use Rattle.laws.specs.Lists.{_∈_, onLast}
 use Rattle.search.specs.Best.{best}
-use Rattle.ranking.specs.Cells.{inRange, cell, score, cellAt}
+use Rattle.values.specs.Range.{inRange}
+use Rattle.ranking.specs.Cells.{cell, score, cellAt}
 use Rattle.search.specs.Search.{steps}
 use Rattle.ranking.specs.Standing.{Held, Entry, Permitted, above, entry, reaches, searchOf}
 use Rattle.ranking.specs.declared.Weights.{Weights}
@@ -24,7 +25,8 @@ use Rattle.ranking.proofs.Scan.{cell-at}
 use Rattle.laws.proofs.Lists.{last-not, lt-or-eq, last-same}
 use Rattle.search.proofs.Best.{best-cons, best-rule, best-of, best-falling, length-best-le}
 use Rattle.search.proofs.Search.{in-has, goes-on}
-use Rattle.ranking.proofs.Standing.{above-strict, sound, steps-bounded, newest-above, reach-rises, length-list}
+use Rattle.ranking.proofs.Entries.{above-strict}
+use Rattle.ranking.proofs.Standing.{sound, steps-bounded, newest-above, reach-rises, length-list}
 use Rattle.search.proofs.Guard.{Guarded, guard-search, guard-unmarked, guard-enter}
 use Rattle.window.specs.declared.Window.{Window}
 use Rattle.window.specs.Rows.{heldReports, fitWindow, added}

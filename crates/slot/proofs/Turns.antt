@@ -18,7 +18,8 @@ use Rattle.ranking.specs.declared.Weights.{Weights}
 use Rattle.laws.proofs.Tests.{Tested, passed, failed, tested, clash}
 use Rattle.laws.proofs.Lists.{_⊆_, here, there, moved}
 use Rattle.search.proofs.Best.{best-of, best-part, length-best-le}
-use Rattle.ranking.proofs.Standing.{above-strict, steps-bounded}
+use Rattle.ranking.proofs.Entries.{above-strict}
+use Rattle.ranking.proofs.Standing.{steps-bounded}
 use Rattle.search.proofs.Guard.{Guarded}
 use Rattle.window.specs.declared.Window.{Window}
 use Rattle.window.specs.Rows.{heldReports, fitWindow, reportIn, standing}

@@ -6,7 +6,7 @@ use lib.ListN.{replicate}
 use lib.Dec.{leb, eqb}
 use lib.IntN.{pos}
 use Rattle.ranking.specs.declared.Weights.{Weights}
-use Rattle.ranking.specs.Cells.{inRange}
+use Rattle.values.specs.Range.{inRange}
 use Rattle.ranking.specs.Standing.{Held}
 use Rattle.question.specs.declared.Question.{Question}
 use Rattle.question.specs.declared.Searched.{Searched}
