@@ -9,8 +9,8 @@ use Rattle.laws.proofs.Words.{kept}
 use Rattle.question.proofs.Stored.{roomy}
 use Rattle.slot.proofs.Gauges.{least-none, least-last}
 use borrow.Author.Needs.{needs}
-use Rattle.slot.proofs.gauge.least.Statement.{statement}
-use Rattle.slot.proofs.gauge.least.Tie as tie
+use Rattle.slot.proofs.least.Statement.{statement}
+use Rattle.slot.proofs.least.Tie as tie
 
 lines-in-requires : tie.Need-lines-in-requires
 lines-in-requires c κs = search needs
