@@ -21,7 +21,7 @@ use Rattle.window.specs.Rows.{heldReports, fitWindow}
 use Rattle.window.proofs.Standing.{standing-held}
 use Rattle.question.specs.declared.Question.{Question}
 use Rattle.list.specs.Lines.{linesOf, allOf, falls, blank}
-use Rattle.question.specs.Lines.{lines, withList, at, finished, begun, stepped, inRows, stepOn}
+use Rattle.question.specs.Lines.{lines, asked, finished, begun, stepped, inRows, stepOn}
 use Rattle.question.specs.Calls.{heldAs, rangesFit, fitQuestion, stepCall, beginCall}
 use Rattle.question.specs.Inner.{stepRefusal}
 use Rattle.question.proofs.Taking.{step-is}
@@ -96,7 +96,7 @@ fit-facts w q h =
 pub stepped-same : (q : Question) (hs hs′ : List Held) → Same hs hs′ → stepped q hs ≡ stepped q hs′
 unfolding stepped
 stepped-same q hs hs′ s =
-    ap (λ l. at (withList q l) (cellAt (q .weights) (placeOf (q .weights) (q .next) + 1)))
+    ap (λ l. asked (q .k) (q .weights) l (cellAt (q .weights) (placeOf (q .weights) (q .next) + 1)))
     (best-same above above-strict (q .k) (lines q ++ new hs) (lines q ++ new hs′) (over hs hs′ (s .0), over hs′ hs (s .1)))
   where
     here : Held → Bool

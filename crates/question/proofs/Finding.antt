@@ -30,7 +30,7 @@ use Rattle.list.proofs.Placing.{best-back}
 use Rattle.list.proofs.Bars.{bar-full, bar-open}
 use Rattle.question.specs.declared.Question.{Question}
 use Rattle.question.specs.declared.Searched.{Searched}
-use Rattle.question.specs.Lines.{listOf, lines, withList, searched, searchedIn, inRows, searchedOn, searchedFirst}
+use Rattle.question.specs.Lines.{listOf, lines, asked, withList, searched, searchedIn, inRows, searchedOn, searchedFirst}
 use Rattle.question.specs.Inner.{shown, at, barOf, endedOf}
 
 -- ---- the end
@@ -74,7 +74,7 @@ module _ (q : Question) (small : q .k ≤ 16) (w : Window) (n : ℕ) where
   by-steps : (m : ℕ) → steps (searchOf (q .weights)) (q .k) hs ≡ m → ending m ≡ searchedIn q hs
   unfolding ending searched
   by-steps m e =
-      ap₂ (λ j l. record { steps = j; question = at (withList q l) (cellAt (q .weights) j) }) (sym e) (sym all-found)
+      ap₂ (λ j l. record { steps = j; question = asked (q .k) (q .weights) l (cellAt (q .weights) j) }) (sym e) (sym all-found)
 
   all-taken : cellAt (q .weights) 256 ≡ 256
   all-taken = getD-past 256 (visiting (q .weights)) 256 (left-none (q .weights) 256 (omega arith))

@@ -8,7 +8,8 @@ use Rattle.ranking.specs.Cells.{inRange, score}
 use Rattle.ranking.specs.Standing.{Entry, above, entry}
 use Rattle.window.specs.declared.Window.{Window}
 use Rattle.window.specs.Rows.{sized, rowOf, reportIn, heldReports, fitWindow}
-pub use Rattle.list.specs.Lines.{allOf, equal, blank}
+pub use Rattle.list.specs.Lines.{allOf, blank}
+unfoldable pub use Rattle.list.specs.Lines.{equal}
 use Rattle.list.specs.Lines.{linesOf, falls}
 use Rattle.question.specs.Lines.{lines, finished, begun, stepped}
 use Rattle.question.specs.declared.Question.{Question}

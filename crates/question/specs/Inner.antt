@@ -9,7 +9,6 @@ use Rattle.window.specs.Rows.{standing, fitWindow}
 use Rattle.list.specs.declared.Bar.{Bar}
 use Rattle.list.specs.Bars as bars
 use Rattle.question.specs.Lines.{listOf, withList, withEntry, cutToK, taken, finished}
-pub use Rattle.question.specs.Lines.{at}
 use Rattle.question.specs.Calls.{fitQuestion}
 use Rattle.question.specs.declared.Question.{Question}
 use Rattle.question.specs.declared.Searched.{Searched}
@@ -30,6 +29,11 @@ taking q h =
 -- The best k of the lines and of the next cell's reports in the first `n` rows.
 abbrev pub listTaken : Question → Window → ℕ → Question
 listTaken q w n = withList q (taken q (standing w n))
+
+-- The same list, and another cell is next.
+abbrev pub at : Question → ℕ → Question
+at q next =
+    record { k = q .k; weights = q .weights; numbers = q .numbers; scores = q .scores; len = q .len; next = next }
 
 -- What an entry has to rank above to change its list, where it has k lines.
 abbrev pub barOf : Question → Bar

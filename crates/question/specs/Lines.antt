@@ -74,14 +74,9 @@ unfoldable pub finished : Question → Bool
 finished q =
     leb 256 (q .next) || eqb (q .len) (q .k) && onLast (λ e. not (reaches (q .weights) (q .next) e)) (lines q)
 
--- The same list, and another cell is next.
-abbrev pub at : Question → ℕ → Question
-at q next =
-    record { k = q .k; weights = q .weights; numbers = q .numbers; scores = q .scores; len = q .len; next = next }
-
 -- "Beginning a search anew: empty list, no marks, no steps taken."
 abbrev pub begun : Question → Question
-begun q = at (withList q []) (cellAt (q .weights) 0)
+begun q = asked (q .k) (q .weights) [] (cellAt (q .weights) 0)
 
 -- "the best k of its old entries and that cell's held reports, each once"
 abbrev pub taken : Question → List Held → List Entry
@@ -91,7 +86,7 @@ taken q hs =
 -- "The next cell is marked, and the list becomes the best k of its old entries and that cell's held reports, each once."
 unfoldable pub stepped : Question → List Held → Question
 stepped q hs =
-    at (withList q (taken q hs)) (cellAt (q .weights) (placeOf (q .weights) (q .next) + 1))
+    asked (q .k) (q .weights) (taken q hs) (cellAt (q .weights) (placeOf (q .weights) (q .next) + 1))
 
 -- n steps, one after the other.
 unfoldable pub takes : ℕ → Question → List Held → Question
@@ -101,7 +96,8 @@ takes (suc n) q hs = stepped (takes n q hs) hs
 -- A search from its beginning to its end.
 unfoldable pub searched : Question → List Held → Question
 searched q hs =
-    at (withList q (found (searchOf (q .weights)) (q .k) hs)) (cellAt (q .weights) (steps (searchOf (q .weights)) (q .k) hs))
+    asked (q .k) (q .weights) (found (searchOf (q .weights)) (q .k) hs)
+    (cellAt (q .weights) (steps (searchOf (q .weights)) (q .k) hs))
 
 -- What it leaves, and the steps that it took.
 abbrev pub searchedIn : Question → List Held → Searched
