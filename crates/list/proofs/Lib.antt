@@ -1,4 +1,3 @@
-pub mod Choices
 pub mod Stored
 pub mod Placed
 pub mod Sliding

@@ -9,13 +9,14 @@ use native.Mathlib.Omega.{arith}
 use borrow.Author.Tests.{leb-true, leb-false}
 use lib.Dec.{leb, eqb}
 use lib.ListN.{drop}
-use Rattle.ranking.specs.Best.{only}
-use Rattle.ranking.specs.Cells.{cell, inRange, placeOf, cellAt}
+use Rattle.laws.specs.Lists.{only}
+use Rattle.ranking.specs.Cells.{cell, placeOf, cellAt}
+use Rattle.values.specs.Range.{inRange}
 use Rattle.ranking.specs.Standing.{Held, Entry, above, entry}
-use Rattle.ranking.proofs.Tests.{Tested, passed, failed, tested, clash, and-both}
-use Rattle.ranking.proofs.Lists.{_⊆_, Same, moved, only-in, only-of}
-use Rattle.ranking.proofs.Best.{best-same}
-use Rattle.ranking.proofs.Standing.{above-strict}
+use Rattle.laws.proofs.Tests.{Tested, passed, failed, tested, clash, and-both}
+use Rattle.laws.proofs.Lists.{_⊆_, Same, moved, only-in, only-of}
+use Rattle.search.proofs.Best.{best-same}
+use Rattle.ranking.proofs.Entries.{above-strict}
 use Rattle.window.specs.declared.Window.{Window}
 use Rattle.window.specs.Rows.{heldReports, fitWindow}
 use Rattle.window.proofs.Standing.{standing-held}

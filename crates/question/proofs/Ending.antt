@@ -6,10 +6,10 @@ use Prim.Native.Nat.{_≤_, _<_}
 use borrow.Author.Tests.{le-leb, lt-leb, ne-eqb, eq-eqb, eqb-true}
 use lib.Dec.{eqb}
 use lib.Signed.{ltZ}
-use Rattle.ranking.specs.Best.{onLast}
+use Rattle.laws.specs.Lists.{onLast}
 use Rattle.ranking.specs.Cells.{bestScore}
 use Rattle.ranking.specs.Standing.{reaches}
-use Rattle.ranking.proofs.Tests.{Tested, passed, failed, tested}
+use Rattle.laws.proofs.Tests.{Tested, passed, failed, tested}
 use Rattle.list.proofs.Bars.{bar-full, bar-open}
 use Rattle.question.specs.declared.Question.{Question}
 use Rattle.question.specs.Lines.{listOf, lines, finished}

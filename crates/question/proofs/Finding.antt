@@ -9,16 +9,18 @@ use native.Mathlib.Omega.{arith}
 use borrow.Author.Tests.{eqb-true, eqb-false, le-leb, lt-leb}
 use lib.Dec.{eqb, leb}
 use lib.ListN.{length, getD}
-use Rattle.ranking.specs.Best.{_∈_, best, onLast}
+use Rattle.laws.specs.Lists.{_∈_, onLast}
+use Rattle.search.specs.Best.{best}
 use Rattle.ranking.specs.Cells.{cellAt, visiting, reaching, reachOf}
-use Rattle.ranking.specs.Search.{steps, found}
+use Rattle.search.specs.Search.{steps, found}
 use Rattle.ranking.specs.Standing.{Held, Entry, above, entry, searchOf, Permitted}
 use Rattle.ranking.specs.declared.Reach.{Reach}
-use Rattle.ranking.proofs.Tests.{Tested, passed, failed, tested}
-use Rattle.ranking.proofs.Lists.{getD-past}
-use Rattle.ranking.proofs.Search.{All}
+use Rattle.laws.proofs.Tests.{Tested, passed, failed, tested}
+use Rattle.laws.proofs.Lists.{getD-past}
+use Rattle.search.proofs.Search.{All}
 use Rattle.ranking.proofs.Scan.{left-none}
-use Rattle.ranking.proofs.Standing.{above-strict, found-best, steps-all, steps-full}
+use Rattle.ranking.proofs.Entries.{above-strict}
+use Rattle.ranking.proofs.Standing.{found-best, steps-all, steps-full}
 use Rattle.window.specs.declared.Window.{Window}
 use Rattle.window.specs.Rows.{reportIn, standing}
 use Rattle.list.specs.declared.Bar.{Bar}

@@ -7,7 +7,7 @@ use native.Mathlib.Nat.{mod-lt}
 use native.Mathlib.Omega.{arith}
 use borrow.Author.Tests.{leb-true, leb-false, le-leb, lt-leb, ltb-true}
 use lib.Dec.{leb, ltb}
-use Rattle.ranking.proofs.Tests.{Tested, passed, failed, tested, and-both}
+use Rattle.laws.proofs.Tests.{Tested, passed, failed, tested, and-both}
 use Rattle.window.specs.Rows.{sized, rowOf}
 pub use Rattle.list.proofs.Walking.{equal-same, equal-other}
 use Rattle.question.specs.Calls.{holdsNumber}

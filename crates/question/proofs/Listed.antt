@@ -11,14 +11,14 @@ use borrow.Author.Tests.{le-leb, lt-ltb, eqb-true}
 use lib.Dec.{eqb}
 use lib.IntN.{ℤ, pos}
 use lib.ListN.{length, take, drop, getD, replicate}
-use Rattle.ranking.specs.Best.{_∈_}
+use Rattle.laws.specs.Lists.{_∈_}
 use Rattle.ranking.specs.Cells.{score}
 use Rattle.ranking.specs.Standing.{Entry, above, entry}
 use Rattle.ranking.specs.declared.Weights.{Weights}
-use Rattle.ranking.proofs.Tests.{and-both, and-true}
-use Rattle.ranking.proofs.Lists.{here, there, moved}
-use Rattle.ranking.proofs.Best.{Falling}
-use Rattle.ranking.proofs.Standing.{above-strict}
+use Rattle.laws.proofs.Tests.{and-both, and-true}
+use Rattle.laws.proofs.Lists.{here, there, moved}
+use Rattle.search.proofs.Best.{Falling}
+use Rattle.ranking.proofs.Entries.{above-strict}
 use Rattle.window.specs.declared.Window.{Window}
 use Rattle.window.specs.Rows.{rowOf, reportOf, reportIn, heldReports, due, fitWindow}
 use Rattle.window.proofs.Fitness as window

@@ -10,24 +10,15 @@ use native.Mathlib.Omega.{arith}
 use borrow.Author.Tests.{lt-ltb, le-ltb}
 use lib.ListN.{length, take, set, length-set}
 use lib.Seq.{take-suc-set, take-all, take-length}
-use Rattle.ranking.specs.Best.{_∈_}
+use Rattle.laws.proofs.Lists.{map-append}
+use Rattle.laws.specs.Lists.{_∈_}
 use Rattle.ranking.specs.Cells.{before, count, visiting, placeOf, cellAt}
-use Rattle.ranking.proofs.Tests.{Tested, passed, failed, tested}
-use Rattle.ranking.proofs.Search.{has-in, in-has}
+use Rattle.laws.proofs.Tests.{if-so, if-not, one-test}
+use Rattle.search.proofs.Search.{has-in, in-has}
 use Rattle.ranking.proofs.Cells.{visiting-in, length-visiting}
 use Rattle.ranking.proofs.Scan.{at-place, taken-before}
 use Rattle.question.specs.declared.Question.{Question}
 use Rattle.question.specs.Lines.{stepsTaken, marked, isMarked, marksOf}
-use Rattle.question.proofs.Taking.{if-so, if-not}
-
--- two tests that pass together are one
-pub one-test : (a b : Bool) → (a ≡ true → b ≡ true) → (b ≡ true → a ≡ true) → a ≡ b
-one-test true b f g = sym (f refl)
-one-test false b f g = go (tested b)
-  where
-    go : Tested b → false ≡ b
-    go (passed e) = g e ∙ sym e
-    go (failed e) = sym e
 
 module _ (q : Question) where
   pub steps-left : q .next < 256 → stepsTaken q ≡ placeOf (q .weights) (q .next)
@@ -69,10 +60,6 @@ count-append (suc n) rest =
     count-append n (n ∷ rest)
     ∙ sym (append-assoc (count n []) (n ∷ []) rest)
     ∙ ap (λ l. l ++ rest) (sym (count-append n (n ∷ [])))
-
-map-append : {A B : Type 0} (f : A → B) (xs ys : List A) → map f (xs ++ ys) ≡ map f xs ++ map f ys
-map-append f [] ys = refl
-map-append f (x ∷ xs) ys = ap (λ l. f x ∷ l) (map-append f xs ys)
 
 -- the first n places of a list hold f of each number
 pub record Filled (f : ℕ → Bool) (n : ℕ) (l : List Bool) : Type 0 where

@@ -12,18 +12,21 @@ use borrow.Author.Tests.{ltb-true, ltb-false, le-leb}
 use lib.Dec.{eqb, ltb}
 use lib.ListN.{length, take}
 use lib.Seq.{take-suc}
-use Rattle.ranking.specs.Best.{_∈_, best, only}
-use Rattle.ranking.specs.Cells.{inRange, cell, cells, visiting, placeOf, cellAt}
-use Rattle.ranking.specs.Search.{entries, heldIn, listAfter, steps, marks, has}
+use Rattle.laws.specs.Lists.{_∈_, only}
+use Rattle.search.specs.Best.{best}
+use Rattle.values.specs.Range.{inRange}
+use Rattle.ranking.specs.Cells.{cell, cells, visiting, placeOf, cellAt}
+use Rattle.search.specs.Search.{entries, heldIn, listAfter, steps, marks, has}
 use Rattle.ranking.specs.Standing.{Held, Entry, above, entry, searchOf, Wanted}
 use Rattle.ranking.specs.declared.Weights.{Weights}
-use Rattle.ranking.proofs.Tests.{Tested, passed, failed, tested}
-use Rattle.ranking.proofs.Lists.{Same, _⊆_, lt-or-eq, getD-past, only-in, only-of, pairwise-only}
-use Rattle.ranking.proofs.Best.{Falling, best-of, best-falling, length-best-le}
-use Rattle.ranking.proofs.Search.{has-in, in-has, held-part, ends, goes-on}
+use Rattle.laws.proofs.Tests.{Tested, passed, failed, tested, if-so}
+use Rattle.laws.proofs.Lists.{Same, _⊆_, lt-or-eq, getD-past, only-in, only-of, pairwise-only}
+use Rattle.search.proofs.Best.{Falling, best-of, best-falling, length-best-le}
+use Rattle.search.proofs.Search.{has-in, in-has, held-part, ends, goes-on}
 use Rattle.ranking.proofs.Cells.{length-visiting}
 use Rattle.ranking.proofs.Scan.{place-at, at-place, cell-at, left-none}
-use Rattle.ranking.proofs.Standing.{above-strict, steps-bounded, local, Alike, demand-3, Exact, length-list}
+use Rattle.ranking.proofs.Entries.{above-strict}
+use Rattle.ranking.proofs.Standing.{steps-bounded, local, Alike, demand-3, Exact, length-list}
 use Rattle.window.specs.declared.Window.{Window}
 use Rattle.window.specs.Rows.{heldReports, fitWindow}
 use Rattle.window.proofs.Fitness as window
@@ -33,7 +36,6 @@ use Rattle.question.specs.declared.Question.{Question}
 use Rattle.question.specs.Lines.{lines, asked, stepsTaken, marked, isMarked, finished, begun, stepped, takes, searched, searchedIn, inRows, searchedOn}
 use Rattle.question.specs.Calls.{fitQuestion, stepCall}
 use Rattle.question.proofs.Stored.{lines-asked}
-use Rattle.question.proofs.Taking.{if-so}
 use Rattle.question.proofs.Marking.{steps-left, steps-all}
 use Rattle.question.proofs.Steps.{reached, reached-lines, reached-none, reached-more, reached-end}
 use Rattle.question.proofs.Doors.{rows-held, step-ended, step-goes, step-held}

@@ -11,17 +11,19 @@ use native.Mathlib.Omega.{arith}
 use borrow.Author.Tests.{le-leb, lt-leb}
 use lib.Dec.{eqb}
 use lib.ListN.{length, take, drop}
-use Rattle.ranking.specs.Best.{best, onLast, only}
+use Rattle.laws.specs.Lists.{onLast, only}
+use Rattle.search.specs.Best.{best}
 use Rattle.ranking.specs.Cells.{cell, visiting, placeOf, cellAt}
-use Rattle.ranking.specs.Search.{has, entries, heldIn, listAfter, stops, ended, steps}
+use Rattle.search.specs.Search.{has, entries, heldIn, listAfter, stops, ended, steps}
 use Rattle.ranking.specs.Standing.{Held, Entry, above, entry, reaches, searchOf}
 use Rattle.ranking.specs.declared.Weights.{Weights}
-use Rattle.ranking.proofs.Tests.{Tested, passed, failed, tested, clash}
-use Rattle.ranking.proofs.Best.{length-best-le}
-use Rattle.ranking.proofs.Search.{list-zero, list-suc, ends}
-use Rattle.ranking.proofs.Standing.{above-strict, steps-bounded}
+use Rattle.laws.proofs.Tests.{Tested, passed, failed, tested, clash}
+use Rattle.search.proofs.Best.{length-best-le}
+use Rattle.search.proofs.Search.{list-zero, list-suc, ends}
+use Rattle.ranking.proofs.Entries.{above-strict}
+use Rattle.ranking.proofs.Standing.{steps-bounded}
 use Rattle.ranking.proofs.Scan.{place-at, cell-at, left-at, left-none}
-use Rattle.ranking.proofs.Lists.{getD-past, lt-or-eq, only-same}
+use Rattle.laws.proofs.Lists.{getD-past, lt-or-eq, only-same}
 use Rattle.question.specs.declared.Question.{Question}
 use Rattle.question.specs.Lines.{lines, asked, finished, stepped}
 use Rattle.question.proofs.Stored.{lines-asked}

@@ -6,7 +6,7 @@ use mathlib.Core.List.{List, [], map}
 use Prim.Native.Nat.{ℕ, _+_, _≤_}
 use lib.IntN.{ℤ}
 use lib.ListN.{length, take}
-use Rattle.ranking.specs.Best.{onLast}
+use Rattle.laws.specs.Lists.{onLast}
 use Rattle.ranking.specs.Standing.{Entry}
 use Rattle.ranking.specs.declared.Weights.{Weights}
 use Rattle.list.specs.Lines.{linesOf}

@@ -11,14 +11,15 @@ use borrow.Author.Tests.{lt-leb, le-leb, le-ltb, lt-ltb}
 use lib.Dec.{eqb, leb, ltb}
 use lib.ListN.{length, take, getD, length-take}
 use lib.Seq.{take-take}
-use Rattle.ranking.specs.Best.{best, place, only}
+use Rattle.search.specs.Best.{best, place}
+use Rattle.laws.specs.Lists.{only}
 use Rattle.ranking.specs.Cells.{cell, placeOf, cellAt}
 use Rattle.ranking.specs.Standing.{Held, Entry, above, entry}
 use Rattle.ranking.specs.declared.Weights.{Weights}
-use Rattle.ranking.proofs.Tests.{Tested, passed, failed, tested, and-true}
-use Rattle.ranking.proofs.Lists.{_⊆_, there}
-use Rattle.ranking.proofs.Best.{best-cons, best-append, best-same, length-best-le}
-use Rattle.ranking.proofs.Standing.{above-strict}
+use Rattle.laws.proofs.Tests.{Tested, passed, failed, tested, and-true}
+use Rattle.laws.proofs.Lists.{_⊆_, there}
+use Rattle.search.proofs.Best.{best-cons, best-append, best-same, length-best-le}
+use Rattle.ranking.proofs.Entries.{above-strict}
 use Rattle.window.specs.declared.Window.{Window}
 use Rattle.window.specs.Rows.{reportIn, standing}
 pub use Rattle.list.proofs.Choices.{if-so, if-not}

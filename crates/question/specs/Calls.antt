@@ -4,7 +4,8 @@ use mathlib.Core.Bool.{Bool, cond, _&&_}
 use lib.ListN.{drop}
 use lib.Dec.{leb, ltb}
 use Rattle.ranking.specs.declared.Weights.{Weights}
-use Rattle.ranking.specs.Cells.{inRange, score}
+use Rattle.values.specs.Range.{inRange}
+use Rattle.ranking.specs.Cells.{score}
 use Rattle.ranking.specs.Standing.{Entry, above, entry}
 use Rattle.window.specs.declared.Window.{Window}
 use Rattle.window.specs.Rows.{sized, rowOf, reportIn, heldReports, fitWindow}

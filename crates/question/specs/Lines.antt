@@ -6,9 +6,10 @@ use lib.ListN.{length, take}
 use lib.Dec.{leb, ltb, eqb}
 use lib.IntN.{pos}
 use Rattle.ranking.specs.declared.Weights.{Weights}
-use Rattle.ranking.specs.Best.{best, place, onLast, only}
+use Rattle.laws.specs.Lists.{onLast, only}
+use Rattle.search.specs.Best.{best, place}
 use Rattle.ranking.specs.Cells.{cell, cells, visiting, placeOf, cellAt}
-use Rattle.ranking.specs.Search.{has, steps, found}
+use Rattle.search.specs.Search.{has, steps, found}
 use Rattle.ranking.specs.Standing.{Held, Entry, above, entry, reaches, searchOf}
 use Rattle.window.specs.declared.Window.{Window}
 use Rattle.window.specs.Rows.{standing}

@@ -3,7 +3,7 @@ ghost use mathlib.Core.Path.{_≡_};
 ghost use mathlib.Core.List.{[]};
 ghost use Prim.Native.Nat.{min, _%_, _≤_};
 ghost use lib.ListN.{take, drop};
-ghost use Rattle.ranking.specs.Best.{best, place};
+ghost use Rattle.search.specs.Best.{best, place};
 ghost use Rattle.ranking.specs.Standing.{above};
 ghost use Rattle.list.specs.Lines.{linesOf, allOf, blank};
 ghost use Rattle.list.specs.Rows.{rowsOf};

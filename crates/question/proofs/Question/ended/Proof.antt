@@ -4,7 +4,7 @@ use mathlib.Core.Path.{ap, _∙_}
 use borrow.Author.Needs.{needs}
 use mir.Syntax.{w32}
 use Rattle.ranking.specs.Cells.{reachOf}
-use Rattle.ranking.proofs.Words.{kept}
+use Rattle.laws.proofs.Words.{kept}
 use Rattle.list.specs.Bars.{barOf}
 use Rattle.question.proofs.Finding.{ended-full, ended-open}
 use Rattle.question.proofs.Question.ended.Statement.{statement}

@@ -4,7 +4,7 @@ use mathlib.Core.Path.{_≡_, ap, ap₂, _∙_}
 use Prim.Native.Nat.{min}
 use native.Mathlib.Omega.{arith}
 use borrow.Author.Needs.{needs}
-use Rattle.ranking.specs.Best.{best}
+use Rattle.search.specs.Best.{best}
 use Rattle.ranking.specs.Standing.{above}
 use Rattle.list.specs.Lines.{linesIn, stored}
 use Rattle.question.specs.Lines.{holding}

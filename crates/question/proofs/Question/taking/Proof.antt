@@ -7,7 +7,7 @@ use borrow.Author.Needs.{needs}
 use mir.Syntax.{w32}
 use Rattle.ranking.specs.Cells.{cell}
 use Rattle.ranking.specs.Standing.{Held}
-use Rattle.ranking.proofs.Words.{kept}
+use Rattle.laws.proofs.Words.{kept}
 use Rattle.question.specs.Inner.{joined}
 use Rattle.question.proofs.Taking.{taking-none, taking-other, taking-here}
 use Rattle.question.proofs.Question.taking.Statement.{statement}

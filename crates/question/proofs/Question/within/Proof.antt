@@ -5,7 +5,7 @@ use Prim.Native.Nat.{min}
 use borrow.Author.Needs.{needs}
 use lib.ListN.{take}
 use mir.Facts.{toZ-ofZ}
-use Rattle.ranking.specs.Best.{place}
+use Rattle.search.specs.Best.{place}
 use Rattle.ranking.specs.Standing.{above}
 use Rattle.list.specs.Lines.{linesIn, stored}
 use Rattle.question.specs.Lines.{holding}
