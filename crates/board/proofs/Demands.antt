@@ -22,7 +22,8 @@ use Rattle.window.specs.Rows.{heldReports, fitWindow, added}
 use Rattle.window.specs.History.{numbered, latest}
 use Rattle.question.specs.declared.Question.{Question}
 use Rattle.question.specs.Lines.{lines, emptySlot, finished, inRows}
-use Rattle.question.specs.Calls.{allOf, fitQuestion}
+use Rattle.list.specs.Lines.{allOf}
+use Rattle.question.specs.Calls.{fitQuestion}
 use Rattle.question.proofs.Stored.{lines-asked}
 use Rattle.question.proofs.Listed.{all-in, all-is}
 use Rattle.slot.specs.declared.Turned.{Turned}

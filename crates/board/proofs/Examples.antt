@@ -22,7 +22,7 @@ use Rattle.window.specs.History.{numbered, latest}
 use Rattle.question.specs.declared.Question.{Question}
 use Rattle.question.specs.declared.Searched.{Searched}
 use Rattle.question.specs.Lines.{asked, lines, emptySlot, searched, searchedIn, inRows}
-use Rattle.question.specs.Calls.{allOf}
+use Rattle.list.specs.Lines.{allOf}
 use Rattle.slot.specs.declared.Seated.{Seated}
 use Rattle.slot.specs.declared.Turned.{Turned}
 use Rattle.slot.specs.Asking.{setIn}

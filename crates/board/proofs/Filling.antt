@@ -12,7 +12,8 @@ use Rattle.ranking.specs.Standing.{Held}
 use Rattle.window.specs.declared.Window.{Window}
 use Rattle.window.specs.Rows.{added, standing}
 use Rattle.question.specs.declared.Question.{Question}
-use Rattle.question.specs.Lines.{inRows, rowsOf}
+use Rattle.list.specs.Rows.{rowsOf}
+use Rattle.question.specs.Lines.{inRows}
 use Rattle.slot.specs.declared.Turned.{Turned}
 use Rattle.slot.specs.Turn.{turn}
 use Rattle.slot.specs.Gauges.{noQuestion}

@@ -19,7 +19,7 @@ use Rattle.window.specs.declared.Window.{Window}
 use Rattle.window.specs.Rows.{fitWindow, added}
 use Rattle.question.specs.declared.Question.{Question}
 use Rattle.question.specs.Lines.{inRows}
-use Rattle.question.specs.Calls.{allOf}
+use Rattle.list.specs.Lines.{allOf}
 use Rattle.question.proofs.Listed.{all-in, all-is}
 use Rattle.slot.specs.declared.Seated.{Seated}
 use Rattle.slot.specs.Asking.{setIn, emptyRefusal, emptied}

@@ -19,7 +19,8 @@ use Rattle.window.specs.Rows.{sized, freshWindow, fitWindow, added}
 use Rattle.window.proofs.History.{Since, since-fresh, since-added}
 use Rattle.question.specs.declared.Question.{Question}
 use Rattle.question.specs.Lines.{emptySlot, inRows}
-use Rattle.question.specs.Calls.{allOf, stepCall, beginCall}
+use Rattle.list.specs.Lines.{allOf}
+use Rattle.question.specs.Calls.{stepCall, beginCall}
 use Rattle.question.proofs.Listed.{all-in}
 use Rattle.slot.specs.declared.Seated.{Seated}
 use Rattle.slot.specs.Asking.{setIn, emptyRefusal, emptied}

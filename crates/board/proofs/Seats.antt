@@ -12,7 +12,8 @@ use Rattle.ranking.specs.declared.Rule.{Rule}
 use Rattle.laws.proofs.Tests.{Tested, passed, failed, tested}
 use Rattle.window.specs.Rows.{standing}
 use Rattle.question.specs.declared.Question.{Question}
-use Rattle.question.specs.Lines.{rowsOf, inRows}
+use Rattle.list.specs.Rows.{rowsOf}
+use Rattle.question.specs.Lines.{inRows}
 use Rattle.laws.proofs.Tests.{if-so, if-not}
 use Rattle.slot.specs.declared.Seated.{Seated}
 use Rattle.slot.specs.declared.Shown.{Shown}

@@ -4,7 +4,7 @@ use mathlib.Core.Bool.{Bool, cond, _&&_}
 use Rattle.values.specs.declared.Values.{Values}
 use Rattle.ranking.specs.declared.Rule.{Rule}
 use Rattle.window.specs.Rows.{fitWindow}
-use Rattle.question.specs.Calls.{allOf}
+use Rattle.list.specs.Lines.{allOf}
 use Rattle.slot.specs.declared.Shown.{Shown}
 use Rattle.slot.specs.Asking.{notShown}
 use Rattle.slot.specs.Fitness.{slotFit}

@@ -2,7 +2,7 @@
 ghost use mathlib.Core.Path.{_≡_};
 ghost use Prim.Native.Nat.{_<_};
 ghost use Rattle.window.specs.Rows.{reportLimit};
-ghost use Rattle.question.specs.Calls.{allOf};
+ghost use Rattle.list.specs.Lines.{allOf};
 ghost use Rattle.slot.specs.Fitness.{slotFit};
 ghost use Rattle.slot.specs.Gauges.{slotCount};
 ghost use Rattle.board.specs.Work.{freshBoard, withSlot, setWork, removeWork, readWork, leaving, arrival, notEntered, enterRefusal, enterWork};

@@ -20,10 +20,11 @@ use Rattle.ranking.proofs.Entries.{no-place, place-none, place-last}
 use Rattle.laws.proofs.Lists.{lt-or-eq}
 use Rattle.laws.proofs.Tests.{Tested, passed, failed, tested, and-both, and-true, if-so, if-not}
 use Rattle.question.specs.declared.Question.{Question}
-use Rattle.question.specs.Lines.{linesOf, lines}
-use Rattle.question.specs.Calls.{allOf}
+use Rattle.list.specs.Lines.{linesOf, allOf}
+use Rattle.question.specs.Lines.{lines}
 use Rattle.question.specs.Inner.{shown}
-use Rattle.question.proofs.Stored.{Roomy, lineAt, all-lines, take-line, last-line, no-lines}
+use Rattle.list.proofs.Stored.{Roomy, lineAt, take-line}
+use Rattle.question.proofs.Stored.{all-lines, last-line, no-lines}
 use Rattle.slot.specs.Turn.{placeOn, takes, lists}
 use Rattle.slot.specs.Gauges.{lastScore, leastOf, lowest, lowOf, gaugeOf, isQuiet, isIdle, upToLast}
 use Rattle.slot.proofs.Listing.{takes-no-place, front-numbers, later-numbers, line-left}

@@ -15,10 +15,10 @@ use Rattle.values.specs.declared.Values.{Values}
 use Rattle.ranking.specs.Cells.{cell, score}
 use Rattle.ranking.specs.Standing.{Held, Entry, entry}
 use Rattle.question.specs.declared.Question.{Question}
-use Rattle.question.specs.Lines.{linesOf, lines, withEntry, cutToK, isMarked}
-use Rattle.question.specs.Calls.{allOf}
+use Rattle.list.specs.Lines.{linesOf, allOf}
+use Rattle.question.specs.Lines.{lines, withEntry, cutToK, isMarked}
 use Rattle.question.specs.Inner.{shown}
-use Rattle.question.proofs.Stored.{Roomy, take-min}
+use Rattle.list.proofs.Stored.{Roomy, take-min}
 use Rattle.slot.specs.Turn.{placeOn, takes, listed, later, lists}
 
 module _ (q : Question) (v : Values) where

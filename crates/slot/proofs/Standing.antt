@@ -29,8 +29,9 @@ use Rattle.window.specs.Rows.{heldReports, fitWindow, added}
 use Rattle.window.proofs.Reports.{held-distinct, length-held}
 use Rattle.window.proofs.Standing.{held-permitted}
 use Rattle.question.specs.declared.Question.{Question}
-use Rattle.question.specs.Lines.{asked, linesOf, lines, marked, stepsTaken, isMarked, finished, emptySlot, searched, begun, stepped}
-use Rattle.question.specs.Calls.{allOf, blank, fitQuestion, rangesFit, stepCall, beginCall}
+use Rattle.list.specs.Lines.{linesOf, allOf, blank}
+use Rattle.question.specs.Lines.{asked, lines, marked, stepsTaken, isMarked, finished, emptySlot, searched, begun, stepped}
+use Rattle.question.specs.Calls.{fitQuestion, rangesFit, stepCall, beginCall}
 use Rattle.question.proofs.Stored.{lines-asked}
 use Rattle.question.proofs.Steps.{reached, reached-more, reached-none, reached-end, goes-further}
 use Rattle.question.proofs.Taking.{joined-asked}
@@ -52,7 +53,7 @@ taken rule next = marked (asked 0 rule [] next)
 pub record Asks (k : ℕ) (rule : Rule) : Type 0 where
   pub some : 1 ≤ k
   pub small : k ≤ 16
-  pub in-range : fitRule rule ≡ true
+  pub rule-fits : fitRule rule ≡ true
 
 -- A question whose search has ended: its list is the true one of these reports, and no cell without a mark can change it.
 pub record Stands (hs : List Held) (q : Question) : Type 0 where
@@ -91,7 +92,7 @@ search-stands w fit q asks =
       rule = q .rule;
       next = cellAt (q .rule) n;
       asks = asks;
-      cell-range = fit-facts w (reached (q .k) (q .rule) hs n) (reached-fit w fit q (asks .some) (asks .small) (asks .in-range) n (steps-bounded (q .rule) (q .k) hs)) .numbers .cell-range;
+      cell-range = fit-facts w (reached (q .k) (q .rule) hs n) (reached-fit w fit q (asks .some) (asks .small) (asks .rule-fits) n (steps-bounded (q .rule) (q .k) hs)) .numbers .cell-range;
       is = come .stored ∙ ap (λ l. asked (q .k) (q .rule) l (cellAt (q .rule) n)) (search-finds w fit q (asks .some) (asks .small) .list);
       guarded = subst (λ m. Guarded (searchOf (q .rule)) (q .k) m (top (q .rule) (q .k) hs)) (sym (come .marks-are)) (marks-guard (q .rule) (q .k) (asks .some) hs (held-permitted w fit));
     }
@@ -143,7 +144,7 @@ module _ (w : Window) (fit : fitWindow w ≡ true) where
       (record {
         some = s .asks .some;
         small = s .asks .small;
-        in-range = s .asks .in-range;
+        rule-fits = s .asks .rule-fits;
         cell-range = s .cell-range;
         short = omega (arith, top-short (s .rule) (s .k) (heldReports w) (held-distinct w), length-held w);
       })
@@ -181,7 +182,7 @@ module _ (w : Window) (fit : fitWindow w ≡ true) where
   pub searches-fit : (q : Question) → Searches w q → fitQuestion w q ≡ true
   searches-fit q s =
       ap (fitQuestion w) (s .is)
-      ∙ reached-fit w fit (asked (s .k) (s .rule) [] 0) (s .asks .some) (s .asks .small) (s .asks .in-range) (s .n) (omega (arith, s .before-end, steps-bounded (s .rule) (s .k) (heldReports w)))
+      ∙ reached-fit w fit (asked (s .k) (s .rule) [] 0) (s .asks .some) (s .asks .small) (s .asks .rule-fits) (s .n) (omega (arith, s .before-end, steps-bounded (s .rule) (s .k) (heldReports w)))
 
   pub searches-on : (q : Question) → Searches w q → finished q ≡ false
   searches-on q s =

@@ -24,8 +24,9 @@ use Rattle.window.specs.declared.Window.{Window}
 use Rattle.window.specs.Rows.{heldReports, fitWindow, reportIn, standing}
 use Rattle.question.specs.declared.Question.{Question}
 use Rattle.question.specs.declared.Searched.{Searched}
-use Rattle.question.specs.Lines.{asked, lines, marked, stepsTaken, isMarked, emptySlot, searchedIn, inRows, searchedOn, searchedFirst, rowsOf}
-use Rattle.question.specs.Calls.{allOf}
+use Rattle.list.specs.Rows.{rowsOf}
+use Rattle.question.specs.Lines.{asked, lines, marked, stepsTaken, isMarked, emptySlot, searchedIn, inRows, searchedOn, searchedFirst}
+use Rattle.list.specs.Lines.{allOf}
 use Rattle.question.proofs.Stored.{lines-asked}
 use Rattle.question.proofs.Listed.{all-in}
 use Rattle.question.proofs.Searches.{searched-held}

@@ -4,8 +4,9 @@ use lib.Dec.{eqb}
 use Rattle.ranking.specs.Cells.{isNone}
 use Rattle.window.specs.declared.Window.{Window}
 use Rattle.question.specs.declared.Question.{Question}
-use Rattle.question.specs.Lines.{linesOf, finished}
-use Rattle.question.specs.Calls.{allOf, blank, fitQuestion}
+use Rattle.list.specs.Lines.{linesOf, allOf, blank}
+use Rattle.question.specs.Lines.{finished}
+use Rattle.question.specs.Calls.{fitQuestion}
 
 -- "An empty slot is k = 0 and everything else 0."
 unfoldable pub isEmpty : Question → Bool

@@ -9,7 +9,7 @@ use Rattle.ranking.specs.Cells.{cell, score}
 use Rattle.ranking.specs.Standing.{Held, Entry, entry, hasPlace}
 use Rattle.question.specs.declared.Question.{Question}
 use Rattle.question.specs.Lines.{lines, withEntry, cutToK, isMarked}
-use Rattle.question.specs.Calls.{allOf}
+use Rattle.list.specs.Lines.{allOf}
 use Rattle.slot.specs.declared.Turned.{Turned}
 use Rattle.slot.specs.Asking.{searchedAmong}
 

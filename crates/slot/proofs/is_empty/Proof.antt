@@ -3,8 +3,7 @@
 use mathlib.Core.Path.{sym, ap, _∙_}
 use borrow.Author.Tests.{eq-eqb, ne-eqb, not-true, not-false}
 use lib.ListN.{drop}
-use Rattle.question.specs.Lines.{linesOf}
-use Rattle.question.specs.Calls.{allOf, blank}
+use Rattle.list.specs.Lines.{linesOf, allOf, blank}
 use Rattle.slot.specs.Fitness.{isEmpty}
 use borrow.Author.Needs.{needs}
 use Rattle.slot.proofs.is_empty.Statement.{statement}

@@ -1,7 +1,8 @@
 -- The question searched from its beginning, or the refusal.
 -- Assumes nothing.
 use mathlib.Core.Path.{sym, ap, _∙_}
-use Rattle.question.specs.Lines.{searchedFirst, rowsOf}
+use Rattle.list.specs.Rows.{rowsOf}
+use Rattle.question.specs.Lines.{searchedFirst}
 use Rattle.question.specs.declared.Searched.{Searched}
 use Rattle.slot.specs.Asking.{setIn}
 use Rattle.slot.proofs.Refusals.{zero-is, zero-not}

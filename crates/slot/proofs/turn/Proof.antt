@@ -10,7 +10,7 @@ use Rattle.ranking.specs.Standing.{Held}
 use Rattle.window.specs.Rows.{standing}
 use Rattle.question.specs.declared.Question.{Question}
 use Rattle.question.specs.declared.Searched.{Searched}
-use Rattle.question.specs.Lines.{rowsOf}
+use Rattle.list.specs.Rows.{rowsOf}
 use Rattle.slot.specs.Asking.{searchedAmong}
 use Rattle.slot.specs.Turn.{lists}
 use Rattle.slot.proofs.Turns.{turn-searched, turn-kept, first-among}

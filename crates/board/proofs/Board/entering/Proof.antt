@@ -6,7 +6,7 @@ use native.Mathlib.Omega.{arith}
 use lib.ListN.{length, length-map}
 use Rattle.board.proofs.Refusals.{Enterable, enterable}
 use Rattle.window.specs.Rows.{standing}
-use Rattle.question.specs.Lines.{rowsOf}
+use Rattle.list.specs.Rows.{rowsOf}
 use Rattle.board.proofs.Filling.{Turns, turns-none, turns-more, lowReport, turns-all}
 use borrow.Author.Needs.{needs}
 use Rattle.board.proofs.Board.entering.Statement.{statement}
