@@ -11,15 +11,16 @@ use borrow.Author.Tests.{eqb-false, ne-eqb, not-true}
 use lib.Dec.{eqb, ltb}
 use lib.ListN.{length, getD, take}
 use lib.Seq.{getD-set-same}
-use Rattle.ranking.specs.Best.{_∈_, best, only}
+use Rattle.laws.specs.Lists.{_∈_, only}
+use Rattle.search.specs.Best.{best}
 use Rattle.ranking.specs.Cells.{cell, cells, score, visiting, placeOf}
-use Rattle.ranking.specs.Search.{has, steps}
+use Rattle.search.specs.Search.{has, steps}
 use Rattle.ranking.specs.Standing.{Held, Entry, above, entry}
 use Rattle.ranking.specs.declared.Weights.{Weights}
-use Rattle.ranking.proofs.Tests.{Tested, passed, failed, tested, clash, and-both, and-true, or-right}
-use Rattle.ranking.proofs.Lists.{index-of, moved}
-use Rattle.ranking.proofs.Best.{length-best-le}
-use Rattle.ranking.proofs.Search.{has-in, in-has}
+use Rattle.laws.proofs.Tests.{Tested, passed, failed, tested, clash, and-both, and-true, or-right, if-so, if-not}
+use Rattle.laws.proofs.Lists.{index-of, moved}
+use Rattle.search.proofs.Best.{length-best-le}
+use Rattle.search.proofs.Search.{has-in, in-has}
 use Rattle.ranking.proofs.Standing.{above-strict}
 use Rattle.window.specs.declared.Window.{Window}
 use Rattle.window.specs.Rows.{heldReports, fitWindow, added}
@@ -30,7 +31,6 @@ use Rattle.question.specs.Lines.{asked, lines, emptySlot, finished, marked, ste
 use Rattle.question.specs.Calls.{equal, fitQuestion}
 use Rattle.question.proofs.Stored.{lines-asked}
 use Rattle.question.proofs.Steps.{reached as stepped-to}
-use Rattle.question.proofs.Taking.{if-so, if-not}
 use Rattle.question.proofs.Listed.{all-is}
 use Rattle.question.proofs.Searches.{Found, search-finds, searched-held, whole-search}
 use Rattle.board.specs.Work.{noQuestion, slotAt, setRefusal, setWork, slotRefusal, removeWork, enterWork, hasPlace, takes, listed, lists, outgoing, newReport, refreshed, entering, isSearched, enterRefusal}

@@ -2,25 +2,25 @@
 -- too, and one that does is searched afresh.
 -- Assumes nothing.
 use mathlib.Core.Path.{_≡_, refl, sym, ap, _∙_, subst}
-use mathlib.Core.Logic.{⊎-elim}
 use mathlib.Core.Bool.{true, false, not, and-false}
-use mathlib.Core.List.{List, [], _∷_, _++_, map, List·Memᴰ·head, List·Memᴰ·cases-cons, Memᴰ·append-left, Memᴰ·append-right, List·Memᴰ·append-cases, List·Memᴰ·eq-of-singleton, Memᴰ·map, Memᴰ·of-map}
+use mathlib.Core.List.{List, [], _∷_, _++_, map, Memᴰ·map}
 use Prim.Native.Nat.{ℕ, _+_, _-_, _≤_, _<_}
 use native.Mathlib.Omega.{arith}
 use borrow.Author.Tests.{ltb-true, ltb-false, ne-eqb}
 use lib.Dec.{ltb, eqb}
 use lib.ListN.{take, drop}
-use Rattle.ranking.specs.Best.{_∈_, best}
+use Rattle.laws.specs.Lists.{_∈_}
+use Rattle.search.specs.Best.{best}
 use Rattle.ranking.specs.Cells.{visiting, cell}
-use Rattle.ranking.specs.Search.{has}
+use Rattle.search.specs.Search.{has}
 use Rattle.ranking.specs.Standing.{Held, Entry, above, entry, searchOf}
 use Rattle.ranking.specs.declared.Weights.{Weights}
-use Rattle.ranking.proofs.Tests.{Tested, passed, failed, tested, clash, and-true}
-use Rattle.ranking.proofs.Lists.{_⊆_, Same, there, moved}
-use Rattle.ranking.proofs.Best.{best-same, best-leave, length-best-le}
-use Rattle.ranking.proofs.Search.{in-has}
+use Rattle.laws.proofs.Tests.{Tested, passed, failed, tested, clash, and-true, if-not}
+use Rattle.laws.proofs.Lists.{Same, same-map, same-end, same-swap}
+use Rattle.search.proofs.Best.{best-same, best-leave, length-best-le}
+use Rattle.search.proofs.Search.{in-has}
 use Rattle.ranking.proofs.Standing.{above-strict}
-use Rattle.ranking.proofs.Guard.{Guarded}
+use Rattle.search.proofs.Guard.{Guarded}
 use Rattle.window.specs.declared.Window.{Window}
 use Rattle.window.specs.Rows.{heldReports, fitWindow, added, reportOf}
 use Rattle.window.proofs.Fitness as window
@@ -28,7 +28,6 @@ use Rattle.window.proofs.Reports.{held-added, held-latest, oldest-first}
 use Rattle.question.specs.declared.Question.{Question}
 use Rattle.question.specs.Lines.{asked, lines, marked, stepsTaken, isMarked, emptySlot, searched}
 use Rattle.question.proofs.Stored.{lines-asked}
-use Rattle.question.proofs.Taking.{if-not}
 use Rattle.question.proofs.Searches.{searched-held}
 use Rattle.board.specs.Work.{listed, lists, leaving, outgoing, newReport, refreshed, entering}
 use Rattle.board.proofs.Listing.{listed-unmarked}
@@ -36,28 +35,6 @@ use Rattle.board.proofs.Filling.{refreshed-searched, refreshed-kept}
 use Rattle.board.proofs.Slot.{top, taken, Stands, search-stands, listed-is, guard-more}
 
 -- ---- the same reports
-
-same-map : {A B : Type 0} (f : A → B) (l m : List A) → Same l m → Same (map f l) (map f m)
-same-map {A} {B} f l m s = (over l m (s .0), over m l (s .1))
-  where
-    over : (l m : List A) → l ⊆ m → map f l ⊆ map f m
-    over l m h y k = let r = Memᴰ·of-map f l k in moved (r .2) (Memᴰ·map f (h (r .0) (r .1)))
-
-same-end : {A : Type 0} (x : A) (l : List A) → Same (x ∷ l) (l ++ (x ∷ []))
-same-end {A} x l = (to, from)
-  where
-    to : x ∷ l ⊆ l ++ (x ∷ [])
-    to y k = ⊎-elim (λ e. Memᴰ·append-right l (List·Memᴰ·head e)) (λ m. Memᴰ·append-left (x ∷ []) m) (List·Memᴰ·cases-cons k)
-
-    from : l ++ (x ∷ []) ⊆ x ∷ l
-    from y k = ⊎-elim (λ m. there m) (λ m. List·Memᴰ·head (List·Memᴰ·eq-of-singleton m)) (List·Memᴰ·append-cases l k)
-
-same-swap : {A : Type 0} (x y : A) (l : List A) → Same (x ∷ y ∷ l) (y ∷ x ∷ l)
-same-swap {A} x y l = (swap x y, swap y x)
-  where
-    swap : (x y : A) → x ∷ y ∷ l ⊆ y ∷ x ∷ l
-    swap x y z k =
-        ⊎-elim (λ e. there (List·Memᴰ·head e)) (λ m. ⊎-elim (λ e. List·Memᴰ·head e) (λ n. there (there n)) (List·Memᴰ·cases-cons m)) (List·Memᴰ·cases-cons k)
 
 top-same : (k : ℕ) (ws : Weights) (l m : List Held) → Same l m → top k ws l ≡ top k ws m
 top-same k ws l m s = best-same above above-strict k (map (entry ws) l) (map (entry ws) m) (same-map (entry ws) l m s)

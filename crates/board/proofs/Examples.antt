@@ -11,11 +11,11 @@ use lib.IntN.{pos}
 use lib.ListN.{length, getD, getD-replicate}
 use lib.Seq.{getD-set-same}
 use Rattle.ranking.specs.Cells.{visiting}
-use Rattle.ranking.specs.Search.{has, steps}
+use Rattle.search.specs.Search.{has, steps}
 use Rattle.ranking.specs.Standing.{Entry, entry, above, searchOf}
 use Rattle.ranking.specs.declared.Weights.{Weights}
-use Rattle.ranking.proofs.Tests.{Tested, passed, failed, tested}
-use Rattle.ranking.proofs.Best.{length-best-le}
+use Rattle.laws.proofs.Tests.{Tested, passed, failed, tested, if-so}
+use Rattle.search.proofs.Best.{length-best-le}
 use Rattle.ranking.proofs.Standing.{above-strict}
 use Rattle.window.specs.Rows.{freshWindow, heldReports, fitWindow, added}
 use Rattle.window.specs.History.{Values, numbered, latest}
@@ -23,7 +23,6 @@ use Rattle.question.specs.declared.Question.{Question}
 use Rattle.question.specs.declared.Searched.{Searched}
 use Rattle.question.specs.Lines.{asked, lines, emptySlot, searched, searchedIn, searchedOn}
 use Rattle.question.proofs.Stored.{lines-asked}
-use Rattle.question.proofs.Taking.{if-so}
 use Rattle.question.proofs.Searches.{searched-held}
 use Rattle.board.specs.Work.{noQuestion, slotAt, freshBoard, setRefusal, setWork, leaving, outgoing, newReport, listed, lists, entering, enterRefusal, enterWork}
 use Rattle.board.specs.Calls.{fitBoard, setCall, enterCall}

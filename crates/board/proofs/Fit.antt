@@ -9,17 +9,16 @@ use Prim.Native.Nat.{ℕ}
 use borrow.Author.Tests.{eqb-true}
 use lib.Dec.{eqb}
 use lib.ListN.{set}
-use Rattle.ranking.specs.Best.{_∈_}
+use Rattle.laws.specs.Lists.{_∈_}
 use Rattle.ranking.specs.Cells.{inRange}
 use Rattle.ranking.specs.declared.Weights.{Weights}
-use Rattle.ranking.proofs.Tests.{Tested, passed, failed, tested, and-both, and-true, or-right}
+use Rattle.laws.proofs.Tests.{Tested, passed, failed, tested, and-both, and-true, or-right, if-so, if-not}
 use Rattle.window.specs.declared.Window.{Window}
 use Rattle.window.specs.Rows.{fitWindow, added}
 use Rattle.window.specs.History.{Values}
 use Rattle.question.specs.declared.Question.{Question}
 use Rattle.question.specs.Lines.{asked, emptySlot, finished, searchedOn}
 use Rattle.question.specs.Calls.{allOf, fitQuestion}
-use Rattle.question.proofs.Taking.{if-so, if-not}
 use Rattle.question.proofs.Listed.{all-in, all-is}
 use Rattle.question.proofs.Searches.{searched-held}
 use Rattle.board.specs.Work.{withSlot, setRefusal, setWork, slotRefusal, removeWork, enterRefusal, enterWork, entering}

@@ -13,15 +13,14 @@ use lib.IntN.{ℤ, pos}
 use lib.ListN.{length, getD, take, drop}
 use lib.Signed.{leZ}
 use Rattle.ranking.specs.Cells.{score}
-use Rattle.ranking.specs.Best.{onLast}
-use Rattle.ranking.specs.Search.{has}
+use Rattle.laws.specs.Lists.{onLast}
+use Rattle.search.specs.Search.{has}
 use Rattle.ranking.specs.Standing.{Entry}
-use Rattle.ranking.proofs.Lists.{lt-or-eq}
-use Rattle.ranking.proofs.Tests.{Tested, passed, failed, tested, and-both}
+use Rattle.laws.proofs.Lists.{lt-or-eq}
+use Rattle.laws.proofs.Tests.{Tested, passed, failed, tested, and-both, if-so, if-not}
 use Rattle.question.specs.declared.Question.{Question}
 use Rattle.question.specs.Lines.{linesOf, lines}
 use Rattle.question.specs.Inner.{shown}
-use Rattle.question.proofs.Taking.{if-so, if-not}
 use Rattle.question.proofs.Stored.{Roomy, lineAt, all-lines, take-line, no-lines}
 use Rattle.board.specs.Work.{hasPlace, takes, lists}
 use Rattle.board.specs.Gauges.{lastScore, leastOf, lowest, lowOf, gaugeOf, isQuiet, upToLast}

@@ -10,11 +10,11 @@ use borrow.Author.Tests.{eqb-true}
 use lib.Dec.{eqb}
 use lib.IntN.{pos}
 use lib.ListN.{length, set, replicate, length-set, length-map}
-use Rattle.ranking.specs.Best.{_∈_}
+use Rattle.laws.specs.Lists.{_∈_}
 use Rattle.ranking.specs.declared.Weights.{Weights}
 use Rattle.ranking.specs.Cells.{inRange}
-use Rattle.ranking.proofs.Tests.{Tested, passed, failed, tested, clash, and-both, or-either}
-use Rattle.ranking.proofs.Lists.{there, getD-in}
+use Rattle.laws.proofs.Tests.{Tested, passed, failed, tested, clash, and-both, or-either, if-so, if-not}
+use Rattle.laws.proofs.Lists.{there, getD-in}
 use Rattle.window.specs.declared.Window.{Window}
 use Rattle.window.specs.declared.Fresh.{Fresh}
 use Rattle.window.specs.Rows.{sized, empty, freshWindow, fitWindow, added}
@@ -24,7 +24,6 @@ use Rattle.question.specs.declared.Question.{Question}
 use Rattle.question.specs.Lines.{asked, linesOf, emptySlot, finished, searchedOn}
 use Rattle.question.specs.Calls.{allOf, equal, blank, fitQuestion, stepCall, beginCall}
 use Rattle.question.proofs.Steps.{reached}
-use Rattle.question.proofs.Taking.{if-so, if-not}
 use Rattle.question.proofs.Listed.{all-in}
 use Rattle.question.proofs.Searches.{searched-held}
 use Rattle.board.specs.Work.{noQuestion, slotAt, withSlot, freshBoard, setRefusal, setWork, slotRefusal, removeWork, enterRefusal, enterWork, entering}

@@ -4,7 +4,7 @@ use mathlib.Core.Path.{_≡_}
 use mathlib.Core.Bool.{true}
 use Prim.Native.Nat.{ℕ}
 use Rattle.ranking.specs.declared.Weights.{Weights}
-use Rattle.question.proofs.Taking.{if-so}
+use Rattle.laws.proofs.Tests.{if-so}
 use Rattle.board.specs.Work.{setWork, removeWork, readWork, enterWork}
 use Rattle.board.specs.Calls.{fitBoard, setCall, removeCall, readCall, enterCall}
 use Rattle.board.specs.declared.Board.{Board}

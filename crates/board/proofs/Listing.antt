@@ -12,7 +12,7 @@ use lib.ListN.{length, take, drop, getD, length-take}
 use lib.Seq.{drop-cons, getD-take}
 use lib.Signed.{leZ}
 use Rattle.ranking.specs.Cells.{cell, score}
-use Rattle.ranking.specs.Search.{has}
+use Rattle.search.specs.Search.{has}
 use Rattle.ranking.specs.Standing.{Held, entry}
 use Rattle.question.specs.declared.Question.{Question}
 use Rattle.question.specs.Lines.{linesOf, lines, withEntry, cutToK, isMarked}

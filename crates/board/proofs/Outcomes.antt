@@ -1,7 +1,7 @@
 -- Any two outcomes that a contract allows are equal, since each contract is an equation.
 -- Assumes nothing.
 use mathlib.Core.Path.{sym, _∙_}
-use Rattle.wire.proofs.Outcomes.{OneAnswer}
+use Rattle.laws.proofs.Outcomes.{OneAnswer}
 use Rattle.board.proofs.Board.fresh.Kinds as fresh-kinds
 use Rattle.board.proofs.Board.fresh.Reads as fresh-reads
 use Rattle.board.proofs.Board.fit.Kinds as fit-kinds

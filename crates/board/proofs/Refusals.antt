@@ -8,8 +8,7 @@ use borrow.Author.Tests.{ltb-true, leb-true, eqb-true, eq-eqb, ne-eqb}
 use lib.Dec.{leb, ltb, eqb}
 use Rattle.ranking.specs.Cells.{inRange}
 use Rattle.ranking.specs.declared.Weights.{Weights}
-use Rattle.ranking.proofs.Tests.{and-both}
-use Rattle.question.proofs.Taking.{if-so, if-not}
+use Rattle.laws.proofs.Tests.{and-both, if-so, if-not}
 use Rattle.board.specs.Work.{slotAt, setRefusal, slotRefusal, enterRefusal}
 use Rattle.board.specs.declared.Board.{Board}
 

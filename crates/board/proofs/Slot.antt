@@ -3,7 +3,7 @@
 -- Assumes nothing.
 use mathlib.Core.Path.{_≡_, refl, sym, ap, _∙_, subst}
 use mathlib.Core.Logic.{_⊎_, inl, inr}
-use mathlib.Core.Bool.{Bool, true, false, not, _&&_, _||_, and-false}
+use mathlib.Core.Bool.{true, false, not, _&&_, _||_, and-false}
 use mathlib.Core.List.{List, [], _∷_, map, Memᴰ·of-map}
 use Prim.Native.Nat.{ℕ, suc, min, _≤_, _<_}
 use native.Mathlib.Omega.{arith}
@@ -12,19 +12,20 @@ use lib.Dec.{leb, ltb, eqb}
 use lib.IntN.{ℤ, pos, negsuc}
 use lib.ListN.{length}
 use lib.Signed.{ltZ, leZ}
-use Rattle.ranking.specs.Best.{_∈_, best, place, onLast}
-use Rattle.ranking.specs.Cells.{inRange, cell, cells, score, cellAt}
-use Rattle.ranking.specs.Search.{has, marks, steps}
+use Rattle.laws.specs.Lists.{_∈_, onLast}
+use Rattle.search.specs.Best.{best}
+use Rattle.ranking.specs.Cells.{inRange, cell, score, cellAt}
+use Rattle.search.specs.Search.{steps}
 use Rattle.ranking.specs.Standing.{Held, Entry, Permitted, above, entry, reaches, searchOf}
 use Rattle.ranking.specs.declared.Weights.{Weights}
-use Rattle.ranking.proofs.Tests.{Tested, passed, failed, tested, clash, and-true, or-right}
+use Rattle.laws.proofs.Tests.{Tested, passed, failed, tested, clash, and-true, or-right, if-not}
 use Rattle.ranking.proofs.Cells.{before-strict, visiting-in}
 use Rattle.ranking.proofs.Scan.{cell-at}
-use Rattle.ranking.proofs.Lists.{here, there, last-not, lt-or-eq}
-use Rattle.ranking.proofs.Best.{best-cons, best-rule, best-of, best-falling, length-best-le}
-use Rattle.ranking.proofs.Search.{in-has, goes-on}
+use Rattle.laws.proofs.Lists.{last-not, lt-or-eq, last-same}
+use Rattle.search.proofs.Best.{best-cons, best-rule, best-of, best-falling, length-best-le}
+use Rattle.search.proofs.Search.{in-has, goes-on}
 use Rattle.ranking.proofs.Standing.{above-strict, sound, steps-bounded, newest-above, reach-rises, length-list}
-use Rattle.ranking.proofs.Guard.{Guarded, guard-search, guard-unmarked, guard-enter}
+use Rattle.search.proofs.Guard.{Guarded, guard-search, guard-unmarked, guard-enter}
 use Rattle.window.specs.declared.Window.{Window}
 use Rattle.window.specs.Rows.{heldReports, fitWindow, added}
 use Rattle.window.proofs.Reports.{held-distinct, length-held}
@@ -34,7 +35,7 @@ use Rattle.question.specs.Lines.{asked, lines, marked, stepsTaken, isMarked, fi
 use Rattle.question.specs.Calls.{fitQuestion, rangesFit, stepCall, beginCall}
 use Rattle.question.proofs.Stored.{lines-asked}
 use Rattle.question.proofs.Steps.{reached, reached-more, reached-none, reached-end, goes-further}
-use Rattle.question.proofs.Taking.{joined-asked, if-not}
+use Rattle.question.proofs.Taking.{joined-asked}
 use Rattle.question.proofs.Doors.{fit-facts, step-unfit, step-ended, step-goes, step-held, begin-unfit, begin-goes}
 use Rattle.question.proofs.Ending.{finished-none, finished-other}
 use Rattle.question.proofs.Marking.{marked-left}
@@ -115,11 +116,6 @@ le-is (negsuc a) (negsuc b) = go (tested (ltb b a))
     go : Tested (ltb b a) → not (ltb b a) ≡ leb a b
     go (passed t) = ap not t ∙ sym (lt-leb a b (ltb-true b a t))
     go (failed t) = ap not t ∙ sym (le-leb a b (ltb-false b a t))
-
-last-same : {A : Type 0} (p q : A → Bool) (l : List A) → ((x : A) → x ∈ l → p x ≡ q x) → onLast p l ≡ onLast q l
-last-same p q [] h = refl
-last-same p q (x ∷ []) h = h x here
-last-same p q (x ∷ y ∷ l) h = last-same p q (y ∷ l) (λ z m. h z (there m))
 
 module _ (hs : List Held) (k : ℕ) (ws : Weights) (next : ℕ) (asks : Asks k ws) (guarded : Guarded (searchOf ws) k (taken ws next) (top k ws hs))
     (h : Held) (permitted : Permitted h) (newest : (r : Held) → r ∈ hs → r .number < h .number) where

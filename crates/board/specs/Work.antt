@@ -7,9 +7,9 @@ use lib.Dec.{leb, ltb, eqb}
 use lib.IntN.{ℤ, pos}
 use lib.Signed.{leZ}
 use Rattle.ranking.specs.declared.Weights.{Weights}
-use Rattle.ranking.specs.Best.{onLast}
+use Rattle.laws.specs.Lists.{onLast}
 use Rattle.ranking.specs.Cells.{inRange, cell, score}
-use Rattle.ranking.specs.Search.{has}
+use Rattle.search.specs.Search.{has}
 use Rattle.ranking.specs.Standing.{Held, entry}
 use Rattle.window.specs.declared.Window.{Window}
 use Rattle.window.specs.Rows.{freshWindow, added}

@@ -5,7 +5,7 @@ use mathlib.Core.List.{List}
 use Prim.Native.Nat.{ℕ}
 use lib.IntN.{ℤ}
 use denote.Ref.{now}
-use Rattle.wire.proofs.Outcomes.{OneAnswer, OneLeft}
+use Rattle.laws.proofs.Outcomes.{OneAnswer, OneLeft}
 use Rattle.calls.proofs.calls_step.Kinds as step-kinds
 use Rattle.calls.proofs.calls_step.Reads as step-reads
 use Rattle.calls.proofs.calls_begin.Kinds as begin-kinds

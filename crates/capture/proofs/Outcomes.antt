@@ -4,7 +4,7 @@ use mathlib.Core.Path.{sym, _∙_}
 use mathlib.Core.List.{List}
 use Prim.Native.Nat.{ℕ}
 use denote.Ref.{now}
-use Rattle.wire.proofs.Outcomes.{OneAnswer, OneLeft}
+use Rattle.laws.proofs.Outcomes.{OneAnswer, OneLeft}
 use Rattle.capture.proofs.Sort.of.Kinds as of-kinds
 use Rattle.capture.proofs.Sort.of.Reads as of-reads
 use Rattle.capture.proofs.write.Kinds as write-kinds

@@ -4,7 +4,7 @@ use mathlib.Core.Path.{sym, _∙_}
 use mathlib.Core.List.{List}
 use Prim.Native.Nat.{ℕ}
 use denote.Ref.{now}
-use Rattle.wire.proofs.Outcomes.{OneAnswer, OneLeft}
+use Rattle.laws.proofs.Outcomes.{OneAnswer, OneLeft}
 use Rattle.commands.proofs.Kind.of.Kinds as kind-of-kinds
 use Rattle.commands.proofs.Kind.of.Reads as kind-of-reads
 use Rattle.commands.proofs.Command.of.Kinds as of-kinds

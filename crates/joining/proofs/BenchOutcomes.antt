@@ -4,7 +4,7 @@ use mathlib.Core.Path.{sym, _∙_}
 use mathlib.Core.List.{List}
 use Prim.Native.Nat.{ℕ}
 use denote.Ref.{now}
-use Rattle.wire.proofs.Outcomes.{OneAnswer, OneLeft}
+use Rattle.laws.proofs.Outcomes.{OneAnswer, OneLeft}
 use Rattle.joining.proofs.bench.Bench.send.Kinds as send-kinds
 use Rattle.joining.proofs.bench.Bench.send.Reads as send-reads
 

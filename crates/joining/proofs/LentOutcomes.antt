@@ -12,7 +12,7 @@ use contract.Monad.{Fun, fact, factI, fact-use}
 use denote.Ref.{now}
 use denote.Triple.Clauses.{AtExit}
 use denote.Triple.Entry.{Args, Res}
-use Rattle.wire.proofs.Outcomes.{OneAnswer}
+use Rattle.laws.proofs.Outcomes.{OneAnswer}
 use Rattle.joining.proofs.Session.advance as advance
 use Rattle.joining.proofs.Session.lend.Kinds as lend-kinds
 use Rattle.joining.proofs.Session.lend.Reads as lend-reads

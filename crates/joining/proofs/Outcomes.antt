@@ -8,7 +8,7 @@ use denote.Ref.{now}
 use Rattle.joining.specs.Run.{sessionsAt, answersAt}
 use Rattle.joining.specs.Bench.{framesIn}
 use Rattle.joining.specs.Driver.{allBytes}
-use Rattle.wire.proofs.Outcomes.{OneAnswer, OneLeft, OnePart}
+use Rattle.laws.proofs.Outcomes.{OneAnswer, OneLeft, OnePart}
 use Rattle.joining.proofs.Frame.sender.Kinds as sender-kinds
 use Rattle.joining.proofs.Frame.sender.Reads as sender-reads
 use Rattle.joining.proofs.Session.fresh.Kinds as fresh-kinds

@@ -11,9 +11,8 @@ use lib.Dec.{eqb, ltb, leb}
 use lib.ListN.{getD, take, length, length-append}
 use lib.Seq.{take-nil, take-append-le, take-all, length-take-le}
 use Rattle.wire.specs.Bytes.{number, part}
-use Rattle.ranking.proofs.Tests.{clash, and-both}
+use Rattle.laws.proofs.Tests.{clash, and-both, if-not, if-so, either}
 use Rattle.window.specs.History.{Values}
-use Rattle.question.proofs.Taking.{if-not, if-so}
 use Rattle.board.specs.Work.{enterRefusal, enterWork}
 use Rattle.board.specs.declared.Board.{Board}
 use Rattle.board.specs.declared.Entered.{Entered}
@@ -35,11 +34,6 @@ use Rattle.joining.proofs.Driving.{answers-more}
 use Rattle.text.proofs.Decimal.{below-or}
 use Rattle.journal.specs.Reached.{completed, enteredBy}
 use Rattle.journal.proofs.Printed.{refusal}
-
--- Both cases of a test.
-pub either : {A : Type 0} (P : A → Type 0) (b : Bool) {x y : A} → (b ≡ true → P x) → (b ≡ false → P y) → P (cond b x y)
-either P true f g = f refl
-either P false f g = g refl
 
 -- What an answer can say where no state is unfit: a refusal below 24, and a report with permitted values.
 abbrev pub Fine : Answer → Type 0

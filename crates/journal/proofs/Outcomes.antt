@@ -4,7 +4,7 @@ use mathlib.Core.Path.{sym, _∙_}
 use mathlib.Core.List.{List}
 use Prim.Native.Nat.{ℕ}
 use denote.Ref.{now}
-use Rattle.wire.proofs.Outcomes.{OneAnswer, OneLeft}
+use Rattle.laws.proofs.Outcomes.{OneAnswer, OneLeft}
 use Rattle.journal.proofs.Log.fresh.Kinds as fresh-kinds
 use Rattle.journal.proofs.Log.fresh.Reads as fresh-reads
 use Rattle.journal.proofs.Log.item.Kinds as item-kinds

@@ -13,8 +13,8 @@ use lib.ListN.{length, getD, take, length-map, length-take, getD-replicate}
 use Rattle.wire.specs.Bytes.{number, part}
 use Rattle.ranking.specs.Cells.{inRange}
 use Rattle.ranking.specs.declared.Weights.{Weights}
-use Rattle.ranking.proofs.Tests.{Tested, passed, failed, tested, and-both}
-use Rattle.ranking.proofs.Lists.{there, getD-in}
+use Rattle.laws.proofs.Tests.{Tested, passed, failed, tested, and-both, if-so, if-not, either}
+use Rattle.laws.proofs.Lists.{there, getD-in}
 use Rattle.window.specs.declared.Fresh.{Fresh}
 use Rattle.window.specs.Rows.{sized, freshWindow, fitWindow}
 use Rattle.window.specs.History.{Values}
@@ -22,7 +22,6 @@ use Rattle.window.proofs.Fitness.{fit-facts}
 use Rattle.question.specs.declared.Question.{Question}
 use Rattle.question.specs.Lines.{asked, emptySlot, finished}
 use Rattle.question.specs.Calls.{allOf}
-use Rattle.question.proofs.Taking.{if-so, if-not}
 use Rattle.question.proofs.Listed.{all-in}
 use Rattle.board.specs.Work.{noQuestion, slotAt, freshBoard, setRefusal, setWork, slotRefusal, removeWork, readWork, enterRefusal, enterWork, entering, isSearched}
 use Rattle.board.specs.Calls.{fitBoard, slotFit, enterCall}
@@ -55,7 +54,7 @@ use Rattle.journal.specs.declared.Log.{Log}
 use Rattle.journal.specs.Log.{Outcome, freshLog, counted, nextItem, withBoard, withSessions, quiet, unless, known, itemRefusal, windowItem, weightsIn, setItem, removeItem, showItem, sLines, enterItem, answered, frameIn, frameItem, byTag, itemDone}
 use Rattle.journal.specs.Reached.{frameOf, enteredBy}
 use Rattle.journal.proofs.Printed.{Prints, nothing, refusal, search, searches, list}
-use Rattle.journal.proofs.Answers.{either, Fine, answer-fine, none-yet, answer, nothing-more, one-more, enter-refusal, enters-when}
+use Rattle.journal.proofs.Answers.{Fine, answer-fine, none-yet, answer, nothing-more, one-more, enter-refusal, enters-when}
 use Rattle.journal.proofs.Shown.{Small, slot-small, searched-few, entering-few, map-few}
 
 -- The board that frames lead to.

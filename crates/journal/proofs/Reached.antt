@@ -12,7 +12,7 @@ use lib.Dec.{eqb}
 use lib.IntN.{ℤ}
 use lib.ListN.{length, take}
 use lib.Seq.{drop-nil}
-use Rattle.ranking.specs.Best.{best}
+use Rattle.search.specs.Best.{best}
 use Rattle.ranking.specs.Standing.{Held, above, entry}
 use Rattle.ranking.specs.declared.Weights.{Weights}
 use Rattle.window.specs.Rows.{freshWindow, heldReports}

@@ -13,14 +13,14 @@ use lib.IntN.{ℤ, pos, negsuc}
 use lib.Signed.{mag}
 use lib.ListN.{length, getD, take, replicate}
 use Rattle.wire.specs.Bytes.{number}
-use Rattle.ranking.specs.Best.{_∈_}
+use Rattle.laws.specs.Lists.{_∈_}
 use Rattle.ranking.specs.Cells.{inRange}
 use Rattle.ranking.specs.Standing.{Held, above, entry}
 use Rattle.ranking.specs.Standing as ranked
 use Rattle.ranking.specs.declared.Weights.{Weights}
-use Rattle.ranking.proofs.Tests.{and-both}
-use Rattle.ranking.proofs.Lists.{here, there}
-use Rattle.ranking.proofs.Best.{best-of, length-best-le}
+use Rattle.laws.proofs.Tests.{and-both, either}
+use Rattle.laws.proofs.Lists.{here, there}
+use Rattle.search.proofs.Best.{best-of, length-best-le}
 use Rattle.ranking.proofs.Cells.{score-fits}
 use Rattle.ranking.proofs.Standing.{above-strict, steps-bounded}
 use Rattle.window.specs.declared.Window.{Window}
@@ -36,7 +36,6 @@ use Rattle.board.specs.Calls.{slotFit}
 use Rattle.board.proofs.Slot.{Slot, top}
 use Rattle.board.proofs.Slot as state
 use Rattle.board.proofs.Kept.{not-searching}
-use Rattle.journal.proofs.Answers.{either}
 
 -- The numbers and scores of a question, as they are stored, fit their lines.
 pub record Small (q : Question) : Type 0 where

@@ -2,7 +2,7 @@
 -- Assumes nothing.
 use mathlib.Core.Path.{sym, _∙_}
 use denote.Ref.{now}
-use Rattle.wire.proofs.Outcomes.{OneAnswer, OnePart}
+use Rattle.laws.proofs.Outcomes.{OneAnswer, OnePart}
 use Rattle.lines.proofs.Run.length.Kinds as length-kinds
 use Rattle.lines.proofs.Run.length.Reads as length-reads
 use Rattle.lines.proofs.line_end.Kinds as line-end-kinds

@@ -10,16 +10,13 @@ use lib.Dec.{eqb, ltb}
 use lib.IntN.{ℤ, pos, negsuc}
 use lib.Signed.{ltZ, mag}
 use lib.ListN.{getD}
-use Rattle.ranking.specs.Best.{onLast}
-use Rattle.ranking.specs.Standing.{Entry, above}
-use Rattle.ranking.proofs.Tests.{Tested, passed, failed, tested, clash}
-use Rattle.ranking.proofs.Best.{one-way}
-use Rattle.ranking.proofs.Standing.{above-strict}
+use Rattle.laws.specs.Lists.{onLast}
+use Rattle.ranking.specs.Standing.{Entry}
+use Rattle.laws.proofs.Tests.{Tested, passed, failed, tested, clash, if-so, if-not}
 use Rattle.list.specs.Lines.{linesIn}
 use Rattle.list.specs.Bars.{barAt, barOf, leastAt, admits}
 use Rattle.list.specs.declared.Bar.{Bar}
 use Rattle.list.specs.declared.Lines.{Lines}
-use Rattle.list.proofs.Choices.{if-so, if-not}
 use Rattle.list.proofs.Stored.{Roomy, last-shown}
 
 module _ (ns : List ℕ) (ss : List ℤ) (n : ℕ) (full : Bool) where
@@ -75,12 +72,6 @@ module _ (l : Lines) (k : ℕ) where
       go (failed t) =
           clash (eq-eqb (l .len) k many)
           (sym (ap (λ (b : Bar). b .full) (bar-at-some (l .numbers) (l .scores) n (eqb (l .len) k) (eqb-false n 0 t))) ∙ e)
-
--- the score decides first
-pub score-first : (e f : Entry) → ltZ (e .score) (f .score) ≡ true → above e f ≡ false
-score-first e f low =
-    one-way above above-strict f e
-    (ap (λ b. elim b [ true ↦ true | false ↦ elim (ltZ (f .score) (e .score)) [ true ↦ false | false ↦ ltb (e .number) (f .number) ] ]) low)
 
 module _ (above : Entry → Entry → Bool) (bar : Bar) (e : Entry) where
   pub admits-none : eqb (e .number) 0 ≡ true → admits above bar e ≡ false

@@ -1,7 +1,7 @@
 -- Any two outcomes that a contract allows are equal, since each contract is an equation.
 -- Assumes nothing.
 use mathlib.Core.Path.{sym, _∙_}
-use Rattle.wire.proofs.Outcomes.{OneAnswer}
+use Rattle.laws.proofs.Outcomes.{OneAnswer}
 use Rattle.list.proofs.Lines.none.Kinds as none-kinds
 use Rattle.list.proofs.Lines.none.Reads as none-reads
 use Rattle.list.proofs.Lines.shown.Kinds as shown-kinds

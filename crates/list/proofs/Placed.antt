@@ -8,9 +8,10 @@ use native.Mathlib.Nat.{add-zero, zero-add, le-of-suc-le-suc, not-suc-le-zero}
 use native.Mathlib.Omega.{arith}
 use lib.ListN.{length, take, drop, getD}
 use lib.Seq.{take-take, take-append-le, length-take-le}
-use Rattle.ranking.specs.Best.{place}
-use Rattle.ranking.proofs.Best.{StrictTotal, place-first, place-later, place-same, one-way}
-use Rattle.ranking.proofs.Tests.{Tested, passed, failed, tested, clash}
+use Rattle.search.specs.Best.{place}
+use Rattle.laws.proofs.Orders.{StrictTotal, one-way}
+use Rattle.search.proofs.Best.{place-first, place-later, place-same}
+use Rattle.laws.proofs.Tests.{Tested, passed, failed, tested, clash}
 use Rattle.list.specs.Inner.{rankIn, newIn}
 
 -- a look at the lines for the rank of x: those before i rank above it

@@ -8,9 +8,10 @@ use native.Mathlib.Omega.{arith}
 use lib.IntN.{ℤ}
 use lib.ListN.{take}
 use lib.Seq.{take-nil}
-use Rattle.ranking.specs.Best.{best, place}
+use Rattle.search.specs.Best.{best, place}
 use Rattle.ranking.specs.Standing.{Entry}
-use Rattle.ranking.proofs.Best.{StrictTotal, best-cons, best-snoc, length-best-le}
+use Rattle.laws.proofs.Orders.{StrictTotal}
+use Rattle.search.proofs.Best.{best-cons, best-snoc, length-best-le}
 use Rattle.list.specs.declared.Lines.{Lines}
 use Rattle.list.specs.Lines.{linesOf, linesIn, stored}
 use Rattle.list.proofs.Stored.{Roomy, lineAt, take-line, lines-back}

@@ -10,9 +10,10 @@ use native.Mathlib.Omega.{arith}
 use lib.IntN.{ℤ, pos}
 use lib.ListN.{length, take, drop, getD, set, replicate, length-append, length-take, length-drop, take-append-drop}
 use lib.Seq.{take-all, take-take, take-at, drop-at, length-take-le}
-use Rattle.ranking.specs.Best.{place}
+use Rattle.search.specs.Best.{place}
 use Rattle.ranking.specs.Standing.{Entry}
-use Rattle.ranking.proofs.Best.{StrictTotal, place-length-ge}
+use Rattle.laws.proofs.Orders.{StrictTotal}
+use Rattle.search.proofs.Best.{place-length-ge}
 use Rattle.list.specs.declared.Lines.{Lines}
 use Rattle.list.specs.Lines.{linesOf, numbersOf, scoresOf, stored, linesIn, wiped}
 use Rattle.list.specs.Inner.{rankIn, newIn, slid, Placing}

@@ -12,10 +12,10 @@ use lib.Dec.{leb}
 use lib.IntN.{ℤ, pos}
 use lib.ListN.{length, take, drop, getD, replicate, length-map, length-take, length-append, length-replicate, drop-of-length-le}
 use lib.Seq.{take-all, take-take, take-suc, length-take-le, drop-cons, getD-take}
-use Rattle.ranking.specs.Best.{onLast}
+use Rattle.laws.specs.Lists.{onLast}
 use Rattle.ranking.specs.Standing.{Entry}
-use Rattle.ranking.proofs.Lists.{last-at}
-use Rattle.ranking.proofs.Tests.{Tested, passed, failed, tested}
+use Rattle.laws.proofs.Lists.{last-at}
+use Rattle.laws.proofs.Tests.{Tested, passed, failed, tested}
 use Rattle.list.specs.declared.Lines.{Lines}
 use Rattle.list.specs.Lines.{linesOf, numbersOf, scoresOf, stored, linesIn, wiped}
 pub use Rattle.list.specs.Inner.{Roomy}

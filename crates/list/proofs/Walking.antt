@@ -1,60 +1,19 @@
 -- The tests over the lines of two columns: a walk keeps what is left to test equal to the whole.
 -- Assumes nothing.
 use mathlib.Core.Path.{_≡_, refl, sym, ap, ap₂, _∙_}
-use mathlib.Core.Bool.{Bool, true, false, not, _&&_, _||_}
+use mathlib.Core.Bool.{Bool, true, false, _&&_}
 use mathlib.Core.List.{List, [], _∷_}
 use Prim.Native.Nat.{ℕ, suc, _+_, _≤_, _<_}
 use native.Mathlib.Omega.{arith}
-use borrow.Author.Tests.{not-true, eqb-true, eqb-false}
-use lib.Dec.{eqb}
 use lib.IntN.{ℤ, pos}
 use lib.ListN.{length, take, drop, getD, length-drop}
-use lib.Signed.{ltZ, mag}
-use mir.Facts.{toZ-ofZ}
+use lib.Signed.{mag}
 use mir.Syntax.{w32}
-use mir.Val.{SFits, toZ, ofZ}
+use mir.Val.{toZ, ofZ}
+use Rattle.laws.proofs.Words.{kept}
 use Rattle.ranking.specs.Standing.{Entry}
-use Rattle.ranking.proofs.Tests.{Tested, passed, failed, tested, clash, or-left, or-right}
-use Rattle.ranking.proofs.Words.{kept}
-use Rattle.ranking.proofs.Whole.{ltZ-strict}
-use Rattle.list.specs.Lines.{linesOf, allOf, equal, falls}
+use Rattle.list.specs.Lines.{linesOf, allOf, falls}
 use Rattle.list.proofs.Stored.{Roomy, lineAt, drop-line, none-left, length-front}
-
--- ---- equal numbers
-
-pub equal-same : (a b : ℤ) → a ≡ b → equal a b ≡ true
-unfolding equal
-equal-same a b e =
-    ap (λ z. not (ltZ a z || ltZ z a)) (sym e) ∙ ap (λ t. not (t || t)) (ltZ-strict .irreflexive a)
-
-pub equal-true : (a b : ℤ) → equal a b ≡ true → a ≡ b
-unfolding equal
-equal-true a b h = go (tested (ltZ a b)) (tested (ltZ b a))
-  where
-    neither : ltZ a b || ltZ b a ≡ false
-    neither = not-true (ltZ a b || ltZ b a) h
-
-    go : Tested (ltZ a b) → Tested (ltZ b a) → a ≡ b
-    go (passed e) t = clash (or-left (ltZ a b) (ltZ b a) e) neither
-    go (failed e) (passed f) = clash (or-right (ltZ a b) (ltZ b a) f) neither
-    go (failed e) (failed f) = ltZ-strict .total a b e f
-
-pub equal-other : (a b : ℤ) → (a ≡ b → ⊥) → equal a b ≡ false
-equal-other a b n = go (tested (equal a b))
-  where
-    go : Tested (equal a b) → equal a b ≡ false
-    go (passed e) = absurd (n (equal-true a b e))
-    go (failed e) = e
-
--- by their bits
-pub equal-bits : (a b : ℤ) → SFits w32 a → SFits w32 b → eqb (ofZ w32 a) (ofZ w32 b) ≡ equal a b
-equal-bits a b f g = go (tested (eqb (ofZ w32 a) (ofZ w32 b)))
-  where
-    go : Tested (eqb (ofZ w32 a) (ofZ w32 b)) → eqb (ofZ w32 a) (ofZ w32 b) ≡ equal a b
-    go (passed t) = t ∙ sym (equal-same a b (sym (toZ-ofZ f) ∙ ap (toZ w32) (eqb-true (ofZ w32 a) (ofZ w32 b) t) ∙ toZ-ofZ g))
-    go (failed t) = t ∙ sym (equal-other a b (λ e. eqb-false (ofZ w32 a) (ofZ w32 b) t (ap (ofZ w32) e)))
-
--- ---- a walk over a list
 
 -- a walk over the first n lines has come to the line i: what is left to test decides the whole
 pub record Walk (p : Entry → Bool) (whole : Bool) (ns : List ℕ) (ss : List ℤ) (n i : ℕ) : Type 0 where

@@ -5,7 +5,7 @@ use mathlib.Core.Bool.{Bool, true, cond}
 use mathlib.Core.List.{List, [], _∷_, _++_}
 use lib.ListN.{length, take, drop}
 use lib.IntN.{ℤ}
-use Rattle.ranking.specs.Best.{place}
+use Rattle.search.specs.Best.{place}
 use Rattle.list.specs.Lines.{room}
 
 -- The columns have their room.

@@ -1,11 +1,11 @@
 -- A list in its two columns: its lines, and how they are stored (document 01, "Window and questions").
 use Prim.Native.Nat.{ℕ}
-use mathlib.Core.Bool.{Bool, true, not, _&&_, _||_}
+use mathlib.Core.Bool.{Bool, true, _&&_}
 use mathlib.Core.List.{List, [], _∷_, _++_, map}
 use lib.Dec.{eqb}
 use lib.ListN.{length, take, replicate}
 use lib.IntN.{ℤ, pos}
-use lib.Signed.{ltZ}
+use Rattle.laws.specs.Whole.{equal}
 use Rattle.ranking.specs.Standing.{Entry}
 use Rattle.list.specs.declared.Lines.{Lines}
 
@@ -47,10 +47,6 @@ abbrev pub falls : (Entry → Entry → Bool) → List Entry → Bool
 falls above [] = true
 falls above (x ∷ []) = true
 falls above (x ∷ y ∷ l) = above x y && falls above (y ∷ l)
-
--- Neither is less than the other.
-unfoldable pub equal : ℤ → ℤ → Bool
-equal a b = not (ltZ a b || ltZ b a)
 
 -- An unused place is 0.
 abbrev pub blank : Entry → Bool

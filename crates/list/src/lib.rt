@@ -5,14 +5,15 @@ ghost use mathlib.Core.List.{[]};
 ghost use Prim.Native.Nat.{min, _≤_, _<_};
 ghost use lib.ListN.{take, drop};
 ghost use lib.IntN.{pos};
-ghost use Rattle.ranking.specs.Best.{best, place};
-ghost use Rattle.ranking.specs.Standing.{above};
-ghost use Rattle.list.specs.Lines.{linesOf, linesIn, stored, wiped, allOf, falls, blank};
+ghost use Rattle.search.specs.Best.{best, place};
+ghost use Rattle.ranking.specs.Standing.{above, top};
+ghost use Rattle.window.specs.Rows.{rowCount, standing};
+ghost use Rattle.list.specs.Lines.{room, linesOf, linesIn, stored, wiped, allOf, falls, blank};
 ghost use Rattle.list.specs.Bars.{barAt, barOf, leastAt, admits};
-ghost use Rattle.list.specs.Rows.{rowsOf, gathered};
+ghost use Rattle.list.specs.Rows.{rowsOf};
 ghost use Rattle.list.specs.Inner.{Roomy, rankIn, newIn, slid, Placing};
-use ranking::Weights;
-use ranking::ranks_above;
+use ranking::Rule;
+use values::Values;
 use window::Window;
 
 // The first `len` places are its lines. In a list that is well stored the others are 0.
@@ -48,7 +49,7 @@ impl Lines {
 
     // How many lines there are.
     pub fn shown(self) -> usize
-        ensures { λ r. ⌜ r ≡ min (self .len) 16 ⌝ }
+        ensures { λ r. ⌜ r ≡ min (self .len) room ⌝ }
     {
         smaller(self.len as usize, Lines::ROOM)
     }
@@ -70,14 +71,14 @@ impl Lines {
     }
 
     // One entry put in its rank among the lines, once, of which at most `most` are kept.
-    pub fn placed(self, most: usize, number: u32, score: i32) -> Lines
-        ensures { λ r. ⌜ r ≡ stored (take (min most 16) (place above (record { number = number; score = score }) (linesIn self))) ⌝ }
+    pub fn placed(self, rule: Rule, most: usize, number: u32, score: i32) -> Lines
+        ensures { λ r. ⌜ r ≡ stored (take (min most room) (place (above rule) (record { number = number; score = score }) (linesIn self))) ⌝ }
     {
         let n = self.shown();
         let mut numbers = self.numbers;
         let mut scores = self.scores;
-        let room = smaller(most, Lines::ROOM);
-        let m = put_in(&mut numbers, &mut scores, n, room, number, score);
+        let k = smaller(most, Lines::ROOM);
+        let m = put_in(rule, &mut numbers, &mut scores, n, k, number, score);
         wipe(&mut numbers, &mut scores, m);
         let len = m as u8;
         Lines {
@@ -88,8 +89,8 @@ impl Lines {
     }
 
     // The best k of the lines.
-    pub fn best(self, k: usize) -> Lines
-        ensures { λ r. ⌜ r ≡ stored (best above (min k 16) (linesIn self)) ⌝ }
+    pub fn best(self, rule: Rule, k: usize) -> Lines
+        ensures { λ r. ⌜ r ≡ stored (best (above rule) (min k room) (linesIn self)) ⌝ }
     {
         let n = self.shown();
         let numbers = self.numbers;
@@ -97,25 +98,25 @@ impl Lines {
         let mut list = Lines::none();
         let mut i: usize = 0;
         while i < n {
-            list = list.placed(k, numbers[i], scores[i]);
+            list = list.placed(rule, k, numbers[i], scores[i]);
             i += 1;
         }
         list
     }
 
     // Each line ranks above the next.
-    pub fn falls(self) -> bool
-        ensures { λ r. ⌜ r ≡ falls above (linesIn self) ⌝ }
+    pub fn falls(self, rule: Rule) -> bool
+        ensures { λ r. ⌜ r ≡ falls (above rule) (linesIn self) ⌝ }
     {
         let n = self.shown();
         let mut i: usize = 0;
         while i + 1 < n {
             let next = i + 1;
-            if !ranks_above(
-                self.scores[i],
+            if !rule.above(
                 self.numbers[i],
-                self.scores[next],
+                self.scores[i],
                 self.numbers[next],
+                self.scores[next],
             ) {
                 return false;
             }
@@ -160,14 +161,14 @@ impl Bar {
     }
 
     // A report passes: it has a number, and the list isn't full or it ranks above the last line.
-    fn admits(self, number: u32, score: i32) -> bool
-        ensures { λ r. ⌜ r ≡ admits above self (record { number = number; score = score }) ⌝ }
+    fn admits(self, rule: Rule, number: u32, score: i32) -> bool
+        ensures { λ r. ⌜ r ≡ admits (above rule) self (record { number = number; score = score }) ⌝ }
     {
         if number == 0 {
             return false;
         }
         if self.full {
-            return ranks_above(score, number, self.score, self.number);
+            return rule.above(number, score, self.number, self.score);
         }
         true
     }
@@ -175,43 +176,45 @@ impl Bar {
 
 // The best k of the reports in the first `rows` rows of a window. A report that doesn't pass the bar changes nothing.
 pub fn gathered<'a>(
-    weights: Weights,
+    rule: Rule,
     k: u8,
-    losses: &'a [u16; 1024],
-    shakes: &'a [u16; 1024],
-    numbers: &'a [u32; 1024],
+    losses: &'a [u16; Window::ROWS],
+    shakes: &'a [u16; Window::ROWS],
+    numbers: &'a [u32; Window::ROWS],
     rows: usize,
 ) -> Lines
     ensures { λ r. ⌜
-        r ≡ stored (gathered weights (min k 16) (rowsOf (now (losses .entry)) (now (shakes .entry)) (now (numbers .entry))) (min rows 1024))
+        r ≡ stored (top rule (min k room) (standing (rowsOf (now (losses .entry)) (now (shakes .entry)) (now (numbers .entry))) (min rows rowCount)))
         ⌝ }
 {
     let most = smaller(k as usize, Lines::ROOM);
     let end = smaller(rows, Window::ROWS);
-    let mut top = [0u32; Lines::ROOM];
+    let mut found = [0u32; Lines::ROOM];
     let mut by = [0i32; Lines::ROOM];
     let mut len: usize = 0;
-    let mut bar = bar_in(&top, &by, len, len == most);
+    let mut bar = bar_in(&found, &by, len, len == most);
     let mut least = bar.least();
     let mut row: usize = 0;
     while row < end {
         let here = row;
         row += 1;
-        let score = weights.score(losses[here], shakes[here]);
+        let loss = losses[here];
+        let shake = shakes[here];
+        let score = rule.score(Values { loss, shake });
         if score < least {
             continue;
         }
         let number = numbers[here];
-        if !bar.admits(number, score) {
+        if !bar.admits(rule, number, score) {
             continue;
         }
-        len = put_in(&mut top, &mut by, len, most, number, score);
-        bar = bar_in(&top, &by, len, len == most);
+        len = put_in(rule, &mut found, &mut by, len, most, number, score);
+        bar = bar_in(&found, &by, len, len == most);
         least = bar.least();
     }
     let count = len as u8;
     Lines {
-        numbers: top,
+        numbers: found,
         scores: by,
         len: count,
     }
@@ -224,7 +227,7 @@ fn bar_in<'a>(
     len: usize,
     full: bool,
 ) -> Bar
-    requires { ⌜ len ≤ 16 ⌝ }
+    requires { ⌜ len ≤ room ⌝ }
     ensures { λ r. ⌜ r ≡ barAt (now (numbers .entry)) (now (scores .entry)) len full ⌝ }
 {
     if len == 0 {
@@ -244,7 +247,7 @@ fn bar_in<'a>(
 
 // 0 in the places of two arrays from one on.
 fn wipe<'a>(numbers: &'a mut [u32; Lines::ROOM], scores: &'a mut [i32; Lines::ROOM], from: usize)
-    requires { ⌜ (from ≤ 16) × Roomy (now numbers) (now scores) ⌝ }
+    requires { ⌜ (from ≤ room) × Roomy (now numbers) (now scores) ⌝ }
     ensures { λ _. ⌜
         (now (numbers .exit) ≡ wiped from 0 (now (numbers .entry))) × (now (scores .exit) ≡ wiped from (pos 0) (now (scores .entry)))
         ⌝ }
@@ -264,50 +267,52 @@ fn smaller(a: usize, b: usize) -> usize
     if a < b { a } else { b }
 }
 
-// One entry put in its rank among the first `len` lines of two arrays, once, of which at most `room` are kept: their
+// One entry put in its rank among the first `len` lines of two arrays, once, of which at most `most` are kept: their
 // number then. The lines past them stay.
 fn put_in<'a>(
+    rule: Rule,
     numbers: &'a mut [u32; Lines::ROOM],
     scores: &'a mut [i32; Lines::ROOM],
     len: usize,
-    room: usize,
+    most: usize,
     number: u32,
     score: i32,
 ) -> usize
-    requires { ⌜ (len ≤ 16) × (room ≤ 16) × Roomy (now numbers) (now scores) ⌝ }
+    requires { ⌜ (len ≤ room) × (most ≤ room) × Roomy (now numbers) (now scores) ⌝ }
     ensures { λ r. ⌜
-        Placing above (record { number = number; score = score }) len room (linesOf (now (numbers .entry)) (now (scores .entry))) (linesOf (now (numbers .exit)) (now (scores .exit))) r
+        Placing (above rule) (record { number = number; score = score }) len most (linesOf (now (numbers .entry)) (now (scores .entry))) (linesOf (now (numbers .exit)) (now (scores .exit))) r
         × Roomy (now (numbers .exit)) (now (scores .exit))
         ⌝ }
 {
-    let at = rank_in(numbers, scores, len, number, score);
-    if room <= at {
-        return room;
+    let at = rank_in(rule, numbers, scores, len, number, score);
+    if most <= at {
+        return most;
     }
-    if !new_in(numbers, scores, len, at, number, score) {
-        return smaller(len, room);
+    if !new_in(rule, numbers, scores, len, at, number, score) {
+        return smaller(len, most);
     }
-    let last = smaller(len, room - 1);
+    let last = smaller(len, most - 1);
     slide(numbers, scores, at, last, number, score);
     last + 1
 }
 
 // How many of the first `len` lines of two arrays rank above an entry, before the first that doesn't.
 fn rank_in<'a>(
+    rule: Rule,
     numbers: &'a [u32; Lines::ROOM],
     scores: &'a [i32; Lines::ROOM],
     len: usize,
     number: u32,
     score: i32,
 ) -> usize
-    requires { ⌜ (len ≤ 16) × Roomy (now numbers) (now scores) ⌝ }
+    requires { ⌜ (len ≤ room) × Roomy (now numbers) (now scores) ⌝ }
     ensures { λ r. ⌜
-        r ≡ rankIn above (record { number = number; score = score }) (take len (linesOf (now (numbers .entry)) (now (scores .entry))))
+        r ≡ rankIn (above rule) (record { number = number; score = score }) (take len (linesOf (now (numbers .entry)) (now (scores .entry))))
         ⌝ }
 {
     let mut i: usize = 0;
     while i < len {
-        if !ranks_above(scores[i], numbers[i], score, number) {
+        if !rule.above(numbers[i], scores[i], number, score) {
             return i;
         }
         i += 1;
@@ -317,6 +322,7 @@ fn rank_in<'a>(
 
 // The line at an entry's rank is another.
 fn new_in<'a>(
+    rule: Rule,
     numbers: &'a [u32; Lines::ROOM],
     scores: &'a [i32; Lines::ROOM],
     len: usize,
@@ -325,15 +331,15 @@ fn new_in<'a>(
     score: i32,
 ) -> bool
     requires { ⌜
-        (len ≤ 16) × Roomy (now numbers) (now scores)
-        × (at ≡ rankIn above (record { number = number; score = score }) (take len (linesOf (now numbers) (now scores))))
+        (len ≤ room) × Roomy (now numbers) (now scores)
+        × (at ≡ rankIn (above rule) (record { number = number; score = score }) (take len (linesOf (now numbers) (now scores))))
         ⌝ }
     ensures { λ r. ⌜
-        r ≡ newIn above (record { number = number; score = score }) (take len (linesOf (now (numbers .entry)) (now (scores .entry))))
+        r ≡ newIn (above rule) (record { number = number; score = score }) (take len (linesOf (now (numbers .entry)) (now (scores .entry))))
         ⌝ }
 {
     if at < len {
-        return ranks_above(score, number, scores[at], numbers[at]);
+        return rule.above(number, score, numbers[at], scores[at]);
     }
     true
 }
@@ -347,7 +353,7 @@ fn slide<'a>(
     number: u32,
     score: i32,
 )
-    requires { ⌜ (at ≤ last) × (last < 16) × Roomy (now numbers) (now scores) ⌝ }
+    requires { ⌜ (at ≤ last) × (last < room) × Roomy (now numbers) (now scores) ⌝ }
     ensures { λ _. ⌜
         (now (numbers .exit) ≡ slid at last number (now (numbers .entry)))
         × (now (scores .exit) ≡ slid at last score (now (scores .entry)))

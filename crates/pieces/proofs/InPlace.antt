@@ -12,7 +12,7 @@ use lib.Dec.{eqb, leb, ltb}
 use lib.ListN.{length, getD, set, take, drop, length-set, length-map, List·getD-map}
 use lib.Seq.{take-all, drop-cons, take-suc, take-suc-set, drop-drop, drop-set-lt, getD-drop, set-getD}
 use Rattle.wire.specs.Bytes.{number, part}
-use Rattle.ranking.proofs.Tests.{Tested, passed, failed, tested, clash, and-both}
+use Rattle.laws.proofs.Tests.{Tested, passed, failed, tested, clash, and-both, if-so, or-neither}
 use Rattle.window.specs.declared.Window.{Window}
 use Rattle.window.specs.declared.Place.{Place}
 use Rattle.window.specs.Rows.{sized, standing, added, placeFor}
@@ -24,7 +24,6 @@ use Rattle.question.specs.Lines.{searchedFirst, rowsOf}
 use Rattle.question.specs.Inner.{shown}
 use Rattle.question.proofs.Stored.{no-lines}
 use Rattle.question.proofs.Finding.{searched-rows, searched-arrays}
-use Rattle.question.proofs.Taking.{if-so, if-not}
 use Rattle.board.specs.declared.Board.{Board}
 use Rattle.board.specs.Work.{noQuestion, slotRefusal, readWork, takes, listed, lists, refreshed, outgoing, entering, isSearched, enterRefusal, enterWork, arrival}
 use Rattle.board.proofs.Refusals.{zero-is, zero-not, enterable}
@@ -147,10 +146,6 @@ module _ (log : Log) where
   enter-so loss shake e = rw (eq-eqb (enterRefusal (w .entered) loss shake) 0 e)
 
 -- ---- the slots, one after the other
-
-or-neither : (a b : Bool) → a || b ≡ false → (a ≡ false) × (b ≡ false)
-or-neither true b h = clash {b = true} refl h
-or-neither false b h = (refl, h)
 
 -- A slot with no k and no lines takes no report, and lists none.
 idle-unstirred : (q : Question) (loss shake gone : ℕ) → q .k ≡ 0 → q .len ≡ 0 → takes q loss shake || lists q gone ≡ false

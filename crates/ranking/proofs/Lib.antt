@@ -1,14 +1,8 @@
-pub mod Tests
-pub mod Lists
-pub mod Best
-pub mod Least
-pub mod Search
-pub mod Whole
+-- What is proved of a question's rule beside its functions.
 pub mod Cells
+pub mod Entries
 pub mod Standing
 pub mod Scan
 pub mod Reaching
-pub mod Guard
-pub mod Words
 pub mod Examples
 pub mod Outcomes

@@ -1,7 +1,7 @@
 -- Any two outcomes that a contract allows are equal, since each contract is an equation.
 -- Assumes nothing.
 use mathlib.Core.Path.{sym, _∙_}
-use Rattle.wire.proofs.Outcomes.{OneAnswer}
+use Rattle.laws.proofs.Outcomes.{OneAnswer}
 use Rattle.window.proofs.Window.fresh.Kinds as fresh-kinds
 use Rattle.window.proofs.Window.fresh.Reads as fresh-reads
 use Rattle.window.proofs.Window.fit.Kinds as fit-kinds

@@ -7,7 +7,7 @@ use lib.ListN.{getD}
 use lib.Signed.{leZ}
 use mir.Syntax.{w32}
 use mir.Facts.{toZ-ofZ}
-use Rattle.ranking.proofs.Words.{kept}
+use Rattle.laws.proofs.Words.{kept}
 use Rattle.question.proofs.Stored.{roomy}
 use Rattle.board.proofs.Listing.{place-short, place-none, place-last}
 use borrow.Author.Needs.{needs}

@@ -7,7 +7,7 @@ use lib.IntN.{ℤ, pos}
 use mir.Facts.{toZ-ofZ}
 use mir.Syntax.{Width, w16}
 use mir.Val.{SFits, toZ, ofZ}
-use Rattle.ranking.proofs.Tests.{Tested, passed, failed, tested}
+use Rattle.laws.proofs.Tests.{Tested, passed, failed, tested}
 use Rattle.question.specs.Calls.{equal}
 use Rattle.question.proofs.Fitness.{equal-same, equal-other}
 use Rattle.board.proofs.is_zero.Statement.{statement}

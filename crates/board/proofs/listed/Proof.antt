@@ -3,7 +3,7 @@
 use mathlib.Core.Path.{sym, ap, _∙_}
 use Prim.Native.Nat.{_%_}
 use mir.Syntax.{w32}
-use Rattle.ranking.proofs.Words.{kept}
+use Rattle.laws.proofs.Words.{kept}
 use Rattle.ranking.specs.Standing.{Held}
 use Rattle.question.specs.Lines.{withEntry, cutToK}
 use Rattle.board.proofs.Listing.{listed-taking, listed-not}

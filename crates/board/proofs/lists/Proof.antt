@@ -4,7 +4,7 @@ use mathlib.Core.Path.{_≡_, refl, sym, _∙_}
 use Prim.Native.Nat.{_-_, _≤_}
 use native.Mathlib.Omega.{arith}
 use lib.ListN.{take, drop}
-use Rattle.ranking.specs.Search.{has}
+use Rattle.search.specs.Search.{has}
 use Rattle.question.proofs.Stored.{roomy}
 use Rattle.board.proofs.Listing.{lists-none, lists-numbers, named-here, named-later, named-nowhere}
 use borrow.Author.Needs.{needs}

@@ -4,7 +4,7 @@ use mathlib.Core.Path.{sym, ap, _∙_}
 use mathlib.Core.Bool.{_&&_}
 use lib.IntN.{pos}
 use mir.Syntax.{w16}
-use Rattle.ranking.proofs.Words.{kept}
+use Rattle.laws.proofs.Words.{kept}
 use Rattle.question.specs.Calls.{equal}
 use borrow.Author.Needs.{needs}
 use Rattle.board.proofs.no_weights.Statement.{statement}

@@ -3,7 +3,7 @@
 use mathlib.Core.Path.{sym, ap, _∙_}
 use Prim.Native.Nat.{_%_}
 use mir.Syntax.{w32}
-use Rattle.ranking.proofs.Words.{kept}
+use Rattle.laws.proofs.Words.{kept}
 use Rattle.question.specs.Lines.{isMarked}
 use Rattle.board.specs.Work.{hasPlace}
 use Rattle.board.proofs.Listing.{takes-both, takes-no-place}

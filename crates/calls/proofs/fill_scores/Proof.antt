@@ -9,7 +9,7 @@ use borrow.Author.Tests.{ltb-true, ltb-false}
 use denote.Ref.{now}
 use native.Mathlib.Omega.{arith}
 use mir.Syntax.{w32}
-use Rattle.ranking.proofs.Words.{kept}
+use Rattle.laws.proofs.Words.{kept}
 use Rattle.calls.proofs.Filling.{cut, more}
 use Rattle.calls.proofs.fill_scores.Statement.{statement}
 use Rattle.calls.proofs.fill_scores.Tie as tie

@@ -6,7 +6,7 @@ use borrow.Author.Needs.{needs}
 use lib.IntN.{pos}
 use lib.ListN.{getD}
 use mir.Syntax.{w32}
-use Rattle.ranking.proofs.Words.{kept}
+use Rattle.laws.proofs.Words.{kept}
 use Rattle.list.proofs.Bars.{bar-at-none, bar-at-some}
 use Rattle.list.proofs.bar_in.Statement.{statement}
 use Rattle.list.proofs.bar_in.Tie as tie

@@ -10,33 +10,34 @@ use lib.ListN.{getD}
 use lib.Signed.{ltZ, mag}
 use mir.Syntax.{w32}
 use mir.Val.{toZ, ofZ}
-use Rattle.ranking.specs.Standing.{Entry, above, entry}
-use Rattle.ranking.proofs.Words.{kept}
+use Rattle.ranking.specs.Standing.{Entry, above, entry, top}
+use Rattle.ranking.proofs.Entries.{score-below}
+use Rattle.laws.proofs.Words.{kept}
 use Rattle.window.specs.declared.Window.{Window}
-use Rattle.window.specs.Rows.{reportIn}
+use Rattle.window.specs.Rows.{reportIn, standing}
 use Rattle.list.specs.declared.Lines.{Lines}
 use Rattle.list.specs.Lines.{stored}
 use Rattle.list.specs.Bars.{barAt, barOf, leastAt, admits}
-use Rattle.list.specs.Rows.{rowsOf, gathered}
+use Rattle.list.specs.Rows.{rowsOf}
 use Rattle.list.specs.Inner.{Roomy}
 use Rattle.list.proofs.Sliding.{placing-few}
-use Rattle.list.proofs.Bars.{admits-under, score-first}
+use Rattle.list.proofs.Bars.{admits-under}
 use Rattle.list.proofs.Gathering.{gathered-none, gathered-few, gathered-bar, gathered-places, gathered-skips}
 use Rattle.list.proofs.gathered.Statement.{statement}
 use Rattle.list.proofs.gathered.Tie as tie
 
 abbrev Inv-loop : tie.InvT-loop
-Inv-loop weights k losses shakes numbers rows most end top₀ by₀ len₀ bar₀ least₀ row₀ top by len bar least row =
+Inv-loop rule k losses shakes numbers rows most end found₀ by₀ len₀ bar₀ least₀ row₀ found by len bar least row =
     (row ≤ end)
     × (end ≡ min rows 1024)
     × (most ≡ min k 16)
-    × Roomy top by
-    × (record { numbers = top; scores = by; len = len } ≡ stored (gathered weights most (rowsOf losses shakes numbers) row))
-    × (bar ≡ barAt top by len (eqb len most))
+    × Roomy found by
+    × (record { numbers = found; scores = by; len = len } ≡ stored (top rule most (standing (rowsOf losses shakes numbers) row)))
+    × (bar ≡ barAt found by len (eqb len most))
     × (toZ w32 least ≡ leastAt bar)
 
 abbrev μ-loop : tie.MeasureT-loop
-μ-loop weights k losses shakes numbers rows most end top₀ by₀ len₀ bar₀ least₀ row₀ top by len bar least row = end - row
+μ-loop rule k losses shakes numbers rows most end found₀ by₀ len₀ bar₀ least₀ row₀ found by len bar least row = end - row
 
 -- what the loop's head knows
 module _ (c : tie.At-loop Inv-loop μ-loop) where
@@ -53,16 +54,16 @@ module _ (c : tie.At-loop Inv-loop μ-loop) where
   rows = rowsOf (start .args .losses .now) (start .args .shakes .now) (start .args .numbers .now)
 
   abbrev report : Entry
-  report = entry (start .args .weights) (reportIn rows (c .loop .row))
+  report = entry (start .args .rule) (reportIn rows (c .loop .row))
 
   small : most ≤ 16
   small = omega (arith, ended .before .smaller .ensures)
 
   short : c .loop .len ≤ 16
-  short = gathered-few (start .args .weights) most small rows (c .loop .row) (c .loop .len) (ap (λ (l : Lines). l .len) (c .loop .inv .4))
+  short = gathered-few (start .args .rule) most small rows (c .loop .row) (c .loop .len) (ap (λ (l : Lines). l .len) (c .loop .inv .4))
 
-  same-bar : c .loop .bar ≡ barOf (stored (gathered (start .args .weights) most rows (c .loop .row))) most
-  same-bar = c .loop .inv .5 ∙ gathered-bar (start .args .weights) most small rows (c .loop .top) (c .loop .by) (c .loop .len) (c .loop .row) (c .loop .inv .4)
+  same-bar : c .loop .bar ≡ barOf (stored (top (start .args .rule) most (standing rows (c .loop .row)))) most
+  same-bar = c .loop .inv .5 ∙ gathered-bar (start .args .rule) most small rows (c .loop .found) (c .loop .by) (c .loop .len) (c .loop .row) (c .loop .inv .4)
 
 -- and the loop's body of its row
 module _ (c : tie.After-score Inv-loop μ-loop) where
@@ -82,8 +83,8 @@ module _ (c : tie.After-admits Inv-loop μ-loop) where
   abbrev turn : tie.At-loop Inv-loop μ-loop
   turn = at (c .before .before .before)
 
-  test : c .admits .result ≡ admits above (barOf (stored (gathered (start turn .args .weights) (most turn) (rows turn) (turn .loop .row))) (most turn)) (report turn)
-  test = c .admits .ensures ∙ ap₂ (admits above) (same-bar turn) (reported (c .before .before .before))
+  test : c .admits .result ≡ admits (above (start turn .args .rule)) (barOf (stored (top (start turn .args .rule) (most turn) (standing (rows turn) (turn .loop .row)))) (most turn)) (report turn)
+  test = c .admits .ensures ∙ ap₂ (admits (above (start turn .args .rule))) (same-bar turn) (reported (c .before .before .before))
 
 smaller-requires : tie.Need-smaller-requires Inv-loop μ-loop
 smaller-requires c κs = search needs
@@ -106,7 +107,7 @@ loop-holds c =
       ended .smaller2 .ensures,
       chosen .smaller .ensures,
       record { numbers = refl; scores = refl },
-      gathered-none (a .weights) (chosen .smaller .result) (omega (arith, chosen .smaller .ensures)) (rowsOf (a .losses .now) (a .shakes .now) (a .numbers .now)),
+      gathered-none (a .rule) (chosen .smaller .result) (omega (arith, chosen .smaller .ensures)) (rowsOf (a .losses .now) (a .shakes .now) (a .numbers .now)),
       c .before .bar-in .ensures,
       kept w32 (c .least .result) (c .least .ok) ∙ c .least .ensures,
     )
@@ -114,17 +115,17 @@ loop-holds c =
 add-row : tie.Need-add-row Inv-loop μ-loop
 add-row c = search needs
 
-mul-score : tie.Need-mul-score Inv-loop μ-loop
-mul-score c = search needs
+mul-loss : tie.Need-mul-loss Inv-loop μ-loop
+mul-loss c = search needs
 
-element-copy-out-score : tie.Need-element-copy-out-score Inv-loop μ-loop
-element-copy-out-score c = search needs
+element-copy-out-loss : tie.Need-element-copy-out-loss Inv-loop μ-loop
+element-copy-out-loss c = search needs
 
-mul-score-2 : tie.Need-mul-score-2 Inv-loop μ-loop
-mul-score-2 c = search needs
+mul-shake : tie.Need-mul-shake Inv-loop μ-loop
+mul-shake c = search needs
 
-element-copy-out-score-2 : tie.Need-element-copy-out-score-2 Inv-loop μ-loop
-element-copy-out-score-2 c = search needs
+element-copy-out-shake : tie.Need-element-copy-out-shake Inv-loop μ-loop
+element-copy-out-shake c = search needs
 
 score-requires : tie.Need-score-requires Inv-loop μ-loop
 score-requires c κs = search needs
@@ -137,8 +138,8 @@ loop-again c =
     let b = at (c .before) in
     let l = b .loop in
     let fits = subst (λ s. mag s < 2147483648) (c .before .score .ensures) (c .before .score .ok) in
-    let under = ap (λ bar. admits above bar (report b)) (sym (same-bar b)) ∙ admits-under above (l .bar) (report b) score-first fits (sym (ap₂ ltZ (scored (c .before)) (l .inv .6)) ∙ c .if1 .taken) in
-    (up (c .before), l .inv .1, l .inv .2, l .inv .3, l .inv .4 ∙ ap stored (gathered-skips (start b .args .weights) (most b) (small b) (rows b) (l .row) under), l .inv .5, l .inv .6)
+    let under = ap (λ bar. admits (above (start b .args .rule)) bar (report b)) (sym (same-bar b)) ∙ admits-under (above (start b .args .rule)) (l .bar) (report b) (score-below (start b .args .rule)) fits (sym (ap₂ ltZ (scored (c .before)) (l .inv .6)) ∙ c .if1 .taken) in
+    (up (c .before), l .inv .1, l .inv .2, l .inv .3, l .inv .4 ∙ ap stored (gathered-skips (start b .args .rule) (most b) (small b) (rows b) (l .row) under), l .inv .5, l .inv .6)
 
 mul-number : tie.Need-mul-number Inv-loop μ-loop
 mul-number c = search needs
@@ -156,7 +157,7 @@ loop-again-2 : tie.Need-loop-again-2 Inv-loop μ-loop
 loop-again-2 c =
     let b = turn (c .before) in
     let l = b .loop in
-    (up (c .before .before .before .before), l .inv .1, l .inv .2, l .inv .3, l .inv .4 ∙ ap stored (gathered-skips (start b .args .weights) (most b) (small b) (rows b) (l .row) (sym (test (c .before)) ∙ not-true _ (c .if2 .taken))), l .inv .5, l .inv .6)
+    (up (c .before .before .before .before), l .inv .1, l .inv .2, l .inv .3, l .inv .4 ∙ ap stored (gathered-skips (start b .args .rule) (most b) (small b) (rows b) (l .row) (sym (test (c .before)) ∙ not-true _ (c .if2 .taken))), l .inv .5, l .inv .6)
 
 put-in-requires : tie.Need-put-in-requires Inv-loop μ-loop
 put-in-requires c κs =
@@ -183,7 +184,7 @@ loop-again-3 c =
       l .inv .1,
       l .inv .2,
       put .put-in .ensures .1,
-      gathered-places (start b .args .weights) (most b) (small b) (rows b) (l .row) (l .top) _ (l .by) _ (l .len) _ _ (l .inv .4) (put .put-in .ensures .1) (put .put-in .ensures .0) (reported (told .before .before .before)) (sym (test told) ∙ not-false _ (put .before .before .before .if2 .left)),
+      gathered-places (start b .args .rule) (most b) (small b) (rows b) (l .row) (l .found) _ (l .by) _ (l .len) _ _ (l .inv .4) (put .put-in .ensures .1) (put .put-in .ensures .0) (reported (told .before .before .before)) (sym (test told) ∙ not-false _ (put .before .before .before .if2 .left)),
       c .before .bar-in2 .ensures,
       kept w32 (c .least2 .result) (c .least2 .ok) ∙ c .least2 .ensures,
     )
@@ -197,7 +198,7 @@ returns c =
     let a = start b .args in
     let l = b .loop in
     let all : l .row ≡ min (a .rows) 1024 = omega (arith, l .inv .0, l .inv .1) in
-    l .inv .4 ∙ ap₂ (λ k n. stored (gathered (a .weights) k (rows b) n)) (l .inv .2) all
+    l .inv .4 ∙ ap₂ (λ k n. stored (top (a .rule) k (standing (rows b) n))) (l .inv .2) all
 
 pub gathered-spec : {M : Type 1} → statement M
 gathered-spec =
@@ -211,10 +212,10 @@ gathered-spec =
     least-requires
     loop-holds
     add-row
-    mul-score
-    element-copy-out-score
-    mul-score-2
-    element-copy-out-score-2
+    mul-loss
+    element-copy-out-loss
+    mul-shake
+    element-copy-out-shake
     score-requires
     loop-less
     loop-again

@@ -8,8 +8,8 @@ use lib.ListN.{take, getD}
 use mir.Facts.{toZ-ofZ}
 use mir.Syntax.{w32}
 use Rattle.ranking.specs.Standing.{Entry, above}
-use Rattle.ranking.proofs.Words.{kept}
-use Rattle.ranking.proofs.Standing.{above-strict}
+use Rattle.laws.proofs.Words.{kept}
+use Rattle.ranking.proofs.Entries.{above-strict}
 use Rattle.list.specs.Lines.{linesOf}
 use Rattle.list.proofs.Stored.{lineAt, line-at, length-front}
 use Rattle.list.proofs.Placed.{new-there, new-last}
@@ -19,20 +19,20 @@ use Rattle.list.proofs.new_in.Tie as tie
 abbrev none : Entry
 none = record { number = 0; score = pos 0 }
 
-mul-ranks-above : tie.Need-mul-ranks-above
-mul-ranks-above c = search needs
+mul-above : tie.Need-mul-above
+mul-above c = search needs
 
-element-copy-out-ranks-above : tie.Need-element-copy-out-ranks-above
-element-copy-out-ranks-above c = search needs
+element-copy-out-above : tie.Need-element-copy-out-above
+element-copy-out-above c = search needs
 
-mul-ranks-above-2 : tie.Need-mul-ranks-above-2
-mul-ranks-above-2 c = search needs
+mul-above-2 : tie.Need-mul-above-2
+mul-above-2 c = search needs
 
-element-copy-out-ranks-above-2 : tie.Need-element-copy-out-ranks-above-2
-element-copy-out-ranks-above-2 c = search needs
+element-copy-out-above-2 : tie.Need-element-copy-out-above-2
+element-copy-out-above-2 c = search needs
 
-ranks-above-requires : tie.Need-ranks-above-requires
-ranks-above-requires c κs = search needs
+above-requires : tie.Need-above-requires
+above-requires c κs = search needs
 
 returns : tie.Need-returns
 returns c =
@@ -46,11 +46,11 @@ returns c =
     let x : Entry = record { number = a .number; score = a .score } in
     let l = take (a .len) (linesOf ns ss) in
     let line = lineAt ns ss (a .at) in
-    c .ranks-above .ensures
-    ∙ ap₂ (λ s t. above (record { number = a .number; score = s }) (record { number = line .number; score = t })) (toZ-ofZ (start .fits .score)) (kept w32 (line .score) (c .before .before .ranks-above-arg .given))
+    c .above .ensures
+    ∙ ap₂ (λ s t. above (a .rule) (record { number = a .number; score = s }) (record { number = line .number; score = t })) (toZ-ofZ (start .fits .score)) (kept w32 (line .score) (c .before .above-arg2 .given))
     ∙ sym
-    (new-there above above-strict x l none (omega (arith, length-front ns ss room (a .len) few, first .if1 .taken, start .pre .2))
-    ∙ ap (above x) (ap (λ i. getD l i none) (sym (start .pre .2)) ∙ line-at ns ss room (a .len) few (a .at) (first .if1 .taken)))
+    (new-there (above (a .rule)) (above-strict (a .rule)) x l none (omega (arith, length-front ns ss room (a .len) few, first .if1 .taken, start .pre .2))
+    ∙ ap (above (a .rule) x) (ap (λ i. getD l i none) (sym (start .pre .2)) ∙ line-at ns ss room (a .len) few (a .at) (first .if1 .taken)))
 
 returns-2 : tie.Need-returns-2
 returns-2 c =
@@ -60,17 +60,17 @@ returns-2 c =
     let ss = a .scores .now in
     let room = start .pre .1 in
     sym
-    (new-last above above-strict (record { number = a .number; score = a .score }) (take (a .len) (linesOf ns ss))
+    (new-last (above (a .rule)) (above-strict (a .rule)) (record { number = a .number; score = a .score }) (take (a .len) (linesOf ns ss))
     (omega (arith, length-front ns ss room (a .len) (start .pre .0), c .if1 .left, start .pre .2)))
 
 pub new-in-spec : {M : Type 1} → statement M
 new-in-spec =
     tie.close
     (tie.spec
-    mul-ranks-above
-    element-copy-out-ranks-above
-    mul-ranks-above-2
-    element-copy-out-ranks-above-2
-    ranks-above-requires
+    mul-above
+    element-copy-out-above
+    mul-above-2
+    element-copy-out-above-2
+    above-requires
     returns
     returns-2)

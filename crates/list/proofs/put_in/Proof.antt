@@ -8,7 +8,7 @@ use borrow.Author.Needs.{needs}
 use lib.ListN.{length, take}
 use mir.Facts.{toZ-ofZ}
 use Rattle.ranking.specs.Standing.{Entry, above}
-use Rattle.ranking.proofs.Standing.{above-strict}
+use Rattle.ranking.proofs.Entries.{above-strict}
 use Rattle.list.specs.Lines.{linesOf}
 use Rattle.list.specs.Inner.{rankIn, newIn, slid, Placing}
 use Rattle.list.proofs.Stored.{length-all}
@@ -30,20 +30,20 @@ module _ (c : tie.After-rank-in) where
   long : length old ≡ 16
   long = length-all (start .args .numbers .now) (start .args .scores .now) (start .pre .2)
 
-  found : c .rank-in .result ≡ rankIn above entry (take (start .args .len) old)
+  found : c .rank-in .result ≡ rankIn (above (start .args .rule)) entry (take (start .args .len) old)
   found =
       c .rank-in .ensures
-      ∙ ap (λ s. rankIn above (record { number = start .args .number; score = s }) (take (start .args .len) old)) (toZ-ofZ (start .fits .score))
+      ∙ ap (λ s. rankIn (above (start .args .rule)) (record { number = start .args .number; score = s }) (take (start .args .len) old)) (toZ-ofZ (start .fits .score))
 
 -- and once it is known whether the entry is new
 module _ (c : tie.After-new-in) where
   abbrev ranked : tie.After-rank-in
   ranked = c .before .before .before .before
 
-  told : c .new-in .result ≡ newIn above (entry ranked) (take (start ranked .args .len) (old ranked))
+  told : c .new-in .result ≡ newIn (above (start ranked .args .rule)) (entry ranked) (take (start ranked .args .len) (old ranked))
   told =
       c .new-in .ensures
-      ∙ ap (λ s. newIn above (record { number = start ranked .args .number; score = s }) (take (start ranked .args .len) (old ranked))) (toZ-ofZ (start ranked .fits .score))
+      ∙ ap (λ s. newIn (above (start ranked .args .rule)) (record { number = start ranked .args .number; score = s }) (take (start ranked .args .len) (old ranked))) (toZ-ofZ (start ranked .fits .score))
 
 rank-in-requires : tie.Need-rank-in-requires
 rank-in-requires c κs = search needs
@@ -52,7 +52,7 @@ returns : tie.Need-returns
 returns c =
     let r = c .before in
     let a = start r .args in
-    (placing-over above above-strict (entry r) (a .len) (a .room) (old r) (long r) (start r .pre .0) (subst (λ n. a .room ≤ n) (found r) (c .if1 .taken)), start r .pre .2)
+    (placing-over (above (a .rule)) (above-strict (a .rule)) (entry r) (a .len) (a .most) (old r) (long r) (start r .pre .0) (subst (λ n. a .most ≤ n) (found r) (c .if1 .taken)), start r .pre .2)
 
 new-in-requires : tie.Need-new-in-requires
 new-in-requires c κs = search needs
@@ -65,7 +65,7 @@ returns-2 c =
     let b = c .before .before in
     let r = ranked b in
     let a = start r .args in
-    (placing-old above above-strict (entry r) (a .len) (a .room) (old r) (long r) (start r .pre .0) (sym (told b) ∙ not-true _ (c .before .if2 .taken)) (c .smaller .result) (c .smaller .ensures), start r .pre .2)
+    (placing-old (above (a .rule)) (above-strict (a .rule)) (entry r) (a .len) (a .most) (old r) (long r) (start r .pre .0) (sym (told b) ∙ not-true _ (c .before .if2 .taken)) (c .smaller .result) (c .smaller .ensures), start r .pre .2)
 
 sub-smaller : tie.Need-sub-smaller
 sub-smaller c = search needs
@@ -80,8 +80,8 @@ slide-requires c κs =
     let a = start r .args in
     let m = c .before .before in
     let under = b .before .before .before .if1 .left in (
-      at-last above above-strict (entry r) (a .len) (a .room) (old r) (long r) (start r .pre .0) (start r .pre .1) (r .rank-in .result) (found r) under (m .smaller2 .result) (m .smaller2 .ensures),
-      last-low above above-strict (entry r) (a .len) (a .room) (old r) (long r) (start r .pre .0) (start r .pre .1) (r .rank-in .result) (found r) under (m .smaller2 .result) (m .smaller2 .ensures),
+      at-last (above (a .rule)) (above-strict (a .rule)) (entry r) (a .len) (a .most) (old r) (long r) (start r .pre .0) (start r .pre .1) (r .rank-in .result) (found r) under (m .smaller2 .result) (m .smaller2 .ensures),
+      last-low (above (a .rule)) (above-strict (a .rule)) (entry r) (a .len) (a .most) (old r) (long r) (start r .pre .0) (start r .pre .1) (r .rank-in .result) (found r) under (m .smaller2 .result) (m .smaller2 .ensures),
       start r .pre .2,
     )
 
@@ -97,11 +97,11 @@ returns-3 c =
     let under = b .before .before .before .if1 .left in
     let at = r .rank-in .result in
     let last = m .smaller2 .result in
-    let order = at-last above above-strict (entry r) (a .len) (a .room) (old r) (long r) (start r .pre .0) (start r .pre .1) at (found r) under last (m .smaller2 .ensures) in
-    let low = last-low above above-strict (entry r) (a .len) (a .room) (old r) (long r) (start r .pre .0) (start r .pre .1) at (found r) under last (m .smaller2 .ensures) in
+    let order = at-last (above (a .rule)) (above-strict (a .rule)) (entry r) (a .len) (a .most) (old r) (long r) (start r .pre .0) (start r .pre .1) at (found r) under last (m .smaller2 .ensures) in
+    let low = last-low (above (a .rule)) (above-strict (a .rule)) (entry r) (a .len) (a .most) (old r) (long r) (start r .pre .0) (start r .pre .1) at (found r) under last (m .smaller2 .ensures) in
     let right = c .slide .ensures .1 ∙ ap (λ s. slid at last s (a .scores .now)) (toZ-ofZ (start r .fits .score)) in (
-      subst (λ l. Placing above (entry r) (a .len) (a .room) (old r) l (last + 1)) (sym (slid-lines (start r .pre .2) at last (a .number) (a .score) order low (c .slide .ensures .0) right))
-          (placing-new above above-strict (entry r) (a .len) (a .room) (old r) (long r) (start r .pre .0) (start r .pre .1) at (found r) under last (m .smaller2 .ensures)
+      subst (λ l. Placing (above (a .rule)) (entry r) (a .len) (a .most) (old r) l (last + 1)) (sym (slid-lines (start r .pre .2) at last (a .number) (a .score) order low (c .slide .ensures .0) right))
+          (placing-new (above (a .rule)) (above-strict (a .rule)) (entry r) (a .len) (a .most) (old r) (long r) (start r .pre .0) (start r .pre .1) at (found r) under last (m .smaller2 .ensures)
           (sym (told b) ∙ not-false _ (m .before .if2 .left))),
       slid-roomy (start r .pre .2) at last (a .number) (a .score) order low (c .slide .ensures .0) right,
     )

@@ -8,7 +8,7 @@ use lib.IntN.{pos}
 use lib.ListN.{getD, set}
 use mir.Facts.{toZ-ofZ}
 use mir.Syntax.{w32}
-use Rattle.ranking.proofs.Words.{kept}
+use Rattle.laws.proofs.Words.{kept}
 use Rattle.list.proofs.Stored.{Roomy}
 use Rattle.list.proofs.Sliding.{opened, opened-none, opened-more, closed}
 use Rattle.list.proofs.slide.Statement.{statement}

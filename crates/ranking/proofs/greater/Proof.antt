@@ -1,9 +1,9 @@
 -- Each branch is a case of the definition, of the numbers read back from their bits.
 -- Assumes nothing.
 use mathlib.Core.Path.{sym, _∙_}
-use Rattle.ranking.proofs.Whole.{ltZ-strict}
+use Rattle.laws.proofs.Whole.{ltZ-strict}
 use Rattle.ranking.proofs.Cells.{greater-by, less-by, greater-tie}
-use Rattle.ranking.proofs.Words.{less-kept}
+use Rattle.laws.proofs.Words.{less-kept}
 use Rattle.ranking.proofs.greater.Statement.{statement}
 use Rattle.ranking.proofs.greater.Tie as tie
 

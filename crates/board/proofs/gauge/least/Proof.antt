@@ -5,7 +5,7 @@ use Prim.Native.Nat.{_-_}
 use lib.IntN.{pos}
 use lib.ListN.{getD}
 use mir.Syntax.{w32}
-use Rattle.ranking.proofs.Words.{kept}
+use Rattle.laws.proofs.Words.{kept}
 use Rattle.question.proofs.Stored.{roomy}
 use Rattle.board.proofs.Gauges.{least-none, least-last}
 use borrow.Author.Needs.{needs}

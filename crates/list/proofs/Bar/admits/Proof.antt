@@ -8,7 +8,7 @@ use lib.IntN.{ℤ}
 use mir.Facts.{toZ-ofZ}
 use mir.Syntax.{w32}
 use Rattle.ranking.specs.Standing.{Entry, above}
-use Rattle.ranking.proofs.Words.{kept}
+use Rattle.laws.proofs.Words.{kept}
 use Rattle.list.proofs.Bars.{admits-none, admits-room, admits-full}
 use Rattle.list.proofs.Bar.admits.Statement.{statement}
 use Rattle.list.proofs.Bar.admits.Tie as tie
@@ -19,10 +19,10 @@ line number score = record { number = number; score = score }
 returns : tie.Need-returns
 returns c =
     let a = c .before .args in
-    sym (admits-none above (a .self) (line (a .number) (a .score)) (eq-eqb (a .number) 0 (c .if1 .taken)))
+    sym (admits-none (above (a .rule)) (a .self) (line (a .number) (a .score)) (eq-eqb (a .number) 0 (c .if1 .taken)))
 
-ranks-above-requires : tie.Need-ranks-above-requires
-ranks-above-requires c κs = search needs
+above-requires : tie.Need-above-requires
+above-requires c κs = search needs
 
 returns-2 : tie.Need-returns-2
 returns-2 c =
@@ -30,14 +30,14 @@ returns-2 c =
     let first = told .before .before in
     let start = first .before in
     let a = start .args in
-    c .ranks-above .ensures
-    ∙ ap₂ (λ s t. above (line (a .number) s) (line (a .self .number) t)) (toZ-ofZ (start .fits .score)) (kept w32 (a .self .score) (told .struct-told .given .1 .1 .0 .1))
-    ∙ sym (admits-full above (a .self) (line (a .number) (a .score)) (ne-eqb (a .number) 0 (first .if1 .left)) (told .before .if2 .taken))
+    c .above .ensures
+    ∙ ap₂ (λ s t. above (a .rule) (line (a .number) s) (line (a .self .number) t)) (toZ-ofZ (start .fits .score)) (kept w32 (a .self .score) (told .struct-told .given .1 .1 .0 .1))
+    ∙ sym (admits-full (above (a .rule)) (a .self) (line (a .number) (a .score)) (ne-eqb (a .number) 0 (first .if1 .left)) (told .before .if2 .taken))
 
 returns-3 : tie.Need-returns-3
 returns-3 c =
     let a = c .before .before .args in
-    sym (admits-room above (a .self) (line (a .number) (a .score)) (ne-eqb (a .number) 0 (c .before .if1 .left)) (c .if2 .left))
+    sym (admits-room (above (a .rule)) (a .self) (line (a .number) (a .score)) (ne-eqb (a .number) 0 (c .before .if1 .left)) (c .if2 .left))
 
 pub admits-spec : {M : Type 1} → statement M
-admits-spec = tie.close (tie.spec returns ranks-above-requires returns-2 returns-3)
+admits-spec = tie.close (tie.spec returns above-requires returns-2 returns-3)

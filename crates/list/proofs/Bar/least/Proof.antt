@@ -1,7 +1,7 @@
 -- The test is that of the definition.
 -- Assumes nothing.
 use mir.Syntax.{w32}
-use Rattle.ranking.proofs.Words.{kept}
+use Rattle.laws.proofs.Words.{kept}
 use Rattle.list.specs.Bars.{leastAt}
 use Rattle.list.proofs.Bar.least.Statement.{statement}
 use Rattle.list.proofs.Bar.least.Tie as tie

@@ -7,10 +7,10 @@ use borrow.Author.Needs.{needs}
 use lib.IntN.{pos}
 use lib.ListN.{take, getD}
 use mir.Syntax.{w32}
-use Rattle.ranking.specs.Best.{best, place}
+use Rattle.search.specs.Best.{best, place}
 use Rattle.ranking.specs.Standing.{above}
-use Rattle.ranking.proofs.Words.{kept}
-use Rattle.ranking.proofs.Standing.{above-strict}
+use Rattle.laws.proofs.Words.{kept}
+use Rattle.ranking.proofs.Entries.{above-strict}
 use Rattle.list.specs.Lines.{linesOf, linesIn, stored}
 use Rattle.list.proofs.Stored.{Roomy, roomy-known, all-lines}
 use Rattle.list.proofs.Placing.{best-none, best-more}
@@ -18,14 +18,14 @@ use Rattle.list.proofs.Lines.best.Statement.{statement}
 use Rattle.list.proofs.Lines.best.Tie as tie
 
 abbrev Inv-loop : tie.InvT-loop
-Inv-loop k n numbers scores list₀ i₀ list i =
+Inv-loop rule k n numbers scores list₀ i₀ list i =
     (i ≤ n)
     × (n ≤ 16)
     × Roomy numbers scores
-    × (list ≡ stored (best above (min k 16) (take i (take n (linesOf numbers scores)))))
+    × (list ≡ stored (best (above rule) (min k 16) (take i (take n (linesOf numbers scores)))))
 
 abbrev μ-loop : tie.MeasureT-loop
-μ-loop k n numbers scores list₀ i₀ list i = n - i
+μ-loop rule k n numbers scores list₀ i₀ list i = n - i
 
 shown-requires : tie.Need-shown-requires Inv-loop μ-loop
 shown-requires c κs = search needs
@@ -41,7 +41,7 @@ loop-holds c =
       search needs,
       search needs,
       roomy-known (l .numbers) (l .scores) (good .0 .1 .0 .1) (good .1 .0 .1 .0 .1),
-      c .none .ensures ∙ best-none above (min (start .args .k) 16),
+      c .none .ensures ∙ best-none (above (start .args .rule)) (min (start .args .k) 16),
     )
 
 mul-placed : tie.Need-mul-placed Inv-loop μ-loop
@@ -79,8 +79,8 @@ loop-again c =
       inv .1,
       inv .2,
       c .placed .ensures
-          ∙ ap (λ s. stored (take (min (a .k) 16) (place above (record { number = getD (l .numbers) i 0; score = s }) (linesIn (at .loop .list))))) back
-          ∙ best-more above above-strict (l .numbers) (l .scores) (inv .2) n (inv .1) i (search needs) (min (a .k) 16) (omega arith) (at .loop .list) (inv .3),
+          ∙ ap (λ s. stored (take (min (a .k) 16) (place (above (a .rule)) (record { number = getD (l .numbers) i 0; score = s }) (linesIn (at .loop .list))))) back
+          ∙ best-more (above (a .rule)) (above-strict (a .rule)) (l .numbers) (l .scores) (inv .2) n (inv .1) i (search needs) (min (a .k) 16) (omega arith) (at .loop .list) (inv .3),
     )
 
 returns : tie.Need-returns Inv-loop μ-loop
@@ -92,7 +92,7 @@ returns c =
     let inv = at .loop .inv in
     let all : at .loop .i ≡ n = omega arith in
     inv .3
-    ∙ ap (λ l. stored (best above (min (a .k) 16) l))
+    ∙ ap (λ l. stored (best (above (a .rule)) (min (a .k) 16) l))
     (all-lines (a .self) (inv .2) n (at .before .before .before .before .shown .ensures) (at .loop .i) all)
 
 pub best-spec : {M : Type 1} → statement M

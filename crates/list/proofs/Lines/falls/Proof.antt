@@ -12,10 +12,10 @@ use Rattle.list.proofs.Lines.falls.Statement.{statement}
 use Rattle.list.proofs.Lines.falls.Tie as tie
 
 abbrev Inv-loop : tie.InvT-loop
-Inv-loop self n i₀ i = Descent above (falls above (linesIn self)) (self .numbers) (self .scores) n i
+Inv-loop rule self n i₀ i = Descent (above rule) (falls (above rule) (linesIn self)) (self .numbers) (self .scores) n i
 
 abbrev μ-loop : tie.MeasureT-loop
-μ-loop self n i₀ i = n - i
+μ-loop rule self n i₀ i = n - i
 
 shown-requires : tie.Need-shown-requires Inv-loop μ-loop
 shown-requires c κs = search needs
@@ -29,7 +29,7 @@ loop-holds c =
       up-to = search needs;
       within = search needs;
       room = room;
-      decides = ap (falls above) (front-lines l room (c .shown .result) (c .shown .ensures));
+      decides = ap (falls (above (c .before .args .rule))) (front-lines l room (c .shown .result) (c .shown .ensures));
     }
 
 add-loop : tie.Need-add-loop Inv-loop μ-loop
@@ -38,37 +38,37 @@ add-loop c = search needs
 add-next : tie.Need-add-next Inv-loop μ-loop
 add-next c = search needs
 
-mul-ranks-above : tie.Need-mul-ranks-above Inv-loop μ-loop
-mul-ranks-above c = search needs
+mul-above : tie.Need-mul-above Inv-loop μ-loop
+mul-above c = search needs
 
-element-copy-out-ranks-above : tie.Need-element-copy-out-ranks-above Inv-loop μ-loop
-element-copy-out-ranks-above c = search needs
+element-copy-out-above : tie.Need-element-copy-out-above Inv-loop μ-loop
+element-copy-out-above c = search needs
 
-mul-ranks-above-2 : tie.Need-mul-ranks-above-2 Inv-loop μ-loop
-mul-ranks-above-2 c = search needs
+mul-above-2 : tie.Need-mul-above-2 Inv-loop μ-loop
+mul-above-2 c = search needs
 
-element-copy-out-ranks-above-2 : tie.Need-element-copy-out-ranks-above-2 Inv-loop μ-loop
-element-copy-out-ranks-above-2 c = search needs
+element-copy-out-above-2 : tie.Need-element-copy-out-above-2 Inv-loop μ-loop
+element-copy-out-above-2 c = search needs
 
-mul-ranks-above-3 : tie.Need-mul-ranks-above-3 Inv-loop μ-loop
-mul-ranks-above-3 c = search needs
+mul-above-3 : tie.Need-mul-above-3 Inv-loop μ-loop
+mul-above-3 c = search needs
 
-element-copy-out-ranks-above-3 : tie.Need-element-copy-out-ranks-above-3 Inv-loop μ-loop
-element-copy-out-ranks-above-3 c = search needs
+element-copy-out-above-3 : tie.Need-element-copy-out-above-3 Inv-loop μ-loop
+element-copy-out-above-3 c = search needs
 
-mul-ranks-above-4 : tie.Need-mul-ranks-above-4 Inv-loop μ-loop
-mul-ranks-above-4 c = search needs
+mul-above-4 : tie.Need-mul-above-4 Inv-loop μ-loop
+mul-above-4 c = search needs
 
-element-copy-out-ranks-above-4 : tie.Need-element-copy-out-ranks-above-4 Inv-loop μ-loop
-element-copy-out-ranks-above-4 c = search needs
+element-copy-out-above-4 : tie.Need-element-copy-out-above-4 Inv-loop μ-loop
+element-copy-out-above-4 c = search needs
 
-ranks-above-requires : tie.Need-ranks-above-requires Inv-loop μ-loop
-ranks-above-requires c κs = search needs
+above-requires : tie.Need-above-requires Inv-loop μ-loop
+above-requires c κs = search needs
 
 returns : tie.Need-returns Inv-loop μ-loop
 returns c =
     let turn = c .before .before .before .before .before .before in
-    descent-fails (turn .before .loop .inv) (turn .loop-test .taken) (c .before .before .before .before .before .ranks-above-arg .given) (c .before .before .before .ranks-above-arg3 .given) (c .before .ranks-above .result) (c .before .ranks-above .ensures)
+    descent-fails (turn .before .loop .inv) (turn .loop-test .taken) (c .before .before .before .before .above-arg2 .given) (c .before .before .above-arg4 .given) (c .before .above .result) (c .before .above .ensures)
     (not-true _ (c .if1 .taken))
 
 loop-less : tie.Need-loop-less Inv-loop μ-loop
@@ -77,7 +77,7 @@ loop-less c = search needs
 loop-again : tie.Need-loop-again Inv-loop μ-loop
 loop-again c =
     let turn = c .before .before .before .before .before .before in
-    descent-on (turn .before .loop .inv) (turn .loop-test .taken) (c .before .before .before .before .before .ranks-above-arg .given) (c .before .before .before .ranks-above-arg3 .given) (c .before .ranks-above .result) (c .before .ranks-above .ensures)
+    descent-on (turn .before .loop .inv) (turn .loop-test .taken) (c .before .before .before .before .above-arg2 .given) (c .before .before .above-arg4 .given) (c .before .above .result) (c .before .above .ensures)
     (not-false _ (c .if1 .left))
 
 returns-2 : tie.Need-returns-2 Inv-loop μ-loop
@@ -93,15 +93,15 @@ falls-spec =
     loop-holds
     add-loop
     add-next
-    mul-ranks-above
-    element-copy-out-ranks-above
-    mul-ranks-above-2
-    element-copy-out-ranks-above-2
-    mul-ranks-above-3
-    element-copy-out-ranks-above-3
-    mul-ranks-above-4
-    element-copy-out-ranks-above-4
-    ranks-above-requires
+    mul-above
+    element-copy-out-above
+    mul-above-2
+    element-copy-out-above-2
+    mul-above-3
+    element-copy-out-above-3
+    mul-above-4
+    element-copy-out-above-4
+    above-requires
     returns
     loop-less
     loop-again

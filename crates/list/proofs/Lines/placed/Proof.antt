@@ -6,7 +6,7 @@ use native.Mathlib.Omega.{arith}
 use borrow.Author.Needs.{needs}
 use lib.ListN.{take}
 use mir.Facts.{toZ-ofZ}
-use Rattle.ranking.specs.Best.{place}
+use Rattle.search.specs.Best.{place}
 use Rattle.ranking.specs.Standing.{above}
 use Rattle.list.specs.Lines.{linesOf, stored}
 use Rattle.list.proofs.Stored.{roomy-known, front-lines, wiped-stored}
@@ -49,9 +49,9 @@ returns c =
     let few = placing-few (put .put-in .ensures .0) (omega (arith, chosen .smaller .ensures)) in
     wiped-stored _ _ (put .put-in .ensures .1) (put .put-in .result) few (c .wipe .ensures .0) (c .wipe .ensures .1)
     ∙ ap stored (put .put-in .ensures .0 .front)
-    ∙ ap₂ (λ n s. stored (take n (place above (record { number = a .number; score = s }) (take (counted .shown .result) (linesOf (l .numbers) (l .scores))))))
+    ∙ ap₂ (λ n s. stored (take n (place (above (a .rule)) (record { number = a .number; score = s }) (take (counted .shown .result) (linesOf (l .numbers) (l .scores))))))
     (chosen .smaller .ensures) (toZ-ofZ (start .fits .score))
-    ∙ ap (λ m. stored (take (min (a .most) 16) (place above (record { number = a .number; score = a .score }) m)))
+    ∙ ap (λ m. stored (take (min (a .most) 16) (place (above (a .rule)) (record { number = a .number; score = a .score }) m)))
     (front-lines l room (counted .shown .result) (counted .shown .ensures))
 
 pub placed-spec : {M : Type 1} → statement M

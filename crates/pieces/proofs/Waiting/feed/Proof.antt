@@ -11,7 +11,7 @@ use lib.Dec.{ltb}
 use lib.ListN.{length, getD, set, take, drop, length-set, length-map}
 use lib.Seq.{length-sets}
 use Rattle.wire.specs.Bytes.{number, part}
-use Rattle.ranking.proofs.Tests.{and-both}
+use Rattle.laws.proofs.Tests.{and-both}
 use Rattle.text.specs.Text.{rLine}
 use Rattle.text.proofs.Places.{put, none, then}
 use Rattle.journal.specs.declared.Log.{Log}

@@ -4,7 +4,7 @@ use mathlib.Core.Path.{ap, _∙_}
 use borrow.Author.Needs.{needs}
 use mir.Syntax.{w32}
 use Rattle.ranking.specs.Cells.{reachOf}
-use Rattle.ranking.proofs.Words.{kept}
+use Rattle.laws.proofs.Words.{kept}
 use Rattle.list.specs.Bars.{barOf}
 use Rattle.question.proofs.Finding.{ended-full, ended-open}
 use Rattle.question.proofs.Question.ended.Statement.{statement}
@@ -30,7 +30,7 @@ returns c =
     let bar = counted .bar .ensures ∙ ap (λ l. barOf l (q .k)) (counted .before .list .ensures) in
     ap (λ b. record { steps = c .before .reach .result .cells; question = b }) (c .at .ensures)
     ∙ ended-full q (counted .bar .result) bar (told .before .if1 .taken) (c .before .reach .result)
-    (c .before .reach .ensures ∙ ap (reachOf (q .weights)) (kept w32 (counted .bar .result .score) (told .struct-told .given .1 .1 .0 .1)))
+    (c .before .reach .ensures ∙ ap (reachOf (q .rule)) (kept w32 (counted .bar .result .score) (told .struct-told .given .1 .1 .0 .1)))
 
 at-requires-2 : tie.Need-at-requires-2
 at-requires-2 c κs = search needs

@@ -4,7 +4,7 @@ use mathlib.Core.Path.{sym, ap, ap₂, _∙_}
 use borrow.Author.Needs.{needs}
 use lib.Signed.{ltZ}
 use mir.Syntax.{w32}
-use Rattle.ranking.proofs.Words.{kept}
+use Rattle.laws.proofs.Words.{kept}
 use Rattle.list.specs.declared.Bar.{Bar}
 use Rattle.list.specs.Bars as bars
 use Rattle.question.proofs.Stored.{roomy}

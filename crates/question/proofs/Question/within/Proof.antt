@@ -5,7 +5,7 @@ use Prim.Native.Nat.{min}
 use borrow.Author.Needs.{needs}
 use lib.ListN.{take}
 use mir.Facts.{toZ-ofZ}
-use Rattle.ranking.specs.Best.{place}
+use Rattle.search.specs.Best.{place}
 use Rattle.ranking.specs.Standing.{above}
 use Rattle.list.specs.Lines.{linesIn, stored}
 use Rattle.question.specs.Lines.{holding}
@@ -29,7 +29,7 @@ returns c =
     c .holding .ensures
     ∙ ap (holding (a .self))
     (placed .placed .ensures
-    ∙ ap₂ (λ s l. stored (take (min (a .most) 16) (place above (record { number = a .number; score = s }) (linesIn l)))) (toZ-ofZ (start .fits .score))
+    ∙ ap₂ (λ s l. stored (take (min (a .most) 16) (place (above (a .self .rule)) (record { number = a .number; score = s }) (linesIn l)))) (toZ-ofZ (start .fits .score))
     (placed .before .list .ensures))
 
 pub within-spec : {M : Type 1} → statement M

@@ -9,8 +9,8 @@ use lib.Dec.{leb}
 use lib.Signed.{ltZ}
 use mir.Facts.{toZ-ofZ}
 use mir.Syntax.{w32}
-use Rattle.ranking.proofs.Tests.{or-left, or-right}
-use Rattle.ranking.proofs.Words.{kept, less-kept}
+use Rattle.laws.proofs.Tests.{or-left, or-right}
+use Rattle.laws.proofs.Words.{kept, less-kept}
 use Rattle.ranking.proofs.Reaching.{met-counts, met-sooner, met-later}
 use Rattle.ranking.proofs.Sought.met.Statement.{statement}
 use Rattle.ranking.proofs.Sought.met.Tie as tie

@@ -2,7 +2,7 @@
 -- Assumes nothing.
 use mathlib.Core.Path.{_∙_}
 use mir.Syntax.{w32}
-use Rattle.ranking.proofs.Words.{kept}
+use Rattle.laws.proofs.Words.{kept}
 use borrow.Author.Needs.{needs}
 use Rattle.board.proofs.gauge.Gauge.of.Statement.{statement}
 use Rattle.board.proofs.gauge.Gauge.of.Tie as tie

@@ -7,7 +7,7 @@ use lib.Signed.{leZ}
 use mir.Syntax.{w32}
 use mir.Val.{toZ, ofZ}
 use Rattle.ranking.specs.Cells.{score}
-use Rattle.ranking.proofs.Words.{kept}
+use Rattle.laws.proofs.Words.{kept}
 use borrow.Author.Needs.{needs}
 use Rattle.board.specs.Gauges.{isQuiet}
 use Rattle.board.proofs.gauge.Gauge.quiet.Statement.{statement}

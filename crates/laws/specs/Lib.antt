@@ -1,0 +1,3 @@
+-- Words on lists and numbers that definitions use.
+pub mod Lists
+pub mod Whole

@@ -1,0 +1,1 @@
+// General laws that every crate cites: of tests, lists, orders, signed numbers, and of contracts that are equations. There is no code here.

@@ -1,0 +1,24 @@
+-- The best k of some things, over any carrier and any test `above x y`: "x ranks above y".
+use mathlib.Core.Bool.{Bool, true, false}
+use mathlib.Core.List.{List, [], _∷_}
+use Prim.Native.Nat.{ℕ}
+use lib.ListN.{take}
+
+module _ {E : Type 0} (above : E → E → Bool) where
+  -- x put in its rank into a ranked list, and not put where it already stands: "each once"
+  abbrev pub place : E → List E → List E
+  place x [] = x ∷ []
+  place x (y ∷ ys) =
+      elim (above x y) [
+        | true ↦ x ∷ y ∷ ys
+        | false ↦ elim (above y x) [ true ↦ y ∷ place x ys | false ↦ y ∷ ys ]
+      ]
+
+  -- the ranking: each once, highest first
+  abbrev pub rank : List E → List E
+  rank [] = []
+  rank (x ∷ xs) = place x (rank xs)
+
+  -- "The list is the first min(k, reports held) in that ranking"
+  abbrev pub best : ℕ → List E → List E
+  best k xs = take k (rank xs)
