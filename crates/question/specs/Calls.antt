@@ -1,64 +1,41 @@
 -- Which questions are fit, and what a step and a beginning answer (document 01, "Refusal numbers").
 use Prim.Native.Nat.{ℕ, _+_, min}
-use mathlib.Core.Bool.{Bool, true, not, cond, _&&_, _||_}
-use mathlib.Core.List.{List, [], _∷_}
+use mathlib.Core.Bool.{Bool, cond, _&&_}
 use lib.ListN.{drop}
-use lib.Dec.{leb, ltb, eqb}
-use lib.IntN.{ℤ, pos}
-use lib.Signed.{ltZ}
-use Rattle.ranking.specs.declared.Weights.{Weights}
-use Rattle.ranking.specs.Cells.{inRange, score}
+use lib.Dec.{leb, ltb}
+unfoldable pub use Rattle.laws.specs.Whole.{equal}
+use Rattle.ranking.specs.declared.Rule.{Rule}
+use Rattle.ranking.specs.Cells.{cellCount, fitRule}
 use Rattle.ranking.specs.Standing.{Entry, above, entry}
+use Rattle.window.specs.declared.Counts.{Counts}
 use Rattle.window.specs.declared.Window.{Window}
 use Rattle.window.specs.Rows.{sized, rowOf, reportIn, heldReports, fitWindow}
-use Rattle.question.specs.Lines.{linesOf, lines, finished, begun, stepped}
+pub use Rattle.list.specs.Lines.{allOf, blank}
+use Rattle.list.specs.Lines.{room, linesOf, falls}
+use Rattle.question.specs.Lines.{lines, finished, begun, stepped}
 use Rattle.question.specs.declared.Question.{Question}
 use Rattle.question.specs.declared.Stepped.{Stepped}
 
--- Each passes the test.
-abbrev pub allOf : {A : Type 0} → (A → Bool) → List A → Bool
-allOf p [] = true
-allOf p (x ∷ xs) = p x && allOf p xs
-
--- Neither is less than the other.
-unfoldable pub equal : ℤ → ℤ → Bool
-equal a b = not (ltZ a b || ltZ b a)
-
--- The window holds the report of number m: "reports are numbered 1, 2, 3", and the held ones are the latest.
-unfoldable pub holdsNumber : (size entered held m : ℕ) → Bool
-holdsNumber size entered held m = sized size && leb 1 m && leb m entered && ltb entered (m + held)
+-- A window of these counts holds the report of number m: "reports are numbered 1, 2, 3", and the held ones are the latest.
+unfoldable pub holdsNumber : Counts → ℕ → Bool
+holdsNumber c m = sized (c .size) && leb 1 m && leb m (c .entered) && ltb (c .entered) (m + c .held)
 
 -- A line names a report that is held, with its score, as its row has it.
-unfoldable pub heldAs : Window → Weights → Entry → Bool
-heldAs w weights e =
-    holdsNumber (w .size) (w .entered) (w .held) (e .number)
-    && equal (e .score) (entry weights (reportIn w (rowOf (w .size) (e .number))) .score)
-
--- "strictly falling in rank"
-abbrev pub falls : List Entry → Bool
-falls [] = true
-falls (x ∷ []) = true
-falls (x ∷ y ∷ l) = above x y && falls (y ∷ l)
-
--- An unused place is 0.
-abbrev pub blank : Entry → Bool
-blank e = eqb (e .number) 0 && equal (e .score) (pos 0)
+unfoldable pub heldAs : Window → Rule → Entry → Bool
+heldAs w rule e =
+    holdsNumber (w .counts) (e .number) && equal (e .score) (entry rule (reportIn w (rowOf (w .counts .size) (e .number))) .score)
 
 -- "any stored number is outside its range", "a list is longer than min(k, held)"
 unfoldable pub rangesFit : Question → ℕ → Bool
 rangesFit q held =
-    leb 1 (q .k)
-    && leb (q .k) 16
-    && (inRange (q .weights .loss) && inRange (q .weights .shake))
-    && leb (q .next) 256
-    && leb (q .len) (min (q .k) held)
+    leb 1 (q .k) && leb (q .k) room && fitRule (q .rule) && leb (q .next) cellCount && leb (q .len) (min (q .k) held)
 
 -- "names a report not held or with another score, or isn't strictly falling in rank"; places past the list's end are 0.
 unfoldable pub fitQuestion : Window → Question → Bool
 fitQuestion w q =
-    rangesFit q (w .held)
-    && allOf (heldAs w (q .weights)) (lines q)
-    && falls (lines q)
+    rangesFit q (w .counts .held)
+    && allOf (heldAs w (q .rule)) (lines q)
+    && falls (above (q .rule)) (lines q)
     && allOf blank (drop (q .len) (linesOf (q .numbers) (q .scores)))
 
 -- "A step 24, 25"; a refusal hands the question back.
