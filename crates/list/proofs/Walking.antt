@@ -5,14 +5,17 @@ use mathlib.Core.Bool.{Bool, true, false, _&&_}
 use mathlib.Core.List.{List, [], _∷_}
 use Prim.Native.Nat.{ℕ, suc, _+_, _≤_, _<_}
 use native.Mathlib.Omega.{arith}
+use borrow.Author.Tests.{eq-eqb, ne-eqb}
+use lib.Dec.{eqb, lit<}
 use lib.IntN.{ℤ, pos}
 use lib.ListN.{length, take, drop, getD, length-drop}
 use lib.Signed.{mag}
 use mir.Syntax.{w32}
 use mir.Val.{toZ, ofZ}
-use Rattle.laws.proofs.Words.{kept}
+use Rattle.laws.specs.Whole.{equal}
+use Rattle.laws.proofs.Words.{kept, same-bits}
 use Rattle.ranking.specs.Standing.{Entry}
-use Rattle.list.specs.Lines.{linesOf, allOf, falls}
+use Rattle.list.specs.Lines.{linesOf, allOf, falls, blank}
 use Rattle.list.proofs.Stored.{Roomy, lineAt, drop-line, none-left, length-front}
 
 -- a walk over the first n lines has come to the line i: what is left to test decides the whole
@@ -26,6 +29,10 @@ pub record Walk (p : Entry → Bool) (whole : Bool) (ns : List ℕ) (ss : List �
 abbrev pub readLine : List ℕ → List ℤ → ℕ → Entry
 readLine ns ss i = record { number = getD ns i 0; score = toZ w32 (ofZ w32 (getD ss i (pos 0))) }
 
+pub as-read : (p : Entry → Bool) (ns : List ℕ) (ss : List ℤ) (i : ℕ) → mag (getD ss i (pos 0)) < 2147483648 → {t : Bool} → t ≡ p (readLine ns ss i) → p (lineAt ns ss i) ≡ t
+as-read p ns ss i fits is =
+    ap (λ s. p (record { number = getD ns i 0; score = s })) (sym (kept w32 (getD ss i (pos 0)) fits)) ∙ sym is
+
 module _ {p : Entry → Bool} {whole : Bool} {ns : List ℕ} {ss : List ℤ} {n i : ℕ} (w : Walk p whole ns ss n i) where
   -- past the last line
   pub walk-ends : n ≤ i → true ≡ whole
@@ -33,10 +40,7 @@ module _ {p : Entry → Bool} {whole : Bool} {ns : List ℕ} {ss : List ℤ} {n 
       let all : i ≡ n = omega (arith, w .up-to) in
       sym (ap (allOf p) (none-left ns ss (w .room) n (w .within) i all)) ∙ w .decides
 
-  module _ (h : i < n) (fits : mag (getD ss i (pos 0)) < 2147483648) (t : Bool) (is : t ≡ p (readLine ns ss i)) where
-    here : p (lineAt ns ss i) ≡ t
-    here = ap (λ s. p (record { number = getD ns i 0; score = s })) (sym (kept w32 (getD ss i (pos 0)) fits)) ∙ sym is
-
+  module _ (h : i < n) {t : Bool} (here : p (lineAt ns ss i) ≡ t) where
     next : allOf p (drop i (take n (linesOf ns ss))) ≡ t && allOf p (drop (i + 1) (take n (linesOf ns ss)))
     next = ap (allOf p) (drop-line ns ss (w .room) n (w .within) i h) ∙ ap (λ b. b && allOf p (drop (i + 1) (take n (linesOf ns ss)))) here
 
@@ -53,6 +57,16 @@ module _ {p : Entry → Bool} {whole : Bool} {ns : List ℕ} {ss : List ℤ} {n 
           room = w .room;
           decides = sym (next ∙ ap (λ b. b && allOf p (drop (i + 1) (take n (linesOf ns ss)))) e) ∙ w .decides;
         }
+
+-- which places are 0: the number's test, and the score's by its bits
+pub blank-number : (e : Entry) → (e .number ≡ 0 → ⊥) → blank e ≡ false
+blank-number e h = ap (λ b. b && equal (e .score) (pos 0)) (ne-eqb (e .number) 0 h)
+
+pub blank-score : (e : Entry) → e .number ≡ 0 → mag (e .score) < 2147483648 → {t : Bool} → eqb (ofZ w32 (e .score)) 0 ≡ t → blank e ≡ t
+blank-score e h fits is =
+    ap (λ b. b && equal (e .score) (pos 0)) (eq-eqb (e .number) 0 h)
+    ∙ sym (same-bits w32 (e .score) (pos 0) (record { sfits = fits }) (record { sfits = lit< tt }))
+    ∙ is
 
 -- a list of one has nothing to fall
 pub falls-short : (above : Entry → Entry → Bool) (l : List Entry) → length l ≤ 1 → falls above l ≡ true

@@ -131,7 +131,10 @@ impl Lines {
     {
         let mut i = self.shown();
         while i < Lines::ROOM {
-            if !is_blank(self.numbers[i], self.scores[i]) {
+            if self.numbers[i] != 0 {
+                return false;
+            }
+            if self.scores[i] != 0 {
                 return false;
             }
             i += 1;
@@ -368,14 +371,4 @@ fn slide<'a>(
     }
     numbers[at] = number;
     scores[at] = score;
-}
-
-// An unused place is 0.
-fn is_blank(number: u32, score: i32) -> bool
-    ensures { λ r. ⌜ r ≡ blank (record { number = number; score = score }) ⌝ }
-{
-    if number != 0 {
-        return false;
-    }
-    score == 0
 }

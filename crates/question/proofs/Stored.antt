@@ -11,7 +11,8 @@ use Rattle.ranking.specs.Standing.{Entry}
 use Rattle.ranking.specs.declared.Rule.{Rule}
 use Rattle.list.specs.Lines.{linesOf}
 use Rattle.list.proofs.Stored as list
-pub use Rattle.list.proofs.Stored.{Roomy, lineAt, take-line, take-min}
+use Rattle.list.proofs.Stored.{lineAt}
+pub use Rattle.list.proofs.Stored.{Roomy}
 use Rattle.question.specs.declared.Question.{Question}
 use Rattle.question.specs.Lines.{listOf, lines, asked}
 use Rattle.question.specs.Inner.{shown}

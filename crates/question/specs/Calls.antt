@@ -3,15 +3,15 @@ use Prim.Native.Nat.{ℕ, _+_, min}
 use mathlib.Core.Bool.{Bool, cond, _&&_}
 use lib.ListN.{drop}
 use lib.Dec.{leb, ltb}
-unfoldable pub use Rattle.laws.specs.Whole.{equal}
+use Rattle.laws.specs.Whole.{equal}
 use Rattle.ranking.specs.declared.Rule.{Rule}
 use Rattle.ranking.specs.Cells.{cellCount, fitRule}
 use Rattle.ranking.specs.Standing.{Entry, above, entry}
 use Rattle.window.specs.declared.Counts.{Counts}
 use Rattle.window.specs.declared.Window.{Window}
 use Rattle.window.specs.Rows.{sized, rowOf, reportIn, heldReports, fitWindow}
-pub use Rattle.list.specs.Lines.{allOf, blank}
-use Rattle.list.specs.Lines.{room, linesOf, falls}
+pub use Rattle.list.specs.Lines.{allOf}
+use Rattle.list.specs.Lines.{room, linesOf, falls, blank}
 use Rattle.question.specs.Lines.{lines, finished, begun, stepped}
 use Rattle.question.specs.declared.Question.{Question}
 use Rattle.question.specs.declared.Stepped.{Stepped}

@@ -343,13 +343,13 @@ impl Question {
     pub fn begin(self, window: Window) -> Stepped
         ensures { λ r. ⌜ r ≡ beginCall window self ⌝ }
     {
-        if self.refusal(window) != Question::FINISHED {
-            return self.refused(Question::UNFIT);
+        if self.refusal(window) == Question::FINISHED {
+            return Stepped {
+                refusal: 0,
+                question: self.begun(),
+            };
         }
-        Stepped {
-            refusal: 0,
-            question: self.begun(),
-        }
+        self.refused(Question::UNFIT)
     }
 
     // What a step is refused with; 0, where it goes on.

@@ -1,13 +1,13 @@
 -- The invariant: what is left to test decides the whole.
 -- Assumes nothing.
-use mathlib.Core.Path.{ap}
+use mathlib.Core.Path.{refl, ap}
 use Prim.Native.Nat.{_-_}
-use borrow.Author.Tests.{not-true, not-false}
+use borrow.Author.Tests.{eq-eqb, ne-eqb}
 use borrow.Author.Needs.{needs}
 use lib.ListN.{drop}
 use Rattle.list.specs.Lines.{linesOf, allOf, blank}
-use Rattle.list.proofs.Stored.{roomy-known, drop-shown}
-use Rattle.list.proofs.Walking.{Walk, walk-on, walk-fails, walk-ends}
+use Rattle.list.proofs.Stored.{lineAt, roomy-known, drop-shown}
+use Rattle.list.proofs.Walking.{Walk, walk-on, walk-fails, walk-ends, blank-number, blank-score}
 use Rattle.list.proofs.Lines.rest_blank.Statement.{statement}
 use Rattle.list.proofs.Lines.rest_blank.Tie as tie
 
@@ -34,26 +34,32 @@ loop-holds c =
       decides = ap (allOf blank) (drop-shown (l .numbers) (l .scores) room (l .len) (c .shown .result) (c .shown .ensures));
     }
 
-mul-is-blank : tie.Need-mul-is-blank Inv-loop μ-loop
-mul-is-blank c = search needs
+mul-if1 : tie.Need-mul-if1 Inv-loop μ-loop
+mul-if1 c = search needs
 
-element-copy-out-is-blank : tie.Need-element-copy-out-is-blank Inv-loop μ-loop
-element-copy-out-is-blank c = search needs
-
-mul-is-blank-2 : tie.Need-mul-is-blank-2 Inv-loop μ-loop
-mul-is-blank-2 c = search needs
-
-element-copy-out-is-blank-2 : tie.Need-element-copy-out-is-blank-2 Inv-loop μ-loop
-element-copy-out-is-blank-2 c = search needs
-
-is-blank-requires : tie.Need-is-blank-requires Inv-loop μ-loop
-is-blank-requires c κs = search needs
+element-copy-out-if1 : tie.Need-element-copy-out-if1 Inv-loop μ-loop
+element-copy-out-if1 c = search needs
 
 returns : tie.Need-returns Inv-loop μ-loop
 returns c =
-    let turn = c .before .before .before .before in
-    walk-fails (turn .before .loop .inv) (turn .loop-test .taken) (c .before .before .is-blank-arg2 .given) (c .before .is-blank .result) (c .before .is-blank .ensures)
-    (not-true _ (c .if1 .taken))
+    let turn = c .before .before in
+    let l = turn .before .before .before .args .t1 in
+    walk-fails (turn .before .loop .inv) (turn .loop-test .taken) (blank-number (lineAt (l .numbers) (l .scores) (turn .before .loop .i)) (c .if1 .taken)) refl
+
+mul-if2 : tie.Need-mul-if2 Inv-loop μ-loop
+mul-if2 c = search needs
+
+element-copy-out-if2 : tie.Need-element-copy-out-if2 Inv-loop μ-loop
+element-copy-out-if2 c = search needs
+
+returns-2 : tie.Need-returns-2 Inv-loop μ-loop
+returns-2 c =
+    let none = c .before .before in
+    let turn = none .before .before in
+    let l = turn .before .before .before .args .t1 in
+    walk-fails (turn .before .loop .inv) (turn .loop-test .taken)
+    (blank-score (lineAt (l .numbers) (l .scores) (turn .before .loop .i)) (none .if1 .left) (c .before .if22 .given) (ne-eqb _ 0 (c .if2 .taken)))
+    refl
 
 add-i : tie.Need-add-i Inv-loop μ-loop
 add-i c = search needs
@@ -63,12 +69,15 @@ loop-less c = search needs
 
 loop-again : tie.Need-loop-again Inv-loop μ-loop
 loop-again c =
-    let turn = c .before .before .before .before in
-    walk-on (turn .before .loop .inv) (turn .loop-test .taken) (c .before .before .is-blank-arg2 .given) (c .before .is-blank .result) (c .before .is-blank .ensures)
-    (not-false _ (c .if1 .left))
+    let none = c .before .before in
+    let turn = none .before .before in
+    let l = turn .before .before .before .args .t1 in
+    walk-on (turn .before .loop .inv) (turn .loop-test .taken)
+    (blank-score (lineAt (l .numbers) (l .scores) (turn .before .loop .i)) (none .if1 .left) (c .before .if22 .given) (eq-eqb _ 0 (c .if2 .left)))
+    refl
 
-returns-2 : tie.Need-returns-2 Inv-loop μ-loop
-returns-2 c = walk-ends (c .before .loop .inv) (c .loop-test .left)
+returns-3 : tie.Need-returns-3 Inv-loop μ-loop
+returns-3 c = walk-ends (c .before .loop .inv) (c .loop-test .left)
 
 pub rest-blank-spec : {M : Type 1} → statement M
 rest-blank-spec =
@@ -78,13 +87,13 @@ rest-blank-spec =
     μ-loop
     shown-requires
     loop-holds
-    mul-is-blank
-    element-copy-out-is-blank
-    mul-is-blank-2
-    element-copy-out-is-blank-2
-    is-blank-requires
+    mul-if1
+    element-copy-out-if1
     returns
+    mul-if2
+    element-copy-out-if2
+    returns-2
     add-i
     loop-less
     loop-again
-    returns-2)
+    returns-3)

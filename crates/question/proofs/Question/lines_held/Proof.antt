@@ -6,7 +6,7 @@ use borrow.Author.Tests.{not-true, not-false}
 use borrow.Author.Needs.{needs}
 use Rattle.list.specs.declared.Lines.{Lines}
 use Rattle.list.specs.Lines.{allOf}
-use Rattle.list.proofs.Walking.{Walk, walk-on, walk-fails, walk-ends}
+use Rattle.list.proofs.Walking.{Walk, as-read, walk-on, walk-fails, walk-ends}
 use Rattle.question.specs.Lines.{lines}
 use Rattle.question.specs.Calls.{heldAs}
 use Rattle.question.proofs.Stored.{roomy, shown-lines}
@@ -57,7 +57,9 @@ held-as-requires c κs = search needs
 returns : tie.Need-returns Inv-loop μ-loop
 returns c =
     let turn = c .before .before .before .before .before in
-    walk-fails (turn .before .loop .inv) (turn .loop-test .taken) (c .before .before .held-as-arg3 .given) (c .before .held-as .result) (c .before .held-as .ensures)
+    let q = turn .before .before .before .before .args .t1 in
+    walk-fails (turn .before .loop .inv) (turn .loop-test .taken)
+    (as-read (heldAs (turn .before .before .before .before .args .window) (q .rule)) (q .numbers) (q .scores) (turn .before .loop .i) (c .before .before .held-as-arg3 .given) (c .before .held-as .ensures))
     (not-true _ (c .if1 .taken))
 
 add-i : tie.Need-add-i Inv-loop μ-loop
@@ -69,7 +71,9 @@ loop-less c = search needs
 loop-again : tie.Need-loop-again Inv-loop μ-loop
 loop-again c =
     let turn = c .before .before .before .before .before in
-    walk-on (turn .before .loop .inv) (turn .loop-test .taken) (c .before .before .held-as-arg3 .given) (c .before .held-as .result) (c .before .held-as .ensures)
+    let q = turn .before .before .before .before .args .t1 in
+    walk-on (turn .before .loop .inv) (turn .loop-test .taken)
+    (as-read (heldAs (turn .before .before .before .before .args .window) (q .rule)) (q .numbers) (q .scores) (turn .before .loop .i) (c .before .before .held-as-arg3 .given) (c .before .held-as .ensures))
     (not-false _ (c .if1 .left))
 
 returns-2 : tie.Need-returns-2 Inv-loop μ-loop
