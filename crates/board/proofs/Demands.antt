@@ -10,28 +10,28 @@ use native.Mathlib.Omega.{arith}
 use lib.ListN.{length, getD}
 use lib.Seq.{getD-set-same}
 use Rattle.laws.specs.Lists.{_∈_}
-use Rattle.search.specs.Best.{best}
-use Rattle.ranking.specs.Standing.{Held, Entry, above, entry}
-use Rattle.ranking.specs.declared.Weights.{Weights}
-use Rattle.laws.proofs.Tests.{clash, and-both, and-true, or-right}
+use Rattle.ranking.specs.Standing.{Held, Entry, above, entries, top}
+use Rattle.values.specs.declared.Values.{Values}
+use Rattle.ranking.specs.declared.Rule.{Rule}
+use Rattle.laws.proofs.Tests.{clash, and-both, and-true, or-right, if-so}
 use Rattle.laws.proofs.Lists.{index-of, getD-in}
 use Rattle.search.proofs.Best.{length-best-le}
-use Rattle.ranking.proofs.Standing.{above-strict}
+use Rattle.ranking.proofs.Entries.{above-strict}
 use Rattle.window.specs.declared.Window.{Window}
 use Rattle.window.specs.Rows.{heldReports, fitWindow, added}
-use Rattle.window.specs.History.{Values, numbered, latest}
+use Rattle.window.specs.History.{numbered, latest}
 use Rattle.question.specs.declared.Question.{Question}
 use Rattle.question.specs.Lines.{lines, emptySlot, finished, inRows}
-use Rattle.question.specs.Calls.{allOf, fitQuestion}
+use Rattle.list.specs.Lines.{allOf}
+use Rattle.question.specs.Calls.{fitQuestion}
 use Rattle.question.proofs.Stored.{lines-asked}
-use Rattle.laws.proofs.Tests.{if-so}
 use Rattle.question.proofs.Listed.{all-in, all-is}
 use Rattle.slot.specs.declared.Turned.{Turned}
 use Rattle.slot.specs.Asking.{setIn, emptied}
 use Rattle.slot.specs.Turn.{listed, lists}
 use Rattle.slot.specs.Fitness.{isEmpty, slotFit}
 use Rattle.slot.specs.Gauges.{noQuestion}
-use Rattle.slot.proofs.Standing.{top, Stands, Slot, stands, searches, stands-fit, searches-fit, searches-on, empty-is, empty-waits, not-searching}
+use Rattle.slot.proofs.Standing.{Stands, Slot, stands, searches, stands-fit, searches-fit, searches-on, empty-is, empty-waits, not-searching}
 use Rattle.slot.proofs.Standing as state
 use Rattle.slot.proofs.Setting.{emptied-fresh}
 use Rattle.slot.proofs.Turns.{lists-when, turn-when, empty-stays}
@@ -97,15 +97,15 @@ module _ {n : ℕ} {past : List Values} {b : Board} (reached : Reached n past b)
 
   -- Every question whose search is finished has as its list the first min(k, held) of the held reports in the ranking.
   pub demand-2 : (slot : ℕ) → slot < 32 → finished (slotAt b slot) ≡ true
-      → lines (slotAt b slot) ≡ best above (slotAt b slot .k) (map (entry (slotAt b slot .weights)) (heldReports (b .window)))
+      → lines (slotAt b slot) ≡ top (slotAt b slot .rule) (slotAt b slot .k) (heldReports (b .window))
   demand-2 slot h f = go (slotAt b slot) f (slot-of b k slot h)
     where
-      go : (q : Question) → finished q ≡ true → Slot (b .window) q → lines q ≡ best above (q .k) (map (entry (q .weights)) (heldReports (b .window)))
+      go : (q : Question) → finished q ≡ true → Slot (b .window) q → lines q ≡ top (q .rule) (q .k) (heldReports (b .window))
       go q f (state.empty e) = clash f (ap finished e ∙ empty-waits)
       go q f (searches s) = clash f (searches-on (b .window) reached-window q s)
       go q f (stands s) =
-          subst (λ p. lines p ≡ best above (p .k) (map (entry (p .weights)) (heldReports (b .window)))) (sym (s .is))
-          (lines-asked (s .k) (s .ws) (top (s .k) (s .ws) (heldReports (b .window))) (s .next) (omega (arith, s .asks .small, length-best-le above above-strict (s .k) (map (entry (s .ws)) (heldReports (b .window))))))
+          subst (λ p. lines p ≡ top (p .rule) (p .k) (heldReports (b .window))) (sym (s .is))
+          (lines-asked (s .k) (s .rule) (top (s .rule) (s .k) (heldReports (b .window))) (s .next) (omega (arith, s .asks .small, length-best-le (above (s .rule)) (above-strict (s .rule)) (s .k) (entries (s .rule) (heldReports (b .window))))))
 
 -- ---- demand 3
 
@@ -115,15 +115,15 @@ module _ {n : ℕ} {past : List Values} {b : Board} (reached : Reached n past b)
   many = kept reached .many
 
   -- Setting: the question is searched over the held reports, and the steps are answered.
-  pub set-exact : (slot k : ℕ) (weights : Weights) → setCall b slot k weights .refusal ≡ 0
-      → Exactly (b .window) k weights (setCall b slot k weights .steps) (slotAt (setCall b slot k weights .board) slot)
-  set-exact slot k weights t =
-      let known = set-known b fit slot k weights in
-      let may = settable b slot k weights (sym (ap (λ (r : Placed). r .refusal) known) ∙ t) in
-      let seated = setIn (slotAt b slot) k weights (inRows (b .window)) in
-      subst (λ (r : Placed). Exactly (b .window) k weights (r .steps) (slotAt (r .board) slot)) (sym (known ∙ set-there b slot k weights (may .there)))
-      (subst (Exactly (b .window) k weights (seated .steps)) (sym (getD-set-same (b .slots) slot (seated .question) noQuestion (omega (arith, many, may .there))))
-      (one.set-exact (b .window) (reached-window reached) (slotAt b slot) k weights (may .taken)))
+  pub set-exact : (slot k : ℕ) (rule : Rule) → setCall b slot k rule .refusal ≡ 0
+      → Exactly (b .window) k rule (setCall b slot k rule .steps) (slotAt (setCall b slot k rule .board) slot)
+  set-exact slot k rule t =
+      let known = set-known b fit slot k rule in
+      let may = settable b slot k rule (sym (ap (λ (r : Placed). r .refusal) known) ∙ t) in
+      let seated = setIn (slotAt b slot) k rule (inRows (b .window)) in
+      subst (λ (r : Placed). Exactly (b .window) k rule (r .steps) (slotAt (r .board) slot)) (sym (known ∙ set-there b slot k rule (may .there)))
+      (subst (Exactly (b .window) k rule (seated .steps)) (sym (getD-set-same (b .slots) slot (seated .question) noQuestion (omega (arith, many, may .there))))
+      (one.set-exact (b .window) (reached-window reached) (slotAt b slot) k rule (may .taken)))
 
   -- "A removed slot equals a fresh one."
   pub remove-fresh : (slot : ℕ) → removeCall b slot .refusal ≡ 0 → slotAt (removeCall b slot .board) slot ≡ emptySlot
@@ -141,29 +141,29 @@ getD-at f [] i d e h = absurd (omega arith)
 getD-at f (x ∷ l) zero d e h = refl
 getD-at f (x ∷ l) (suc i) d e h = getD-at f l i d e (omega arith)
 
-module _ {n : ℕ} {past : List Values} {b : Board} (reached : Reached n past b) (fit : fitBoard b ≡ true) (loss shake : ℕ) (taken : enterRefusal (b .window .entered) loss shake ≡ 0) (slot : ℕ) (there-is : slot < 32) where
+module _ {n : ℕ} {past : List Values} {b : Board} (reached : Reached n past b) (fit : fitBoard b ≡ true) (v : Values) (taken : enterRefusal (b .window .counts) v ≡ 0) (slot : ℕ) (there-is : slot < 32) where
   -- What the call answers of a slot: its turn.
   pub record Answers (r : Entered) : Type 0 where
-    pub set-of-searched : getD (r .searched) slot false ≡ turned (b .window) loss shake (slotAt b slot) .searched
-    pub steps-of : getD (r .steps) slot 0 ≡ turned (b .window) loss shake (slotAt b slot) .steps
-    pub left-as : slotAt (r .board) slot ≡ turned (b .window) loss shake (slotAt b slot) .question
+    pub set-of-searched : getD (r .searched) slot false ≡ turned (b .window) v (slotAt b slot) .searched
+    pub steps-of : getD (r .steps) slot 0 ≡ turned (b .window) v (slotAt b slot) .steps
+    pub left-as : slotAt (r .board) slot ≡ turned (b .window) v (slotAt b slot) .question
 
-  pub enter-answers : Answers (enterCall b loss shake)
+  pub enter-answers : Answers (enterCall b v)
   unfolding enterCall enterWork
   enter-answers =
       let inside : slot < length (b .slots) = omega (arith, kept reached .many) in
       subst Answers (sym (if-so _ _ fit ∙ zero-is _ _ taken))
       (record {
-        set-of-searched = getD-at (λ q. turned (b .window) loss shake q .searched) (b .slots) slot noQuestion false inside;
-        steps-of = getD-at (λ q. turned (b .window) loss shake q .steps) (b .slots) slot noQuestion 0 inside;
-        left-as = getD-at (λ q. turned (b .window) loss shake q .question) (b .slots) slot noQuestion noQuestion inside;
+        set-of-searched = getD-at (λ q. turned (b .window) v q .searched) (b .slots) slot noQuestion false inside;
+        steps-of = getD-at (λ q. turned (b .window) v q .steps) (b .slots) slot noQuestion 0 inside;
+        left-as = getD-at (λ q. turned (b .window) v q .question) (b .slots) slot noQuestion noQuestion inside;
       })
 
   abbrev new : Held
-  new = newReport (b .window) loss shake
+  new = newReport (b .window) v
 
   -- What stands in the slot: nothing that is searched, or a question with its true list.
-  slot-now : (turned (b .window) loss shake (slotAt b slot) .searched ≡ true → ⊥) ⊎ Stands (heldReports (b .window)) (slotAt b slot)
+  slot-now : (turned (b .window) v (slotAt b slot) .searched ≡ true → ⊥) ⊎ Stands (heldReports (b .window)) (slotAt b slot)
   unfolding fitBoard
   slot-now = go (slot-of b (kept reached) slot there-is)
     where
@@ -172,39 +172,39 @@ module _ {n : ℕ} {past : List Values} {b : Board} (reached : Reached n past b)
           all-in (slotFit (b .window)) (b .slots) (and-both (fitWindow (b .window)) (allOf (slotFit (b .window)) (b .slots)) fit .1) (slotAt b slot)
           (getD-in noQuestion (b .slots) slot (omega (arith, kept reached .many)))
 
-      go : Slot (b .window) (slotAt b slot) → (turned (b .window) loss shake (slotAt b slot) .searched ≡ true → ⊥) ⊎ Stands (heldReports (b .window)) (slotAt b slot)
+      go : Slot (b .window) (slotAt b slot) → (turned (b .window) v (slotAt b slot) .searched ≡ true → ⊥) ⊎ Stands (heldReports (b .window)) (slotAt b slot)
       go (state.empty e) =
-          inl (λ t. clash t (ap (λ q. turned (b .window) loss shake q .searched) e ∙ ap (λ (r : Turned). r .searched) (empty-stays new (outgoing (b .window)) (inRows (added (b .window) loss shake)))))
+          inl (λ t. clash t (ap (λ q. turned (b .window) v q .searched) e ∙ ap (λ (r : Turned). r .searched) (empty-stays new (outgoing (b .window)) (inRows (added (b .window) v)))))
       go (stands s) = inr s
       go (searches s) = absurd (not-searching (b .window) (reached-window reached) (slotAt b slot) fits s)
 
   -- Searched exactly when the report that leaves is on its list after the addition.
-  pub enter-searches : getD (enterCall b loss shake .searched) slot false ≡ true ↔ ((outgoing (b .window) ≡ 0 → ⊥) × ((e : Entry) × (e ∈ lines (listed (slotAt b slot) new)) × (e .number ≡ outgoing (b .window))))
+  pub enter-searches : getD (enterCall b v .searched) slot false ≡ true ↔ ((outgoing (b .window) ≡ 0 → ⊥) × ((e : Entry) × (e ∈ lines (listed (slotAt b slot) new)) × (e .number ≡ outgoing (b .window))))
   enter-searches = (to, from)
     where
-      is : getD (enterCall b loss shake .searched) slot false ≡ lists (listed (slotAt b slot) new) (outgoing (b .window))
-      is = enter-answers .set-of-searched ∙ turn-when (slotAt b slot) new (outgoing (b .window)) (inRows (added (b .window) loss shake))
+      is : getD (enterCall b v .searched) slot false ≡ lists (listed (slotAt b slot) new) (outgoing (b .window))
+      is = enter-answers .set-of-searched ∙ turn-when (slotAt b slot) new (outgoing (b .window)) (inRows (added (b .window) v))
 
-      to : getD (enterCall b loss shake .searched) slot false ≡ true → (outgoing (b .window) ≡ 0 → ⊥) × ((e : Entry) × (e ∈ lines (listed (slotAt b slot) new)) × (e .number ≡ outgoing (b .window)))
+      to : getD (enterCall b v .searched) slot false ≡ true → (outgoing (b .window) ≡ 0 → ⊥) × ((e : Entry) × (e ∈ lines (listed (slotAt b slot) new)) × (e .number ≡ outgoing (b .window)))
       to t =
-          let may = enterable (b .window .entered) loss shake taken in
+          let may = enterable (b .window .counts) v taken in
           ⊎-elim (λ no. absurd (no (sym (enter-answers .set-of-searched) ∙ t)))
-          (λ s. names-oldest (b .window) (reached-window reached) (kept reached .since .whole) loss shake (may .loss-fits) (may .shake-fits) (may .room) (slotAt b slot) s .0 (sym is ∙ t))
+          (λ s. names-oldest (b .window) (reached-window reached) (kept reached .since .whole) v (may .permitted) (may .room) (slotAt b slot) s .0 (sym is ∙ t))
           slot-now
 
-      from : (outgoing (b .window) ≡ 0 → ⊥) × ((e : Entry) × (e ∈ lines (listed (slotAt b slot) new)) × (e .number ≡ outgoing (b .window))) → getD (enterCall b loss shake .searched) slot false ≡ true
+      from : (outgoing (b .window) ≡ 0 → ⊥) × ((e : Entry) × (e ∈ lines (listed (slotAt b slot) new)) × (e .number ≡ outgoing (b .window))) → getD (enterCall b v .searched) slot false ≡ true
       from r = is ∙ lists-when (listed (slotAt b slot) new) (outgoing (b .window)) .1 (r .1 .0, r .1 .1, omega (arith, r .1 .2))
 
   -- The search that entering runs is exact, over the reports held after it.
-  pub enter-exact : getD (enterCall b loss shake .searched) slot false ≡ true
-      → Exactly (added (b .window) loss shake) (slotAt b slot .k) (slotAt b slot .weights) (getD (enterCall b loss shake .steps) slot 0) (slotAt (enterCall b loss shake .board) slot)
+  pub enter-exact : getD (enterCall b v .searched) slot false ≡ true
+      → Exactly (added (b .window) v) (slotAt b slot .k) (slotAt b slot .rule) (getD (enterCall b v .steps) slot 0) (slotAt (enterCall b v .board) slot)
   enter-exact t =
       let a = enter-answers in
       let again = sym (a .set-of-searched) ∙ t in
-      let may = enterable (b .window .entered) loss shake taken in
-      let after = added (b .window) loss shake in
-      let fit-after = next-fit (b .window) (reached-window reached) (kept reached .since .whole) loss shake (may .loss-fits) (may .shake-fits) (may .room) in
+      let may = enterable (b .window .counts) v taken in
+      let after = added (b .window) v in
+      let fit-after = next-fit (b .window) (reached-window reached) (kept reached .since .whole) v (may .permitted) (may .room) in
       let range : (1 ≤ slotAt b slot .k) × (slotAt b slot .k ≤ 16) = ⊎-elim (λ no. absurd (no again)) (λ s. subst (λ q. (1 ≤ q .k) × (q .k ≤ 16)) (sym (s .is)) (s .asks .some, s .asks .small)) slot-now in
       let e = one.turn-exact after fit-after (slotAt b slot) new (outgoing (b .window)) (range .0) (range .1) again in
-      subst (λ m. Exactly after (slotAt b slot .k) (slotAt b slot .weights) m (slotAt (enterCall b loss shake .board) slot)) (sym (a .steps-of))
-      (subst (Exactly after (slotAt b slot .k) (slotAt b slot .weights) (turned (b .window) loss shake (slotAt b slot) .steps)) (sym (a .left-as)) e)
+      subst (λ m. Exactly after (slotAt b slot .k) (slotAt b slot .rule) m (slotAt (enterCall b v .board) slot)) (sym (a .steps-of))
+      (subst (Exactly after (slotAt b slot .k) (slotAt b slot .rule) (turned (b .window) v (slotAt b slot) .steps)) (sym (a .left-as)) e)

@@ -9,24 +9,26 @@ use native.Mathlib.Omega.{arith}
 use lib.IntN.{pos}
 use lib.ListN.{length, getD, getD-replicate}
 use lib.Seq.{getD-set-same}
-use Rattle.ranking.specs.Cells.{visiting}
+use Rattle.ranking.specs.Cells.{ruleOf, fitRule, score, cell, bestScore, before, visiting}
 use Rattle.search.specs.Search.{steps}
-use Rattle.ranking.specs.Standing.{Held, Entry, searchOf}
-use Rattle.ranking.specs.declared.Weights.{Weights}
-use Rattle.laws.proofs.Tests.{Tested, passed, failed, tested}
+use Rattle.ranking.specs.Standing.{Held, Entry, goesFirst, above, entries, top, searchOf}
+use Rattle.values.specs.declared.Values.{Values}
+use Rattle.values.specs.Range.{inRange}
+use Rattle.ranking.specs.declared.Rule.{Rule}
+use Rattle.laws.proofs.Tests.{Tested, passed, failed, tested, if-so}
+use Rattle.window.specs.declared.Counts.{Counts}
 use Rattle.window.specs.Rows.{freshWindow, heldReports, fitWindow, added}
-use Rattle.window.specs.History.{Values, numbered, latest}
+use Rattle.window.specs.History.{numbered, latest}
 use Rattle.question.specs.declared.Question.{Question}
 use Rattle.question.specs.declared.Searched.{Searched}
 use Rattle.question.specs.Lines.{asked, lines, emptySlot, searched, searchedIn, inRows}
-use Rattle.question.specs.Calls.{allOf}
-use Rattle.laws.proofs.Tests.{if-so}
+use Rattle.list.specs.Lines.{allOf}
 use Rattle.slot.specs.declared.Seated.{Seated}
 use Rattle.slot.specs.declared.Turned.{Turned}
 use Rattle.slot.specs.Asking.{setIn}
 use Rattle.slot.specs.Turn.{listed, later, lists}
 use Rattle.slot.specs.Gauges.{noQuestion}
-use Rattle.slot.proofs.Standing.{top, Stands, stands-ended}
+use Rattle.slot.proofs.Standing.{Stands, stands-ended}
 use Rattle.slot.proofs.Setting.{set-refusal, set-searched, set-stands}
 use Rattle.slot.proofs.Turns.{among-held, listed-keeps, turn-searched, turn-kept, turn-when}
 use Rattle.board.specs.Work.{slotAt, freshBoard, leaving, outgoing, newReport, turned, enterRefusal, enterWork}
@@ -44,41 +46,48 @@ use Rattle.board.proofs.Kept.{kept}
 use Rattle.board.proofs.Demands.{reached-window, reached-fit, demand-2, Answers, enter-answers}
 use Rattle.board.proofs.Fit.{fit-set, fit-enter}
 
--- Whether one that has gone is on the list after the addition, by what was entered.
-abbrev named : ℕ → List Values → Values → ℕ → Weights → Bool
-named n past v k ws =
-    not
-    (allOf (later (leaving n (length past) (min n (length past))))
-    (top k ws (record { number = length past + 1; loss = v .loss; shake = v .shake } ∷ latest n (numbered 1 past))))
+-- The counts of a window of that size into which so many were entered.
+abbrev countsAt : ℕ → ℕ → Counts
+countsAt n entered = record { size = n; entered = entered; held = min n entered }
 
--- A reached fit board with a question of that k and those weights in slot 0.
-record Stage (n : ℕ) (past : List Values) (k : ℕ) (ws : Weights) (b : Board) : Type 0 where
+-- Whether one that has gone is on the list after the addition, by what was entered.
+abbrev named : ℕ → List Values → Values → ℕ → Rule → Bool
+named n past v k rule =
+    not
+    (allOf (later (leaving (countsAt n (length past))))
+    (top rule k (record { number = length past + 1; values = v } ∷ latest n (numbered 1 past))))
+
+-- A reached fit board with a question of that k and that rule in slot 0.
+record Stage (n : ℕ) (past : List Values) (k : ℕ) (rule : Rule) (b : Board) : Type 0 where
   reached : Reached n past b
   fit : fitBoard b ≡ true
   stood : Stands (heldReports (b .window)) (slotAt b 0)
   at-k : slotAt b 0 .k ≡ k
-  at-ws : slotAt b 0 .weights ≡ ws
+  at-rule : slotAt b 0 .rule ≡ rule
 
 -- What the next entry answers of slot 0.
-record Says (n : ℕ) (past : List Values) (v : Values) (k : ℕ) (ws : Weights) (r : Entered) : Type 0 where
+record Says (n : ℕ) (past : List Values) (v : Values) (k : ℕ) (rule : Rule) (r : Entered) : Type 0 where
   taken : r .refusal ≡ 0
-  searched-is : getD (r .searched) 0 false ≡ named n past v k ws
-  steps-are : named n past v k ws ≡ true → getD (r .steps) 0 0 ≡ steps (searchOf ws) k (latest n (numbered 1 (past ++ (v ∷ []))))
-  list-is : lines (slotAt (r .board) 0) ≡ top k ws (latest n (numbered 1 (past ++ (v ∷ []))))
+  searched-is : getD (r .searched) 0 false ≡ named n past v k rule
+  steps-are : named n past v k rule ≡ true → getD (r .steps) 0 0 ≡ steps (searchOf rule) k (latest n (numbered 1 (past ++ (v ∷ []))))
+  list-is : lines (slotAt (r .board) 0) ≡ top rule k (latest n (numbered 1 (past ++ (v ∷ []))))
 
-module _ {n : ℕ} {past : List Values} {k : ℕ} {ws : Weights} (b : Board) (g : Stage n past k ws b) (v : Values) (t : enterRefusal (length past) (v .loss) (v .shake) ≡ 0) where
-  may-enter : enterRefusal (b .window .entered) (v .loss) (v .shake) ≡ 0
-  may-enter = ap (λ e. enterRefusal e (v .loss) (v .shake)) (kept (g .reached) .since .all-entered) ∙ t
+module _ {n : ℕ} {past : List Values} {k : ℕ} {rule : Rule} (b : Board) (g : Stage n past k rule b) (v : Values) (t : enterRefusal (countsAt n (length past)) v ≡ 0) where
+  counts-are : b .window .counts ≡ countsAt n (length past)
+  counts-are = let since = kept (g .reached) .since in λ i. record { size = since .of-size i; entered = since .all-entered i; held = since .as-many-held i }
 
-  answered : enterCall b (v .loss) (v .shake) .refusal ≡ 0
+  may-enter : enterRefusal (b .window .counts) v ≡ 0
+  may-enter = ap (λ c. enterRefusal c v) counts-are ∙ t
+
+  answered : enterCall b v .refusal ≡ 0
   unfolding enterCall enterWork
   answered = ap (λ (r : Entered). r .refusal) (if-so _ _ (g .fit) ∙ zero-is _ _ may-enter)
 
-  reached-next : Reached n (past ++ (v ∷ [])) (enterCall b (v .loss) (v .shake) .board)
-  reached-next = subst (λ r. Reached n (pastAfter past v r) (enterCall b (v .loss) (v .shake) .board)) answered (enter (g .reached) v)
+  reached-next : Reached n (past ++ (v ∷ [])) (enterCall b v .board)
+  reached-next = subst (λ r. Reached n (pastAfter past v r) (enterCall b v .board)) answered (enter (g .reached) v)
 
-  may : Enterable (b .window .entered) (v .loss) (v .shake)
-  may = enterable (b .window .entered) (v .loss) (v .shake) may-enter
+  may : Enterable (b .window .counts) v
+  may = enterable (b .window .counts) v may-enter
 
   abbrev s : Stands (heldReports (b .window)) (slotAt b 0)
   s = g .stood
@@ -86,87 +95,87 @@ module _ {n : ℕ} {past : List Values} {k : ℕ} {ws : Weights} (b : Board) (g 
   its-k : s .k ≡ k
   its-k = sym (ap (λ (q : Question). q .k) (s .is)) ∙ g .at-k
 
-  its-ws : s .ws ≡ ws
-  its-ws = sym (ap (λ (q : Question). q .weights) (s .is)) ∙ g .at-ws
+  its-rule : s .rule ≡ rule
+  its-rule = sym (ap (λ (q : Question). q .rule) (s .is)) ∙ g .at-rule
 
-  answers : Answers (g .reached) (g .fit) (v .loss) (v .shake) may-enter 0 (omega arith) (enterCall b (v .loss) (v .shake))
-  answers = enter-answers (g .reached) (g .fit) (v .loss) (v .shake) may-enter 0 (omega arith)
+  answers : Answers (g .reached) (g .fit) v may-enter 0 (omega arith) (enterCall b v)
+  answers = enter-answers (g .reached) (g .fit) v may-enter 0 (omega arith)
 
-  next-window : enterCall b (v .loss) (v .shake) .board .window ≡ added (b .window) (v .loss) (v .shake)
+  next-window : enterCall b v .board .window ≡ added (b .window) v
   unfolding enterCall enterWork
   next-window = ap (λ (r : Entered). r .board .window) (if-so _ _ (g .fit) ∙ zero-is _ _ may-enter)
 
-  next-held : heldReports (added (b .window) (v .loss) (v .shake)) ≡ latest n (numbered 1 (past ++ (v ∷ [])))
+  next-held : heldReports (added (b .window) v) ≡ latest n (numbered 1 (past ++ (v ∷ [])))
   next-held = ap heldReports (sym next-window) ∙ kept reached-next .since .holds-latest
 
   abbrev new : Held
-  new = newReport (b .window) (v .loss) (v .shake)
+  new = newReport (b .window) v
 
-  named-is : lists (listed (slotAt b 0) new) (outgoing (b .window)) ≡ named n past v k ws
+  named-is : lists (listed (slotAt b 0) new) (outgoing (b .window)) ≡ named n past v k rule
   unfolding lists
   named-is =
       let m = may in
       let since = kept (g .reached) .since in
-      ap (λ l. not (allOf (later (outgoing (b .window))) l)) (new-lines (b .window) (reached-window (g .reached)) (since .whole) (v .loss) (v .shake) (m .loss-fits) (m .shake-fits) (m .room) (slotAt b 0) s)
+      ap (λ l. not (allOf (later (outgoing (b .window))) l)) (new-lines (b .window) (reached-window (g .reached)) (since .whole) v (m .permitted) (m .room) (slotAt b 0) s)
       ∙ (λ i.
       not
-      (allOf (later (leaving (since .of-size i) (since .all-entered i) (since .as-many-held i)))
-      (top (its-k i) (its-ws i) (record { number = since .all-entered i + 1; loss = v .loss; shake = v .shake } ∷ since .holds-latest i))))
+      (allOf (later (leaving (counts-are i)))
+      (top (its-rule i) (its-k i) (record { number = counts-are i .entered + 1; values = v } ∷ since .holds-latest i))))
 
-  stands-next : Stands (heldReports (added (b .window) (v .loss) (v .shake))) (turned (b .window) (v .loss) (v .shake) (slotAt b 0) .question)
-  stands-next = turned-stands (b .window) (reached-window (g .reached)) (kept (g .reached) .since .whole) (v .loss) (v .shake) (may .loss-fits) (may .shake-fits) (may .room) (slotAt b 0) s
+  stands-next : Stands (heldReports (added (b .window) v)) (turned (b .window) v (slotAt b 0) .question)
+  stands-next = turned-stands (b .window) (reached-window (g .reached)) (kept (g .reached) .since .whole) v (may .permitted) (may .room) (slotAt b 0) s
 
   abbrev p : Question
-  p = listed (slotAt b 0) (newReport (b .window) (v .loss) (v .shake))
+  p = listed (slotAt b 0) (newReport (b .window) v)
 
-  p-k : listed (slotAt b 0) (newReport (b .window) (v .loss) (v .shake)) .k ≡ k
-  p-k = listed-keeps (slotAt b 0) (newReport (b .window) (v .loss) (v .shake)) .same-k ∙ g .at-k
+  p-k : listed (slotAt b 0) (newReport (b .window) v) .k ≡ k
+  p-k = listed-keeps (slotAt b 0) (newReport (b .window) v) .same-k ∙ g .at-k
 
-  p-ws : listed (slotAt b 0) (newReport (b .window) (v .loss) (v .shake)) .weights ≡ ws
-  p-ws = listed-keeps (slotAt b 0) (newReport (b .window) (v .loss) (v .shake)) .same-weights ∙ g .at-ws
+  p-rule : listed (slotAt b 0) (newReport (b .window) v) .rule ≡ rule
+  p-rule = listed-keeps (slotAt b 0) (newReport (b .window) v) .same-rule ∙ g .at-rule
 
-  p-small : listed (slotAt b 0) (newReport (b .window) (v .loss) (v .shake)) .k ≤ 16
+  p-small : listed (slotAt b 0) (newReport (b .window) v) .k ≤ 16
   p-small = subst (λ m. m ≤ 16) (its-k ∙ sym p-k) (s .asks .small)
 
-  after-fit : fitWindow (added (b .window) (v .loss) (v .shake)) ≡ true
-  after-fit = next-fit (b .window) (reached-window (g .reached)) (kept (g .reached) .since .whole) (v .loss) (v .shake) (may .loss-fits) (may .shake-fits) (may .room)
+  after-fit : fitWindow (added (b .window) v) ≡ true
+  after-fit = next-fit (b .window) (reached-window (g .reached)) (kept (g .reached) .since .whole) v (may .permitted) (may .room)
 
   searched-so : lists p (outgoing (b .window)) ≡ true
-      → turned (b .window) (v .loss) (v .shake) (slotAt b 0) ≡ (let f = searchedIn p (heldReports (added (b .window) (v .loss) (v .shake))) in record { searched = true; steps = f .steps; question = f .question })
+      → turned (b .window) v (slotAt b 0) ≡ (let f = searchedIn p (heldReports (added (b .window) v)) in record { searched = true; steps = f .steps; question = f .question })
   searched-so h =
-      turn-searched (slotAt b 0) new (outgoing (b .window)) (inRows (added (b .window) (v .loss) (v .shake))) h
-      ∙ ap (λ (f : Searched). record { searched = true; steps = f .steps; question = f .question }) (among-held (added (b .window) (v .loss) (v .shake)) after-fit p p-small)
+      turn-searched (slotAt b 0) new (outgoing (b .window)) (inRows (added (b .window) v)) h
+      ∙ ap (λ (f : Searched). record { searched = true; steps = f .steps; question = f .question }) (among-held (added (b .window) v) after-fit p p-small)
 
-  kept-so : lists p (outgoing (b .window)) ≡ false → turned (b .window) (v .loss) (v .shake) (slotAt b 0) ≡ record { searched = false; steps = 0; question = p }
-  kept-so h = turn-kept (slotAt b 0) new (outgoing (b .window)) (inRows (added (b .window) (v .loss) (v .shake))) h
+  kept-so : lists p (outgoing (b .window)) ≡ false → turned (b .window) v (slotAt b 0) ≡ record { searched = false; steps = 0; question = p }
+  kept-so h = turn-kept (slotAt b 0) new (outgoing (b .window)) (inRows (added (b .window) v)) h
 
-  left-k : (turned (b .window) (v .loss) (v .shake) (slotAt b 0) .question .k ≡ k) × (turned (b .window) (v .loss) (v .shake) (slotAt b 0) .question .weights ≡ ws)
+  left-k : (turned (b .window) v (slotAt b 0) .question .k ≡ k) × (turned (b .window) v (slotAt b 0) .question .rule ≡ rule)
   unfolding searched
   left-k = go (tested (lists p (outgoing (b .window))))
     where
-      go : Tested (lists p (outgoing (b .window))) → (turned (b .window) (v .loss) (v .shake) (slotAt b 0) .question .k ≡ k) × (turned (b .window) (v .loss) (v .shake) (slotAt b 0) .question .weights ≡ ws)
-      go (passed h) = (ap (λ (r : Turned). r .question .k) (searched-so h) ∙ p-k, ap (λ (r : Turned). r .question .weights) (searched-so h) ∙ p-ws)
-      go (failed h) = (ap (λ (r : Turned). r .question .k) (kept-so h) ∙ p-k, ap (λ (r : Turned). r .question .weights) (kept-so h) ∙ p-ws)
+      go : Tested (lists p (outgoing (b .window))) → (turned (b .window) v (slotAt b 0) .question .k ≡ k) × (turned (b .window) v (slotAt b 0) .question .rule ≡ rule)
+      go (passed h) = (ap (λ (r : Turned). r .question .k) (searched-so h) ∙ p-k, ap (λ (r : Turned). r .question .rule) (searched-so h) ∙ p-rule)
+      go (failed h) = (ap (λ (r : Turned). r .question .k) (kept-so h) ∙ p-k, ap (λ (r : Turned). r .question .rule) (kept-so h) ∙ p-rule)
 
-  stage-next : Stage n (past ++ (v ∷ [])) k ws (enterCall b (v .loss) (v .shake) .board)
+  stage-next : Stage n (past ++ (v ∷ [])) k rule (enterCall b v .board)
   stage-next =
       record {
         reached = reached-next;
-        fit = fit-enter b (kept (g .reached)) (g .fit) (v .loss) (v .shake);
-        stood = subst (λ w. Stands (heldReports w) (slotAt (enterCall b (v .loss) (v .shake) .board) 0)) (sym next-window) (subst (Stands (heldReports (added (b .window) (v .loss) (v .shake)))) (sym (answers .left-as)) stands-next);
+        fit = fit-enter b (kept (g .reached)) (g .fit) v;
+        stood = subst (λ w. Stands (heldReports w) (slotAt (enterCall b v .board) 0)) (sym next-window) (subst (Stands (heldReports (added (b .window) v))) (sym (answers .left-as)) stands-next);
         at-k = ap (λ (q : Question). q .k) (answers .left-as) ∙ left-k .0;
-        at-ws = ap (λ (q : Question). q .weights) (answers .left-as) ∙ left-k .1;
+        at-rule = ap (λ (q : Question). q .rule) (answers .left-as) ∙ left-k .1;
       }
 
-  says : Says n past v k ws (enterCall b (v .loss) (v .shake))
+  says : Says n past v k rule (enterCall b v)
   says =
       record {
         taken = answered;
-        searched-is = answers .set-of-searched ∙ turn-when (slotAt b 0) new (outgoing (b .window)) (inRows (added (b .window) (v .loss) (v .shake))) ∙ named-is;
-        steps-are = λ h. answers .steps-of ∙ ap (λ (r : Turned). r .steps) (searched-so (named-is ∙ h)) ∙ (λ i. steps (searchOf (p-ws i)) (p-k i) (next-held i));
+        searched-is = answers .set-of-searched ∙ turn-when (slotAt b 0) new (outgoing (b .window)) (inRows (added (b .window) v)) ∙ named-is;
+        steps-are = λ h. answers .steps-of ∙ ap (λ (r : Turned). r .steps) (searched-so (named-is ∙ h)) ∙ (λ i. steps (searchOf (p-rule i)) (p-k i) (next-held i));
         list-is =
-            demand-2 reached-next 0 (omega arith) (stands-ended (enterCall b (v .loss) (v .shake) .board .window) (reached-window reached-next) (slotAt (enterCall b (v .loss) (v .shake) .board) 0) (stage-next .stood))
-            ∙ (λ i. top (stage-next .at-k i) (stage-next .at-ws i) (kept reached-next .since .holds-latest i));
+            demand-2 reached-next 0 (omega arith) (stands-ended (enterCall b v .board .window) (reached-window reached-next) (slotAt (enterCall b v .board) 0) (stage-next .stood))
+            ∙ (λ i. top (stage-next .at-rule i) (stage-next .at-k i) (kept reached-next .since .holds-latest i));
       }
 
 -- ---- the examples
@@ -174,13 +183,16 @@ module _ {n : ℕ} {past : List Values} {k : ℕ} {ws : Weights} (b : Board) (g 
 abbrev pair : ℕ → ℕ → Values
 pair loss shake = record { loss = loss; shake = shake }
 
+abbrev ones : Rule
+ones = ruleOf (record { loss = pos 1; shake = pos 1 })
+
 -- "N 2, k 1, weights 1, 1, set first"
 unfoldable pub bench : Board
-bench = setCall (freshBoard 2 .board) 0 1 (record { loss = pos 1; shake = pos 1 }) .board
+bench = setCall (freshBoard 2 .board) 0 1 ones .board
 
 -- The answer to the third of three entries.
 abbrev pub third : Values → Values → Values → Entered
-third u v w = enterCall (enterCall (enterCall bench (u .loss) (u .shake) .board) (v .loss) (v .shake) .board) (w .loss) (w .shake)
+third u v w = enterCall (enterCall (enterCall bench u .board) v .board) w
 
 begun-fresh : Reached 2 [] (freshBoard 2 .board)
 unfolding freshBoard freshWindow
@@ -193,48 +205,48 @@ all-empty slot h = getD-replicate 32 slot emptySlot noQuestion h
 fresh-fit : fitBoard (freshBoard 2 .board) ≡ true
 fresh-fit = reached-fit begun-fresh (λ slot h. inl (all-empty slot h))
 
-can-set : setIn (slotAt (freshBoard 2 .board) 0) 1 (record { loss = pos 1; shake = pos 1 }) (inRows (freshBoard 2 .board .window)) .refusal ≡ 0
-unfolding freshBoard
-can-set = set-refusal (slotAt (freshBoard 2 .board) 0) 1 (record { loss = pos 1; shake = pos 1 }) (inRows (freshBoard 2 .board .window))
+can-set : setIn (slotAt (freshBoard 2 .board) 0) 1 ones (inRows (freshBoard 2 .board .window)) .refusal ≡ 0
+unfolding freshBoard fitRule
+can-set = set-refusal (slotAt (freshBoard 2 .board) 0) 1 ones (inRows (freshBoard 2 .board .window))
 
 record Placed-so (r : Placed) : Type 0 where
   stood : Stands (heldReports (r .board .window)) (slotAt (r .board) 0)
   at-k : slotAt (r .board) 0 .k ≡ 1
-  at-ws : slotAt (r .board) 0 .weights ≡ record { loss = pos 1; shake = pos 1 }
+  at-rule : slotAt (r .board) 0 .rule ≡ ones
 
-placed-so : Placed-so (setCall (freshBoard 2 .board) 0 1 (record { loss = pos 1; shake = pos 1 }))
+placed-so : Placed-so (setCall (freshBoard 2 .board) 0 1 ones)
 unfolding searched
 placed-so =
     let b = freshBoard 2 .board in
-    let ws : Weights = record { loss = pos 1; shake = pos 1 } in
-    let q = asked 1 ws [] 0 in
+    let rule : Rule = ones in
+    let q = asked 1 rule [] 0 in
     let fit = reached-window begun-fresh in
-    let seated = setIn (slotAt b 0) 1 ws (inRows (b .window)) in
+    let seated = setIn (slotAt b 0) 1 rule (inRows (b .window)) in
     let at = getD-set-same (b .slots) 0 (seated .question) noQuestion (omega (arith, kept begun-fresh .many)) in
-    let is = at ∙ ap (λ (r : Seated). r .question) (set-searched (slotAt b 0) 1 ws (inRows (b .window)) can-set) ∙ ap (λ (r : Searched). r .question) (among-held (b .window) fit q (omega arith)) in
-    subst Placed-so (sym (set-known b fresh-fit 0 1 ws ∙ set-there b 0 1 ws (omega arith)))
+    let is = at ∙ ap (λ (r : Seated). r .question) (set-searched (slotAt b 0) 1 rule (inRows (b .window)) can-set) ∙ ap (λ (r : Searched). r .question) (among-held (b .window) fit q (omega arith)) in
+    subst Placed-so (sym (set-known b fresh-fit 0 1 rule ∙ set-there b 0 1 rule (omega arith)))
     (record {
-      stood = subst (Stands (heldReports (b .window))) (sym at) (set-stands (b .window) fit (slotAt b 0) 1 ws can-set);
+      stood = subst (Stands (heldReports (b .window))) (sym at) (set-stands (b .window) fit (slotAt b 0) 1 rule can-set);
       at-k = ap (λ (p : Question). p .k) is;
-      at-ws = ap (λ (p : Question). p .weights) is;
+      at-rule = ap (λ (p : Question). p .rule) is;
     })
 
-stage-bench : Stage 2 [] 1 (record { loss = pos 1; shake = pos 1 }) bench
+stage-bench : Stage 2 [] 1 ones bench
 unfolding bench
 stage-bench =
     record {
-      reached = reach.set begun-fresh 0 1 (record { loss = pos 1; shake = pos 1 });
-      fit = fit-set (freshBoard 2 .board) (kept begun-fresh) fresh-fit 0 1 (record { loss = pos 1; shake = pos 1 });
+      reached = reach.set begun-fresh 0 1 ones;
+      fit = fit-set (freshBoard 2 .board) (kept begun-fresh) fresh-fit 0 1 ones;
       stood = placed-so .stood;
       at-k = placed-so .at-k;
-      at-ws = placed-so .at-ws;
+      at-rule = placed-so .at-rule;
     }
 
-third-says : (u v w : Values) → enterRefusal 0 (u .loss) (u .shake) ≡ 0 → enterRefusal 1 (v .loss) (v .shake) ≡ 0 → enterRefusal 2 (w .loss) (w .shake) ≡ 0 → Says 2 (u ∷ v ∷ []) w 1 (record { loss = pos 1; shake = pos 1 }) (third u v w)
+third-says : (u v w : Values) → enterRefusal (countsAt 2 0) u ≡ 0 → enterRefusal (countsAt 2 1) v ≡ 0 → enterRefusal (countsAt 2 2) w ≡ 0 → Says 2 (u ∷ v ∷ []) w 1 ones (third u v w)
 third-says u v w a b c =
     let one = stage-next bench stage-bench u a in
-    let two = stage-next (enterCall bench (u .loss) (u .shake) .board) one v b in
-    says (enterCall (enterCall bench (u .loss) (u .shake) .board) (v .loss) (v .shake) .board) two w c
+    let two = stage-next (enterCall bench u .board) one v b in
+    says (enterCall (enterCall bench u .board) v .board) two w c
 
 abbrev line : ℕ → ℕ → Entry
 line number score = record { number = number; score = pos score }
@@ -253,7 +265,7 @@ pub record Examples : Type 0 where
   pub p11-list : lines (slotAt (third (pair 9 9) (pair 1 1) (pair 9 9) .board) 0) ≡ line 3 18 ∷ []
 
 pub examples : Examples
-unfolding steps visiting leaving enterRefusal
+unfolding steps visiting before bestScore score cell above goesFirst entries leaving enterRefusal inRange
 examples =
     let nine = third-says (pair 10 10) (pair 5 5) (pair 1 1) refl refl refl in
     let ten = third-says (pair 1 1) (pair 5 5) (pair 1 2) refl refl refl in

@@ -3,15 +3,17 @@
 use mathlib.Core.Path.{_≡_, sym, ap, _∙_}
 use mathlib.Core.Bool.{Bool}
 use mathlib.Core.List.{List, map}
-use Prim.Native.Nat.{ℕ, _+_, _%_, _≤_, _<_}
-use native.Mathlib.Nat.{mod-eq-of-lt}
-use native.Mathlib.Omega.{arith}
+use Prim.Native.Nat.{ℕ, _+_, _≤_, _<_}
 use lib.ListN.{length, getD, set}
+use Rattle.values.specs.declared.Values.{Values}
+use Rattle.values.specs.Range.{low}
+use Rattle.values.proofs.Facts.{low-same}
 use Rattle.ranking.specs.Standing.{Held}
 use Rattle.window.specs.declared.Window.{Window}
 use Rattle.window.specs.Rows.{added, standing}
 use Rattle.question.specs.declared.Question.{Question}
-use Rattle.question.specs.Lines.{inRows, rowsOf}
+use Rattle.list.specs.Rows.{rowsOf}
+use Rattle.question.specs.Lines.{inRows}
 use Rattle.slot.specs.declared.Turned.{Turned}
 use Rattle.slot.specs.Turn.{turn}
 use Rattle.slot.specs.Gauges.{noQuestion}
@@ -50,23 +52,21 @@ module _ (h : Held) (old : List Question) (gone : ℕ) (reports : List Held) whe
       }
 
 -- A report with its values' low 12 bits, which are all where it can enter.
-abbrev pub low : (number loss shake : ℕ) → Held
-low number loss shake = record { number = number; loss = loss % 4096; shake = shake % 4096 }
+abbrev pub lowReport : ℕ → Values → Held
+lowReport number v = record { number = number; values = low v }
 
 -- When all turns are taken, the answer is there.
-pub turns-all : (b : Board) (loss shake : ℕ) {leaves i : ℕ} {window : Window} {slots : List Question} {searched : List Bool} {steps : List ℕ} → enterRefusal (b .window .entered) loss shake ≡ 0
-    → leaves ≡ outgoing (b .window) → window ≡ added (b .window) loss shake → length (b .slots) ≤ i
-    → Turns (low (b .window .entered + 1) loss shake) (b .slots) leaves (standing (rowsOf (window .losses) (window .shakes) (window .numbers)) 1024) i slots searched steps
-    → _≡_ {A = Entered} (record { refusal = 0; number = b .window .entered + 1; searched = searched; steps = steps; board = record { window = window; slots = slots } }) (enterWork b loss shake)
+pub turns-all : (b : Board) (v : Values) {leaves i : ℕ} {window : Window} {slots : List Question} {searched : List Bool} {steps : List ℕ} → enterRefusal (b .window .counts) v ≡ 0
+    → leaves ≡ outgoing (b .window) → window ≡ added (b .window) v → length (b .slots) ≤ i
+    → Turns (lowReport (b .window .counts .entered + 1) v) (b .slots) leaves (standing (rowsOf (window .losses) (window .shakes) (window .numbers)) 1024) i slots searched steps
+    → _≡_ {A = Entered} (record { refusal = 0; number = b .window .counts .entered + 1; searched = searched; steps = steps; board = record { window = window; slots = slots } }) (enterWork b v)
 unfolding enterWork inRows
-turns-all b loss shake {leaves} {i} {window} {slots} {searched} {steps} taken o w h t =
-    let may = enterable (b .window .entered) loss shake taken in
-    let l : loss % 4096 ≡ loss = mod-eq-of-lt (omega (arith, may .loss-fits)) in
-    let s : shake % 4096 ≡ shake = mod-eq-of-lt (omega (arith, may .shake-fits)) in
-    let number = b .window .entered + 1 in
-    let rows = rows-alone window 1024 ∙ ap (λ v. standing v 1024) w in
-    let slots-all = filled-all _ _ i slots h (t .slots-are) ∙ (λ j. map (λ q. turn q (record { number = number; loss = l j; shake = s j }) (o j) (rows j) .question) (b .slots)) in
-    let searched-all = filled-all _ _ i searched h (t .searched-are) ∙ (λ j. map (λ q. turn q (record { number = number; loss = l j; shake = s j }) (o j) (rows j) .searched) (b .slots)) in
-    let steps-all = filled-all _ _ i steps h (t .steps-are) ∙ (λ j. map (λ q. turn q (record { number = number; loss = l j; shake = s j }) (o j) (rows j) .steps) (b .slots)) in
+turns-all b v {leaves} {i} {window} {slots} {searched} {steps} taken o w h t =
+    let number = b .window .counts .entered + 1 in
+    let all = low-same v (enterable (b .window .counts) v taken .permitted) in
+    let rows = rows-alone window 1024 ∙ ap (λ u. standing u 1024) w in
+    let slots-all = filled-all _ _ i slots h (t .slots-are) ∙ (λ j. map (λ q. turn q (record { number = number; values = all j }) (o j) (rows j) .question) (b .slots)) in
+    let searched-all = filled-all _ _ i searched h (t .searched-are) ∙ (λ j. map (λ q. turn q (record { number = number; values = all j }) (o j) (rows j) .searched) (b .slots)) in
+    let steps-all = filled-all _ _ i steps h (t .steps-are) ∙ (λ j. map (λ q. turn q (record { number = number; values = all j }) (o j) (rows j) .steps) (b .slots)) in
     (λ j. record { refusal = 0; number = number; searched = searched-all j; steps = steps-all j; board = record { window = w j; slots = slots-all j } })
     ∙ sym (zero-is _ _ taken)

@@ -11,16 +11,15 @@ use borrow.Author.Tests.{eqb-true, eqb-false, ltb-true, ltb-false}
 use lib.Dec.{eqb, ltb}
 use lib.ListN.{set}
 use Rattle.laws.specs.Lists.{_∈_}
-use Rattle.ranking.specs.declared.Weights.{Weights}
-use Rattle.laws.proofs.Tests.{Tested, passed, failed, tested, and-both, and-true}
+use Rattle.values.specs.declared.Values.{Values}
+use Rattle.ranking.specs.declared.Rule.{Rule}
+use Rattle.laws.proofs.Tests.{Tested, passed, failed, tested, and-both, and-true, if-so, if-not}
 use Rattle.laws.proofs.Lists.{getD-in}
 use Rattle.window.specs.declared.Window.{Window}
 use Rattle.window.specs.Rows.{fitWindow, added}
-use Rattle.window.specs.History.{Values}
 use Rattle.question.specs.declared.Question.{Question}
 use Rattle.question.specs.Lines.{inRows}
-use Rattle.question.specs.Calls.{allOf}
-use Rattle.laws.proofs.Tests.{if-so, if-not}
+use Rattle.list.specs.Lines.{allOf}
 use Rattle.question.proofs.Listed.{all-in, all-is}
 use Rattle.slot.specs.declared.Seated.{Seated}
 use Rattle.slot.specs.Asking.{setIn, emptyRefusal, emptied}
@@ -59,28 +58,28 @@ module _ {n : ℕ} {past : List Values} (b : Board) (kept : Kept n past b) (fit 
   slot-passes : (slot : ℕ) → slot < 32 → slotFit (b .window) (slotAt b slot) ≡ true
   slot-passes slot h = every (slotAt b slot) (getD-in noQuestion (b .slots) slot (omega (arith, kept .many)))
 
-  set-passes : (slot k : ℕ) (weights : Weights) → slot < 32 → slotFit (b .window) (setIn (slotAt b slot) k weights (inRows (b .window)) .question) ≡ true
-  set-passes slot k weights h = go (tested (eqb (seated .refusal) 0))
+  set-passes : (slot k : ℕ) (rule : Rule) → slot < 32 → slotFit (b .window) (setIn (slotAt b slot) k rule (inRows (b .window)) .question) ≡ true
+  set-passes slot k rule h = go (tested (eqb (seated .refusal) 0))
     where
       seated : Seated
-      seated = setIn (slotAt b slot) k weights (inRows (b .window))
+      seated = setIn (slotAt b slot) k rule (inRows (b .window))
 
       go : Tested (eqb (seated .refusal) 0) → slotFit (b .window) (seated .question) ≡ true
-      go (passed t) = stands-passes (b .window) window-fit (seated .question) (set-stands (b .window) window-fit (slotAt b slot) k weights (eqb-true (seated .refusal) 0 t))
-      go (failed t) = ap (slotFit (b .window)) (set-kept (slotAt b slot) k weights (inRows (b .window)) (eqb-false (seated .refusal) 0 t)) ∙ slot-passes slot h
+      go (passed t) = stands-passes (b .window) window-fit (seated .question) (set-stands (b .window) window-fit (slotAt b slot) k rule (eqb-true (seated .refusal) 0 t))
+      go (failed t) = ap (slotFit (b .window)) (set-kept (slotAt b slot) k rule (inRows (b .window)) (eqb-false (seated .refusal) 0 t)) ∙ slot-passes slot h
 
-  pub fit-set : (slot k : ℕ) (weights : Weights) → fitBoard (setCall b slot k weights .board) ≡ true
+  pub fit-set : (slot k : ℕ) (rule : Rule) → fitBoard (setCall b slot k rule .board) ≡ true
   unfolding setCall
-  fit-set slot k weights = go (tested (ltb slot 32))
+  fit-set slot k rule = go (tested (ltb slot 32))
     where
       P : Placed → Type 0
       P r = fitBoard (r .board) ≡ true
 
-      go : Tested (ltb slot 32) → fitBoard (setCall b slot k weights .board) ≡ true
-      go (failed t) = subst P (sym (if-so _ _ fit ∙ set-nowhere b slot k weights (ltb-false slot 32 t))) fit
+      go : Tested (ltb slot 32) → fitBoard (setCall b slot k rule .board) ≡ true
+      go (failed t) = subst P (sym (if-so _ _ fit ∙ set-nowhere b slot k rule (ltb-false slot 32 t))) fit
       go (passed t) =
           let h = ltb-true slot 32 t in
-          subst P (sym (if-so _ _ fit ∙ set-there b slot k weights h)) (with-slot-fit slot (setIn (slotAt b slot) k weights (inRows (b .window)) .question) (set-passes slot k weights h))
+          subst P (sym (if-so _ _ fit ∙ set-there b slot k rule h)) (with-slot-fit slot (setIn (slotAt b slot) k rule (inRows (b .window)) .question) (set-passes slot k rule h))
 
   removed-passes : (slot : ℕ) → slot < 32 → slotFit (b .window) (emptied (slotAt b slot)) ≡ true
   removed-passes slot h = go (tested (eqb (emptyRefusal (slotAt b slot .k)) 0))
@@ -102,37 +101,37 @@ module _ {n : ℕ} {past : List Values} (b : Board) (kept : Kept n past b) (fit 
           let h = ltb-true slot 32 t in
           subst P (sym (if-so _ _ fit ∙ remove-there b slot h)) (with-slot-fit slot (emptied (slotAt b slot)) (removed-passes slot h))
 
-  entered-fit : (loss shake : ℕ) → Enterable (b .window .entered) loss shake
-      → fitBoard (record { window = added (b .window) loss shake; slots = map (λ q. turned (b .window) loss shake q .question) (b .slots) }) ≡ true
+  entered-fit : (v : Values) → Enterable (b .window .counts) v
+      → fitBoard (record { window = added (b .window) v; slots = map (λ q. turned (b .window) v q .question) (b .slots) }) ≡ true
   unfolding fitBoard
-  entered-fit loss shake may =
+  entered-fit v may =
       and-true after-fit
-      (all-is (slotFit after) (map (λ q. turned (b .window) loss shake q .question) (b .slots))
+      (all-is (slotFit after) (map (λ q. turned (b .window) v q .question) (b .slots))
       (λ z m.
-      let r = Memᴰ·of-map (λ q. turned (b .window) loss shake q .question) (b .slots) m in
+      let r = Memᴰ·of-map (λ q. turned (b .window) v q .question) (b .slots) m in
       ap (slotFit after) (sym (r .2)) ∙ go (r .0) (every (r .0) (r .1)) (kept .each (r .0) (r .1))))
     where
       after : Window
-      after = added (b .window) loss shake
+      after = added (b .window) v
 
-      after-fit : fitWindow (added (b .window) loss shake) ≡ true
-      after-fit = next-fit (b .window) window-fit (kept .since .whole) loss shake (may .loss-fits) (may .shake-fits) (may .room)
+      after-fit : fitWindow (added (b .window) v) ≡ true
+      after-fit = next-fit (b .window) window-fit (kept .since .whole) v (may .permitted) (may .room)
 
-      go : (q : Question) → slotFit (b .window) q ≡ true → Slot (b .window) q → slotFit after (turned (b .window) loss shake q .question) ≡ true
+      go : (q : Question) → slotFit (b .window) q ≡ true → Slot (b .window) q → slotFit after (turned (b .window) v q .question) ≡ true
       go q p (state.empty e) =
-          ap (λ x. slotFit after (turned (b .window) loss shake x .question)) e
-          ∙ ap (λ r. slotFit after (r .question)) (empty-stays (newReport (b .window) loss shake) (outgoing (b .window)) (inRows (added (b .window) loss shake)))
+          ap (λ x. slotFit after (turned (b .window) v x .question)) e
+          ∙ ap (λ r. slotFit after (r .question)) (empty-stays (newReport (b .window) v) (outgoing (b .window)) (inRows (added (b .window) v)))
           ∙ empty-passes after
-      go q p (stands x) = stands-passes after after-fit (turned (b .window) loss shake q .question) (turned-stands (b .window) window-fit (kept .since .whole) loss shake (may .loss-fits) (may .shake-fits) (may .room) q x)
+      go q p (stands x) = stands-passes after after-fit (turned (b .window) v q .question) (turned-stands (b .window) window-fit (kept .since .whole) v (may .permitted) (may .room) q x)
       go q p (searches x) = absurd (not-searching (b .window) window-fit q p x)
 
-  pub fit-enter : (loss shake : ℕ) → fitBoard (enterCall b loss shake .board) ≡ true
+  pub fit-enter : (v : Values) → fitBoard (enterCall b v .board) ≡ true
   unfolding enterCall enterWork
-  fit-enter loss shake = go (tested (eqb (enterRefusal (b .window .entered) loss shake) 0))
+  fit-enter v = go (tested (eqb (enterRefusal (b .window .counts) v) 0))
     where
       P : Entered → Type 0
       P r = fitBoard (r .board) ≡ true
 
-      go : Tested (eqb (enterRefusal (b .window .entered) loss shake) 0) → fitBoard (enterCall b loss shake .board) ≡ true
+      go : Tested (eqb (enterRefusal (b .window .counts) v) 0) → fitBoard (enterCall b v .board) ≡ true
       go (failed t) = subst P (sym (if-so _ _ fit ∙ if-not _ _ t)) fit
-      go (passed t) = subst P (sym (if-so _ _ fit ∙ if-so _ _ t)) (entered-fit loss shake (enterable (b .window .entered) loss shake (eqb-true (enterRefusal (b .window .entered) loss shake) 0 t)))
+      go (passed t) = subst P (sym (if-so _ _ fit ∙ if-so _ _ t)) (entered-fit v (enterable (b .window .counts) v (eqb-true (enterRefusal (b .window .counts) v) 0 t)))

@@ -10,17 +10,17 @@ use borrow.Author.Tests.{eqb-true, eqb-false, ltb-true, ltb-false}
 use lib.Dec.{eqb, ltb}
 use lib.ListN.{length, set, replicate, length-set, length-map}
 use Rattle.laws.specs.Lists.{_∈_}
-use Rattle.ranking.specs.declared.Weights.{Weights}
-use Rattle.laws.proofs.Tests.{Tested, passed, failed, tested, and-both}
+use Rattle.values.specs.declared.Values.{Values}
+use Rattle.ranking.specs.declared.Rule.{Rule}
+use Rattle.laws.proofs.Tests.{Tested, passed, failed, tested, and-both, if-so, if-not}
 use Rattle.laws.proofs.Lists.{there, getD-in}
 use Rattle.window.specs.declared.Fresh.{Fresh}
 use Rattle.window.specs.Rows.{sized, freshWindow, fitWindow, added}
-use Rattle.window.specs.History.{Values}
 use Rattle.window.proofs.History.{Since, since-fresh, since-added}
 use Rattle.question.specs.declared.Question.{Question}
 use Rattle.question.specs.Lines.{emptySlot, inRows}
-use Rattle.question.specs.Calls.{allOf, stepCall, beginCall}
-use Rattle.laws.proofs.Tests.{if-so, if-not}
+use Rattle.list.specs.Lines.{allOf}
+use Rattle.question.specs.Calls.{stepCall, beginCall}
 use Rattle.question.proofs.Listed.{all-in}
 use Rattle.slot.specs.declared.Seated.{Seated}
 use Rattle.slot.specs.Asking.{setIn, emptyRefusal, emptied}
@@ -81,29 +81,29 @@ module _ {n : ℕ} {past : List Values} (b : Board) (kept : Kept n past b) where
   fit : fitWindow (b .window) ≡ true
   fit = kept .since .fit
 
-  set-slot : (slot k : ℕ) (weights : Weights) → slot < 32 → Slot (b .window) (setIn (slotAt b slot) k weights (inRows (b .window)) .question)
-  set-slot slot k weights h = go (tested (eqb (seated .refusal) 0))
+  set-slot : (slot k : ℕ) (rule : Rule) → slot < 32 → Slot (b .window) (setIn (slotAt b slot) k rule (inRows (b .window)) .question)
+  set-slot slot k rule h = go (tested (eqb (seated .refusal) 0))
     where
       seated : Seated
-      seated = setIn (slotAt b slot) k weights (inRows (b .window))
+      seated = setIn (slotAt b slot) k rule (inRows (b .window))
 
       go : Tested (eqb (seated .refusal) 0) → Slot (b .window) (seated .question)
-      go (passed t) = stands (set-stands (b .window) fit (slotAt b slot) k weights (eqb-true (seated .refusal) 0 t))
-      go (failed t) = subst (Slot (b .window)) (sym (set-kept (slotAt b slot) k weights (inRows (b .window)) (eqb-false (seated .refusal) 0 t))) (slot-of b kept slot h)
+      go (passed t) = stands (set-stands (b .window) fit (slotAt b slot) k rule (eqb-true (seated .refusal) 0 t))
+      go (failed t) = subst (Slot (b .window)) (sym (set-kept (slotAt b slot) k rule (inRows (b .window)) (eqb-false (seated .refusal) 0 t))) (slot-of b kept slot h)
 
-  pub kept-set : (slot k : ℕ) (weights : Weights) → Kept n past (setCall b slot k weights .board)
+  pub kept-set : (slot k : ℕ) (rule : Rule) → Kept n past (setCall b slot k rule .board)
   unfolding setCall
-  kept-set slot k weights = go (tested (fitBoard b)) (tested (ltb slot 32))
+  kept-set slot k rule = go (tested (fitBoard b)) (tested (ltb slot 32))
     where
       P : Placed → Type 0
       P r = Kept n past (r .board)
 
-      go : Tested (fitBoard b) → Tested (ltb slot 32) → Kept n past (setCall b slot k weights .board)
+      go : Tested (fitBoard b) → Tested (ltb slot 32) → Kept n past (setCall b slot k rule .board)
       go (failed f) t = subst P (sym (if-not _ _ f)) kept
-      go (passed f) (failed t) = subst P (sym (if-so _ _ f ∙ set-nowhere b slot k weights (ltb-false slot 32 t))) kept
+      go (passed f) (failed t) = subst P (sym (if-so _ _ f ∙ set-nowhere b slot k rule (ltb-false slot 32 t))) kept
       go (passed f) (passed t) =
           let h = ltb-true slot 32 t in
-          subst P (sym (if-so _ _ f ∙ set-there b slot k weights h)) (kept-slot b kept slot (setIn (slotAt b slot) k weights (inRows (b .window)) .question) (set-slot slot k weights h))
+          subst P (sym (if-so _ _ f ∙ set-there b slot k rule h)) (kept-slot b kept slot (setIn (slotAt b slot) k rule (inRows (b .window)) .question) (set-slot slot k rule h))
 
   removed-slot : (slot : ℕ) → slot < 32 → Slot (b .window) (emptied (slotAt b slot))
   removed-slot slot h = go (tested (eqb (emptyRefusal (slotAt b slot .k)) 0))
@@ -127,40 +127,40 @@ module _ {n : ℕ} {past : List Values} (b : Board) (kept : Kept n past b) where
           subst P (sym (if-so _ _ f ∙ remove-there b slot h)) (kept-slot b kept slot (emptied (slotAt b slot)) (removed-slot slot h))
 
   -- Entering, where nothing refuses it.
-  kept-entered : (v : Values) → fitBoard b ≡ true → enterRefusal (b .window .entered) (v .loss) (v .shake) ≡ 0
-      → Kept n (past ++ (v ∷ [])) (record { window = added (b .window) (v .loss) (v .shake); slots = map (λ q. turned (b .window) (v .loss) (v .shake) q .question) (b .slots) })
+  kept-entered : (v : Values) → fitBoard b ≡ true → enterRefusal (b .window .counts) v ≡ 0
+      → Kept n (past ++ (v ∷ [])) (record { window = added (b .window) v; slots = map (λ q. turned (b .window) v q .question) (b .slots) })
   unfolding fitBoard
   kept-entered v f t =
       let w = b .window in
-      let may = enterable (w .entered) (v .loss) (v .shake) t in
+      let may = enterable (w .counts) v t in
       let slots-fit = and-both (fitWindow (b .window)) (allOf (slotFit (b .window)) (b .slots)) f .1 in
       record {
-        since = since-added n past w v (kept .since) (may .loss-fits) (may .shake-fits) (omega (arith, may .room, kept .since .all-entered));
-        many = length-map (b .slots) (λ q. turned w (v .loss) (v .shake) q .question) ∙ kept .many;
+        since = since-added n past w v (kept .since) (may .permitted) (omega (arith, may .room, kept .since .all-entered));
+        many = length-map (b .slots) (λ q. turned w v q .question) ∙ kept .many;
         each = λ z m.
-            let r = Memᴰ·of-map (λ q. turned w (v .loss) (v .shake) q .question) (b .slots) m in
-            subst (Slot (added w (v .loss) (v .shake))) (r .2) (go (r .0) (all-in (slotFit w) (b .slots) slots-fit (r .0) (r .1)) (kept .each (r .0) (r .1)));
+            let r = Memᴰ·of-map (λ q. turned w v q .question) (b .slots) m in
+            subst (Slot (added w v)) (r .2) (go (r .0) (all-in (slotFit w) (b .slots) slots-fit (r .0) (r .1)) (kept .each (r .0) (r .1)));
       }
     where
-      may-enter : Enterable (b .window .entered) (v .loss) (v .shake)
-      may-enter = enterable (b .window .entered) (v .loss) (v .shake) t
+      may-enter : Enterable (b .window .counts) v
+      may-enter = enterable (b .window .counts) v t
 
-      go : (q : Question) → slotFit (b .window) q ≡ true → Slot (b .window) q → Slot (added (b .window) (v .loss) (v .shake)) (turned (b .window) (v .loss) (v .shake) q .question)
-      go q s (state.empty e) = state.empty (ap (λ p. turned (b .window) (v .loss) (v .shake) p .question) e ∙ ap (λ r. r .question) (empty-stays (newReport (b .window) (v .loss) (v .shake)) (outgoing (b .window)) (inRows (added (b .window) (v .loss) (v .shake)))))
-      go q s (stands x) = stands (turned-stands (b .window) fit (kept .since .whole) (v .loss) (v .shake) (may-enter .loss-fits) (may-enter .shake-fits) (may-enter .room) q x)
+      go : (q : Question) → slotFit (b .window) q ≡ true → Slot (b .window) q → Slot (added (b .window) v) (turned (b .window) v q .question)
+      go q s (state.empty e) = state.empty (ap (λ p. turned (b .window) v p .question) e ∙ ap (λ r. r .question) (empty-stays (newReport (b .window) v) (outgoing (b .window)) (inRows (added (b .window) v))))
+      go q s (stands x) = stands (turned-stands (b .window) fit (kept .since .whole) v (may-enter .permitted) (may-enter .room) q x)
       go q s (searches x) = absurd (not-searching (b .window) fit q s x)
 
-  pub kept-enter : (v : Values) → Kept n (pastAfter past v (enterCall b (v .loss) (v .shake) .refusal)) (enterCall b (v .loss) (v .shake) .board)
+  pub kept-enter : (v : Values) → Kept n (pastAfter past v (enterCall b v .refusal)) (enterCall b v .board)
   unfolding enterCall enterWork
-  kept-enter v = go (tested (fitBoard b)) (tested (eqb (enterRefusal (b .window .entered) (v .loss) (v .shake)) 0))
+  kept-enter v = go (tested (fitBoard b)) (tested (eqb (enterRefusal (b .window .counts) v) 0))
     where
       P : Entered → Type 0
       P r = Kept n (pastAfter past v (r .refusal)) (r .board)
 
-      go : Tested (fitBoard b) → Tested (eqb (enterRefusal (b .window .entered) (v .loss) (v .shake)) 0) → Kept n (pastAfter past v (enterCall b (v .loss) (v .shake) .refusal)) (enterCall b (v .loss) (v .shake) .board)
+      go : Tested (fitBoard b) → Tested (eqb (enterRefusal (b .window .counts) v) 0) → Kept n (pastAfter past v (enterCall b v .refusal)) (enterCall b v .board)
       go (failed f) t = subst P (sym (if-not _ _ f)) kept
       go (passed f) (failed t) = subst P (sym (if-so _ _ f ∙ if-not _ _ t)) (subst (λ l. Kept n l b) (sym (if-not _ _ t)) kept)
-      go (passed f) (passed t) = subst P (sym (if-so _ _ f ∙ if-so _ _ t)) (kept-entered v f (eqb-true (enterRefusal (b .window .entered) (v .loss) (v .shake)) 0 t))
+      go (passed f) (passed t) = subst P (sym (if-so _ _ f ∙ if-so _ _ t)) (kept-entered v f (eqb-true (enterRefusal (b .window .counts) v) 0 t))
 
 kept-fresh : (n : ℕ) → freshBoard n .refusal ≡ 0 → Kept n [] (freshBoard n .board)
 unfolding freshBoard freshWindow
@@ -178,7 +178,7 @@ kept-fresh n e = go (tested (sized n))
 -- Every reached board.
 pub kept : {n : ℕ} {past : List Values} {b : Board} → Reached n past b → Kept n past b
 kept {n} (fresh e) = kept-fresh n e
-kept (reach.set {b} r slot k weights) = kept-set b (kept r) slot k weights
+kept (reach.set {b} r slot k rule) = kept-set b (kept r) slot k rule
 kept (remove {b} r slot) = kept-remove b (kept r) slot
 kept (enter {b} r v) = kept-enter b (kept r) v
 kept (begin {b} r slot h) = let k = kept r in kept-slot b k slot (beginCall (b .window) (slotAt b slot) .question) (begin-slot (b .window) (k .since .fit) (slotAt b slot) (slot-of b k slot h))

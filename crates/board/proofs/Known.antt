@@ -3,16 +3,17 @@
 use mathlib.Core.Path.{_≡_}
 use mathlib.Core.Bool.{true}
 use Prim.Native.Nat.{ℕ}
-use Rattle.ranking.specs.declared.Weights.{Weights}
+use Rattle.values.specs.declared.Values.{Values}
+use Rattle.ranking.specs.declared.Rule.{Rule}
 use Rattle.laws.proofs.Tests.{if-so}
 use Rattle.board.specs.Work.{setWork, removeWork, readWork, enterWork}
 use Rattle.board.specs.Calls.{fitBoard, setCall, removeCall, readCall, enterCall}
 use Rattle.board.specs.declared.Board.{Board}
 
 module _ (b : Board) (fit : fitBoard b ≡ true) where
-  pub set-known : (slot k : ℕ) (weights : Weights) → setCall b slot k weights ≡ setWork b slot k weights
+  pub set-known : (slot k : ℕ) (rule : Rule) → setCall b slot k rule ≡ setWork b slot k rule
   unfolding setCall
-  set-known slot k weights = if-so _ _ fit
+  set-known slot k rule = if-so _ _ fit
 
   pub remove-known : (slot : ℕ) → removeCall b slot ≡ removeWork b slot
   unfolding removeCall
@@ -22,6 +23,6 @@ module _ (b : Board) (fit : fitBoard b ≡ true) where
   unfolding readCall
   read-known slot = if-so _ _ fit
 
-  pub enter-known : (loss shake : ℕ) → enterCall b loss shake ≡ enterWork b loss shake
+  pub enter-known : (v : Values) → enterCall b v ≡ enterWork b v
   unfolding enterCall
-  enter-known loss shake = if-so _ _ fit
+  enter-known v = if-so _ _ fit

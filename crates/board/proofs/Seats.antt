@@ -8,11 +8,12 @@ use borrow.Author.Tests.{ltb-true, lt-ltb, le-ltb, ltb-false}
 use lib.Dec.{ltb}
 use lib.ListN.{set}
 use lib.Seq.{set-getD}
-use Rattle.ranking.specs.declared.Weights.{Weights}
+use Rattle.ranking.specs.declared.Rule.{Rule}
 use Rattle.laws.proofs.Tests.{Tested, passed, failed, tested}
 use Rattle.window.specs.Rows.{standing}
 use Rattle.question.specs.declared.Question.{Question}
-use Rattle.question.specs.Lines.{rowsOf, inRows}
+use Rattle.list.specs.Rows.{rowsOf}
+use Rattle.question.specs.Lines.{inRows}
 use Rattle.laws.proofs.Tests.{if-so, if-not}
 use Rattle.slot.specs.declared.Seated.{Seated}
 use Rattle.slot.specs.declared.Shown.{Shown}
@@ -38,44 +39,44 @@ module _ (b : Board) (slot : ℕ) where
 
   -- ---- setting
 
-  module _ (k : ℕ) (weights : Weights) where
+  module _ (k : ℕ) (rule : Rule) where
     abbrev seated : Seated
-    seated = setIn (slotAt b slot) k weights (inRows (b .window))
+    seated = setIn (slotAt b slot) k rule (inRows (b .window))
 
-    pub set-nowhere : 32 ≤ slot → setWork b slot k weights ≡ record { refusal = 13; steps = 0; board = b }
+    pub set-nowhere : 32 ≤ slot → setWork b slot k rule ≡ record { refusal = 13; steps = 0; board = b }
     unfolding setWork
     set-nowhere h = if-not _ _ (le-ltb slot 32 h)
 
-    pub set-there : slot < 32 → setWork b slot k weights ≡ record { refusal = seated .refusal; steps = seated .steps; board = withSlot b slot (seated .question) }
+    pub set-there : slot < 32 → setWork b slot k rule ≡ record { refusal = seated .refusal; steps = seated .steps; board = withSlot b slot (seated .question) }
     unfolding setWork
     set-there h = if-so _ _ (lt-ltb slot 32 h)
 
     -- The same, of a slot that was handed the window's rows.
-    pub set-seated : slot < 32 → {s : Seated} → s ≡ setIn (slotAt b slot) k weights (standing (rowsOf (b .window .losses) (b .window .shakes) (b .window .numbers)) 1024)
-        → setWork b slot k weights ≡ record { refusal = s .refusal; steps = s .steps; board = withSlot b slot (s .question) }
+    pub set-seated : slot < 32 → {s : Seated} → s ≡ setIn (slotAt b slot) k rule (standing (rowsOf (b .window .losses) (b .window .shakes) (b .window .numbers)) 1024)
+        → setWork b slot k rule ≡ record { refusal = s .refusal; steps = s .steps; board = withSlot b slot (s .question) }
     unfolding inRows
     set-seated h e =
         set-there h
-        ∙ sym (ap (λ (t : Seated). record { refusal = t .refusal; steps = t .steps; board = withSlot b slot (t .question) }) (e ∙ ap (setIn (slotAt b slot) k weights) (rows-alone (b .window) 1024)))
+        ∙ sym (ap (λ (t : Seated). record { refusal = t .refusal; steps = t .steps; board = withSlot b slot (t .question) }) (e ∙ ap (setIn (slotAt b slot) k rule) (rows-alone (b .window) 1024)))
 
     -- A refused question leaves the board.
-    pub set-kept : (setWork b slot k weights .refusal ≡ 0 → ⊥) → setWork b slot k weights .board ≡ b
+    pub set-kept : (setWork b slot k rule .refusal ≡ 0 → ⊥) → setWork b slot k rule .board ≡ b
     set-kept n = go (tested (ltb slot 32))
       where
-        go : Tested (ltb slot 32) → setWork b slot k weights .board ≡ b
+        go : Tested (ltb slot 32) → setWork b slot k rule .board ≡ b
         go (failed t) = ap (λ (r : Placed). r .board) (set-nowhere (ltb-false slot 32 t))
         go (passed t) =
             let is = set-there (ltb-true slot 32 t) in
-            ap (λ (r : Placed). r .board) is ∙ same-with (one.set-kept (slotAt b slot) k weights (inRows (b .window)) (λ e. n (ap (λ (r : Placed). r .refusal) is ∙ e)))
+            ap (λ (r : Placed). r .board) is ∙ same-with (one.set-kept (slotAt b slot) k rule (inRows (b .window)) (λ e. n (ap (λ (r : Placed). r .refusal) is ∙ e)))
 
     -- A question that can be set.
     pub record Settable : Type 0 where
       pub there : slot < 32
       pub taken : seated .refusal ≡ 0
-      pub asks : Asks k weights
+      pub asks : Asks k rule
       pub free : slotAt b slot .k ≡ 0
 
-    pub settable : setWork b slot k weights .refusal ≡ 0 → Settable
+    pub settable : setWork b slot k rule .refusal ≡ 0 → Settable
     settable e = go (tested (ltb slot 32))
       where
         go : Tested (ltb slot 32) → Settable
@@ -83,7 +84,7 @@ module _ (b : Board) (slot : ℕ) where
         go (passed t) =
             let h = ltb-true slot 32 t in
             let free = sym (ap (λ (r : Placed). r .refusal) (set-there h)) ∙ e in
-            let may = one.set-asks (slotAt b slot) k weights (inRows (b .window)) free in
+            let may = one.set-asks (slotAt b slot) k rule (inRows (b .window)) free in
             record { there = h; taken = free; asks = may .0; free = may .1 }
 
   -- ---- removing

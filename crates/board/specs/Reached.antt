@@ -4,8 +4,8 @@ use mathlib.Core.Path.{_≡_}
 use mathlib.Core.Bool.{cond}
 use mathlib.Core.List.{List, [], _∷_, _++_}
 use lib.Dec.{eqb}
-use Rattle.ranking.specs.declared.Weights.{Weights}
-use Rattle.window.specs.History.{Values}
+use Rattle.values.specs.declared.Values.{Values}
+use Rattle.ranking.specs.declared.Rule.{Rule}
 use Rattle.question.specs.Calls.{stepCall, beginCall}
 use Rattle.slot.specs.Gauges.{slotCount}
 use Rattle.board.specs.Work.{slotAt, withSlot, freshBoard}
@@ -19,8 +19,8 @@ pastAfter past v refusal = cond (eqb refusal 0) (past ++ (v ∷ [])) past
 -- "States reached from fresh ones: one window with its 32 slots, each call handed them as the call before left them, a stepped question standing in its slot." `past` is what was entered, in that order.
 pub data Reached (n : ℕ) : List Values → Board → Type 0 where
   fresh : freshBoard n .refusal ≡ 0 → Reached n [] (freshBoard n .board)
-  set : {past : List Values} {b : Board} → Reached n past b → (slot k : ℕ) (weights : Weights) → Reached n past (setCall b slot k weights .board)
+  set : {past : List Values} {b : Board} → Reached n past b → (slot k : ℕ) (rule : Rule) → Reached n past (setCall b slot k rule .board)
   remove : {past : List Values} {b : Board} → Reached n past b → (slot : ℕ) → Reached n past (removeCall b slot .board)
-  enter : {past : List Values} {b : Board} → Reached n past b → (v : Values) → Reached n (pastAfter past v (enterCall b (v .loss) (v .shake) .refusal)) (enterCall b (v .loss) (v .shake) .board)
+  enter : {past : List Values} {b : Board} → Reached n past b → (v : Values) → Reached n (pastAfter past v (enterCall b v .refusal)) (enterCall b v .board)
   begin : {past : List Values} {b : Board} → Reached n past b → (slot : ℕ) → slot < slotCount → Reached n past (withSlot b slot (beginCall (b .window) (slotAt b slot) .question))
   step : {past : List Values} {b : Board} → Reached n past b → (slot : ℕ) → slot < slotCount → Reached n past (withSlot b slot (stepCall (b .window) (slotAt b slot) .question))

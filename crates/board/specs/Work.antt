@@ -1,13 +1,16 @@
 -- What setting, removing, reading and entering do to a board, whatever it holds (document 01, "Window and questions" and "Entering a report").
 use Prim.Native.Nat.{ℕ, _+_, _-_}
-use mathlib.Core.Bool.{false, cond, _&&_}
+use mathlib.Core.Bool.{false, cond}
 use mathlib.Core.List.{map}
 use lib.ListN.{getD, set, replicate}
-use lib.Dec.{leb, ltb, eqb}
-use Rattle.ranking.specs.declared.Weights.{Weights}
+use lib.Dec.{ltb, eqb}
+use Rattle.values.specs.declared.Values.{Values}
+use Rattle.values.specs.Range.{inRange}
+use Rattle.ranking.specs.declared.Rule.{Rule}
 use Rattle.ranking.specs.Standing.{Held}
+use Rattle.window.specs.declared.Counts.{Counts}
 use Rattle.window.specs.declared.Window.{Window}
-use Rattle.window.specs.Rows.{freshWindow, added}
+use Rattle.window.specs.Rows.{reportLimit, freshWindow, added}
 use Rattle.question.specs.declared.Question.{Question}
 use Rattle.question.specs.Lines.{emptySlot, inRows}
 use Rattle.slot.specs.declared.Shown.{Shown}
@@ -35,10 +38,10 @@ unfoldable pub freshBoard : ℕ → NewBoard
 freshBoard n = record { refusal = freshWindow n .refusal; board = record { window = freshWindow n .window; slots = replicate slotCount emptySlot } }
 
 -- "13: slot over 31", then what setting answers in that slot.
-unfoldable pub setWork : Board → ℕ → ℕ → Weights → Placed
-setWork b slot k weights =
+unfoldable pub setWork : Board → ℕ → ℕ → Rule → Placed
+setWork b slot k rule =
     cond (ltb slot slotCount)
-    (let seated = setIn (slotAt b slot) k weights (inRows (b .window)) in
+    (let seated = setIn (slotAt b slot) k rule (inRows (b .window)) in
     record { refusal = seated .refusal; steps = seated .steps; board = withSlot b slot (seated .question) })
     (record { refusal = 13; steps = 0; board = b })
 
@@ -54,20 +57,20 @@ unfoldable pub readWork : Board → ℕ → Shown
 readWork b slot = cond (ltb slot slotCount) (readIn (slotAt b slot)) (notShown 13)
 
 -- "If more than N are held, the oldest leaves": its number, where one report is added; 0 for none.
-unfoldable pub leaving : (size entered held : ℕ) → ℕ
-leaving size entered held = cond (ltb held size) 0 (entered + 1 - size)
+unfoldable pub leaving : Counts → ℕ
+leaving c = cond (ltb (c .held) (c .size)) 0 (c .entered + 1 - c .size)
 
 -- The report that enters a window.
-abbrev pub newReport : Window → ℕ → ℕ → Held
-newReport w loss shake = record { number = w .entered + 1; loss = loss; shake = shake }
+abbrev pub newReport : Window → Values → Held
+newReport w v = record { number = w .counts .entered + 1; values = v }
 
 -- The number of the report that leaves when one enters a window; 0 for none.
 abbrev pub outgoing : Window → ℕ
-outgoing w = leaving (w .size) (w .entered) (w .held)
+outgoing w = leaving (w .counts)
 
 -- The turn of one question: over the reports that the window then holds.
-abbrev pub turned : Window → ℕ → ℕ → Question → Turned
-turned w loss shake q = turn q (newReport w loss shake) (outgoing w) (inRows (added w loss shake))
+abbrev pub turned : Window → Values → Question → Turned
+turned w v q = turn q (newReport w v) (outgoing w) (inRows (added w v))
 
 -- "A refusal answers its number, every other field 0."
 abbrev pub notEntered : Board → ℕ → Entered
@@ -75,25 +78,25 @@ notEntered b refusal =
     record { refusal = refusal; number = 0; searched = replicate slotCount false; steps = replicate slotCount 0; board = b }
 
 -- "12: loss or shake over 4095. 11: 1,000,000 already entered."
-unfoldable pub enterRefusal : (entered loss shake : ℕ) → ℕ
-enterRefusal entered loss shake = cond (leb loss 4095 && leb shake 4095) (cond (ltb entered 1000000) 0 11) 12
+unfoldable pub enterRefusal : Counts → Values → ℕ
+enterRefusal c v = cond (inRange v) (cond (ltb (c .entered) reportLimit) 0 11) 12
 
 -- What a report's entry comes to, before any question is looked at.
-unfoldable pub arrival : (size entered held loss shake : ℕ) → Arrival
-arrival size entered held loss shake =
-    cond (eqb (enterRefusal entered loss shake) 0)
-    (record { refusal = 0; number = entered + 1; oldest = leaving size entered held })
-    (record { refusal = enterRefusal entered loss shake; number = 0; oldest = 0 })
+unfoldable pub arrival : Counts → Values → Arrival
+arrival c v =
+    cond (eqb (enterRefusal c v) 0)
+    (record { refusal = 0; number = c .entered + 1; oldest = leaving c })
+    (record { refusal = enterRefusal c v; number = 0; oldest = 0 })
 
 -- "The answer is the report number, the set of questions searched, and the steps of each."
-unfoldable pub enterWork : Board → ℕ → ℕ → Entered
-enterWork b loss shake =
-    cond (eqb (enterRefusal (b .window .entered) loss shake) 0)
+unfoldable pub enterWork : Board → Values → Entered
+enterWork b v =
+    cond (eqb (enterRefusal (b .window .counts) v) 0)
     (record {
       refusal = 0;
-      number = b .window .entered + 1;
-      searched = map (λ q. turned (b .window) loss shake q .searched) (b .slots);
-      steps = map (λ q. turned (b .window) loss shake q .steps) (b .slots);
-      board = record { window = added (b .window) loss shake; slots = map (λ q. turned (b .window) loss shake q .question) (b .slots) };
+      number = b .window .counts .entered + 1;
+      searched = map (λ q. turned (b .window) v q .searched) (b .slots);
+      steps = map (λ q. turned (b .window) v q .steps) (b .slots);
+      board = record { window = added (b .window) v; slots = map (λ q. turned (b .window) v q .question) (b .slots) };
     })
-    (notEntered b (enterRefusal (b .window .entered) loss shake))
+    (notEntered b (enterRefusal (b .window .counts) v))

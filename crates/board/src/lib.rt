@@ -1,15 +1,18 @@
 // The window with its 32 slots: standing questions that each have a list.
 ghost use mathlib.Core.Path.{_≡_};
 ghost use Prim.Native.Nat.{_<_};
-ghost use Rattle.question.specs.Calls.{allOf};
+ghost use Rattle.window.specs.Rows.{reportLimit};
+ghost use Rattle.list.specs.Lines.{allOf};
 ghost use Rattle.slot.specs.Fitness.{slotFit};
+ghost use Rattle.slot.specs.Gauges.{slotCount};
 ghost use Rattle.board.specs.Work.{freshBoard, withSlot, setWork, removeWork, readWork, leaving, arrival, notEntered, enterRefusal, enterWork};
 ghost use Rattle.board.specs.Calls.{fitBoard, setCall, removeCall, readCall, enterCall};
 use question::Question;
-use ranking::Grid;
-use ranking::Weights;
+use ranking::Rule;
 use slot::Gauge;
 use slot::Shown;
+use values::Values;
+use window::Counts;
 use window::Window;
 
 // The held reports, and a question in each slot that isn't empty.
@@ -90,11 +93,11 @@ impl Board {
     }
 
     // Sets a question in an empty slot and searches it: the board with it, and the steps. Refused 24, 13, 14, 15, 16.
-    pub fn set(self, slot: u8, k: u8, weights: Weights) -> Placed
-        ensures { λ r. ⌜ r ≡ setCall self slot k weights ⌝ }
+    pub fn set(self, slot: u8, k: u8, rule: Rule) -> Placed
+        ensures { λ r. ⌜ r ≡ setCall self slot k rule ⌝ }
     {
         if self.fit() {
-            return self.set_known(slot, k, weights);
+            return self.set_known(slot, k, rule);
         }
         Placed {
             refusal: Board::UNFIT,
@@ -127,18 +130,18 @@ impl Board {
     }
 
     // Enters a report: its number, which questions were searched, and the steps of each. Refused 24, 12, 11.
-    pub fn enter(self, loss: u16, shake: u16) -> Entered
-        ensures { λ r. ⌜ r ≡ enterCall self loss shake ⌝ }
+    pub fn enter(self, values: Values) -> Entered
+        ensures { λ r. ⌜ r ≡ enterCall self values ⌝ }
     {
         if self.fit() {
-            return self.enter_known(loss, shake);
+            return self.enter_known(values);
         }
         self.not_entered(Board::UNFIT)
     }
 
     // Sets a question on a board that is known to be fit: it is searched over the held reports.
-    pub fn set_known(self, slot: u8, k: u8, weights: Weights) -> Placed
-        ensures { λ r. ⌜ r ≡ setWork self slot k weights ⌝ }
+    pub fn set_known(self, slot: u8, k: u8, rule: Rule) -> Placed
+        ensures { λ r. ⌜ r ≡ setWork self slot k rule ⌝ }
     {
         if Board::SLOTS <= slot {
             return Placed {
@@ -154,7 +157,7 @@ impl Board {
         let seated = slot::set_in(
             question,
             k,
-            weights,
+            rule,
             &window.losses,
             &window.shakes,
             &window.numbers,
@@ -200,27 +203,28 @@ impl Board {
 
     // Enters a report on a board that is known to be fit: each question lists it as its marks say, then the oldest leaves, and
     // each that lists that one is searched afresh.
-    pub fn enter_known(self, loss: u16, shake: u16) -> Entered
-        ensures { λ r. ⌜ r ≡ enterWork self loss shake ⌝ }
+    pub fn enter_known(self, values: Values) -> Entered
+        ensures { λ r. ⌜ r ≡ enterWork self values ⌝ }
     {
         let window = self.window;
-        let refusal = enter_refusal(window.entered, loss, shake);
+        let refusal = enter_refusal(window.counts, values);
         if refusal != 0 {
             return self.not_entered(refusal);
         }
-        self.entering(loss, shake)
+        self.entering(values)
     }
 
     // A report that is not refused enters.
-    fn entering(self, loss: u16, shake: u16) -> Entered
-        requires { ⌜ enterRefusal (self .window .entered) loss shake ≡ 0 ⌝ }
-        ensures { λ r. ⌜ r ≡ enterWork self loss shake ⌝ }
+    fn entering(self, values: Values) -> Entered
+        requires { ⌜ enterRefusal (self .window .counts) values ≡ 0 ⌝ }
+        ensures { λ r. ⌜ r ≡ enterWork self values ⌝ }
     {
         let old = self.slots;
         let before = self.window;
-        let number = before.entered + 1;
-        let gone = leaving(before.size, before.entered, before.held);
-        let window = before.with(loss, shake);
+        let counts = before.counts;
+        let number = counts.entered + 1;
+        let gone = leaving(counts);
+        let window = before.with(values);
         let mut slots = self.slots;
         let mut searched = [false; Gauge::SLOTS];
         let mut steps = [0u16; Gauge::SLOTS];
@@ -229,8 +233,7 @@ impl Board {
             let turned = slot::turn(
                 old[i],
                 number,
-                loss,
-                shake,
+                values,
                 gone,
                 &window.losses,
                 &window.shakes,
@@ -285,7 +288,7 @@ impl Board {
 
     // The board with that question in that slot.
     fn with_slot(self, slot: u8, question: Question) -> Board
-        requires { ⌜ slot < 32 ⌝ }
+        requires { ⌜ slot < slotCount ⌝ }
         ensures { λ r. ⌜ r ≡ withSlot self slot question ⌝ }
     {
         let at = slot as usize;
@@ -297,16 +300,13 @@ impl Board {
 }
 
 // Why a report is not entered; 0 for no reason.
-fn enter_refusal(entered: u32, loss: u16, shake: u16) -> u8
-    ensures { λ r. ⌜ r ≡ enterRefusal entered loss shake ⌝ }
+fn enter_refusal(counts: Counts, values: Values) -> u8
+    ensures { λ r. ⌜ r ≡ enterRefusal counts values ⌝ }
 {
-    if Grid::VALUES <= loss {
+    if !values.in_range() {
         return Board::VALUE_OVER_RANGE;
     }
-    if Grid::VALUES <= shake {
-        return Board::VALUE_OVER_RANGE;
-    }
-    if entered < Window::REPORTS {
+    if counts.entered < Window::REPORTS {
         0
     } else {
         Board::FULL
@@ -314,14 +314,15 @@ fn enter_refusal(entered: u32, loss: u16, shake: u16) -> u8
 }
 
 // The number of the report that leaves when one enters; 0 for none.
-fn leaving(size: u16, entered: u32, held: u16) -> u32
-    requires { ⌜ entered < 1000000 ⌝ }
-    ensures { λ r. ⌜ r ≡ leaving size entered held ⌝ }
+fn leaving(counts: Counts) -> u32
+    requires { ⌜ counts .entered < reportLimit ⌝ }
+    ensures { λ r. ⌜ r ≡ leaving counts ⌝ }
 {
-    if held < size {
+    if counts.held < counts.size {
         return 0;
     }
-    let n = size as u32;
+    let entered = counts.entered;
+    let n = counts.size as u32;
     if entered < n {
         return 0;
     }
@@ -329,11 +330,11 @@ fn leaving(size: u16, entered: u32, held: u16) -> u32
 }
 
 impl Arrival {
-    // What a report's entry into a window of that size comes to, with that many entered and held.
-    pub fn of(size: u16, entered: u32, held: u16, loss: u16, shake: u16) -> Arrival
-        ensures { λ r. ⌜ r ≡ arrival size entered held loss shake ⌝ }
+    // What a report's entry into a window of these counts comes to.
+    pub fn of(counts: Counts, values: Values) -> Arrival
+        ensures { λ r. ⌜ r ≡ arrival counts values ⌝ }
     {
-        let refusal = enter_refusal(entered, loss, shake);
+        let refusal = enter_refusal(counts, values);
         if refusal != 0 {
             return Arrival {
                 refusal,
@@ -343,8 +344,8 @@ impl Arrival {
         }
         Arrival {
             refusal: 0,
-            number: entered + 1,
-            oldest: leaving(size, entered, held),
+            number: counts.entered + 1,
+            oldest: leaving(counts),
         }
     }
 }

@@ -11,7 +11,7 @@ use borrow.Author.Tests.{eqb-true, eqb-false, ne-eqb, ltb-true, ltb-false}
 use lib.Dec.{eqb, ltb, leb}
 use lib.ListN.{length, getD, take, length-map, length-take, getD-replicate}
 use Rattle.wire.specs.Bytes.{number, part}
-use Rattle.ranking.specs.Cells.{inRange}
+use Rattle.values.specs.Range.{inRange}
 use Rattle.ranking.specs.declared.Weights.{Weights}
 use Rattle.laws.proofs.Tests.{Tested, passed, failed, tested, and-both, if-so, if-not, either}
 use Rattle.laws.proofs.Lists.{there, getD-in}

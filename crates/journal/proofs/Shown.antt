@@ -14,7 +14,7 @@ use lib.Signed.{mag}
 use lib.ListN.{length, getD, take, replicate}
 use Rattle.wire.specs.Bytes.{number}
 use Rattle.laws.specs.Lists.{_∈_}
-use Rattle.ranking.specs.Cells.{inRange}
+use Rattle.values.specs.Range.{inRange}
 use Rattle.ranking.specs.Standing.{Held, above, entry}
 use Rattle.ranking.specs.Standing as ranked
 use Rattle.ranking.specs.declared.Weights.{Weights}
@@ -22,7 +22,7 @@ use Rattle.laws.proofs.Tests.{and-both, either}
 use Rattle.laws.proofs.Lists.{here, there}
 use Rattle.search.proofs.Best.{best-of, length-best-le}
 use Rattle.ranking.proofs.Cells.{score-fits}
-use Rattle.ranking.proofs.Standing.{above-strict}
+use Rattle.ranking.proofs.Entries.{above-strict}
 use Rattle.window.specs.declared.Window.{Window}
 use Rattle.window.specs.Rows.{heldReports, fitWindow}
 use Rattle.window.proofs.Fitness.{fit-facts}

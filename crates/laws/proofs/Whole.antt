@@ -2,15 +2,16 @@
 -- "a is at most b" is said as `ltZ b a ≡ false`, which is what the tests say.
 -- Assumes nothing.
 use mathlib.Core.Path.{_≡_, refl, sym, ap, _∙_, subst}
-use mathlib.Core.Bool.{true, false, cond}
+use mathlib.Core.Bool.{true, false, not, cond, _||_}
 use Prim.Native.Nat.{ℕ, zero, suc, _+_, _*_, _≤_}
 use native.Mathlib.Nat.{mul-add}
 use native.Mathlib.Omega.{arith}
-use borrow.Author.Tests.{lt-ltb, le-ltb, ltb-true, ltb-false}
-use lib.Dec.{ltb}
+use borrow.Author.Tests.{lt-ltb, le-ltb, ltb-true, ltb-false, le-leb, lt-leb, not-true}
+use lib.Dec.{ltb, leb}
 use lib.IntN.{ℤ, pos, negsuc, sucℤ, negℤ, natAbs, subℕ, _+ℤ_, _*ℤ_, +ℤ-sucℤ, +ℤ-idr, +ℤ-assoc, +ℤ-comm, +ℤ-invl, negℤ-+ℤ}
-use lib.Signed.{ltZ, mag}
-use Rattle.laws.proofs.Tests.{Tested, passed, failed, tested, clash}
+use lib.Signed.{ltZ, leZ, mag}
+use Rattle.laws.specs.Whole.{equal}
+use Rattle.laws.proofs.Tests.{Tested, passed, failed, tested, clash, or-neither}
 use Rattle.laws.proofs.Orders.{StrictTotal}
 
 irrefl : (a : ℤ) → ltZ a a ≡ false
@@ -26,14 +27,14 @@ trans (negsuc a) (pos b) (negsuc c) p q = clash {b = false} q refl
 trans (negsuc a) (negsuc b) (pos c) p q = refl
 trans (negsuc a) (negsuc b) (negsuc c) p q = lt-ltb c a (omega (arith, ltb-true b a p, ltb-true c b q))
 
-equal : (a b : ℕ) → b ≤ a → a ≤ b → a ≡ b
-equal a b p q = omega arith
+squeezed : (a b : ℕ) → b ≤ a → a ≤ b → a ≡ b
+squeezed a b p q = omega arith
 
 total : (a b : ℤ) → ltZ a b ≡ false → ltZ b a ≡ false → a ≡ b
-total (pos a) (pos b) p q = ap pos (equal a b (ltb-false a b p) (ltb-false b a q))
+total (pos a) (pos b) p q = ap pos (squeezed a b (ltb-false a b p) (ltb-false b a q))
 total (pos a) (negsuc b) p q = clash {b = true} refl q
 total (negsuc a) (pos b) p q = clash {b = true} refl p
-total (negsuc a) (negsuc b) p q = ap negsuc (equal a b (ltb-false a b q) (ltb-false b a p))
+total (negsuc a) (negsuc b) p q = ap negsuc (squeezed a b (ltb-false a b q) (ltb-false b a p))
 
 pub ltZ-strict : StrictTotal ltZ
 ltZ-strict = record { irreflexive = irrefl; transitive = trans; total = total }
@@ -117,3 +118,40 @@ abs-sum (pos a) (pos b) = omega arith
 abs-sum (pos a) (negsuc b) = abs-sub a (suc b)
 abs-sum (negsuc a) (pos b) = omega (arith, abs-sub b (suc a))
 abs-sum (negsuc a) (negsuc b) = omega arith
+
+-- ---- tests
+
+-- "not less" and "at most" are one test
+pub le-is : (a b : ℤ) → not (ltZ a b) ≡ leZ b a
+le-is (pos a) (pos b) = go (tested (ltb a b))
+  where
+    go : Tested (ltb a b) → not (ltb a b) ≡ leb b a
+    go (passed t) = ap not t ∙ sym (lt-leb b a (ltb-true a b t))
+    go (failed t) = ap not t ∙ sym (le-leb b a (ltb-false a b t))
+le-is (pos a) (negsuc b) = refl
+le-is (negsuc a) (pos b) = refl
+le-is (negsuc a) (negsuc b) = go (tested (ltb b a))
+  where
+    go : Tested (ltb b a) → not (ltb b a) ≡ leb a b
+    go (passed t) = ap not t ∙ sym (lt-leb a b (ltb-true b a t))
+    go (failed t) = ap not t ∙ sym (le-leb a b (ltb-false b a t))
+
+pub equal-is : (a b : ℤ) → equal a b ≡ true → a ≡ b
+unfolding equal
+equal-is a b h =
+    let neither = or-neither (ltZ a b) (ltZ b a) (not-true (ltZ a b || ltZ b a) h) in
+    total a b (neither .0) (neither .1)
+
+pub equal-refl : (a : ℤ) → equal a a ≡ true
+unfolding equal
+equal-refl a = rw (irrefl a)
+
+pub equal-same : (a b : ℤ) → a ≡ b → equal a b ≡ true
+equal-same a b e = subst (λ z. equal a z ≡ true) e (equal-refl a)
+
+pub equal-other : (a b : ℤ) → (a ≡ b → ⊥) → equal a b ≡ false
+equal-other a b h = go (tested (equal a b))
+  where
+    go : Tested (equal a b) → equal a b ≡ false
+    go (passed t) = absurd (h (equal-is a b t))
+    go (failed t) = t

@@ -1,2 +1,3 @@
--- Words on lists that definitions use.
+-- Words on lists and numbers that definitions use.
 pub mod Lists
+pub mod Whole

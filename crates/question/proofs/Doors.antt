@@ -1,26 +1,30 @@
 -- What a step and a beginning answer, case by case in the order of refusals, and that the rows of a fit window serve as its held reports.
 -- Assumes nothing.
-use mathlib.Core.Path.{_≡_, sym, ap, _∙_}
+use mathlib.Core.Path.{_≡_, refl, sym, ap, _∙_, subst}
 use mathlib.Core.Logic.{⊎-elim}
-use mathlib.Core.Bool.{Bool, true, false, _&&_}
+use mathlib.Core.Bool.{Bool, true, false, _&&_, and-false}
 use mathlib.Core.List.{List, map, _++_, Memᴰ·append-left, Memᴰ·append-right, Memᴰ·map, Memᴰ·of-map, List·Memᴰ·append-cases}
 use Prim.Native.Nat.{ℕ, _+_, min, _≤_, _<_}
+use native.Mathlib.Omega.{arith}
 use borrow.Author.Tests.{leb-true, leb-false}
 use lib.Dec.{leb, eqb}
 use lib.ListN.{drop}
 use Rattle.laws.specs.Lists.{only}
-use Rattle.ranking.specs.Cells.{cell, inRange, placeOf, cellAt}
+use Rattle.ranking.specs.Cells.{cell, placeOf, cellAt}
+use Rattle.values.specs.Range.{inRange}
 use Rattle.ranking.specs.Standing.{Held, Entry, above, entry}
 use Rattle.laws.proofs.Tests.{Tested, passed, failed, tested, clash, and-both}
 use Rattle.laws.proofs.Lists.{_⊆_, Same, moved, only-in, only-of}
 use Rattle.search.proofs.Best.{best-same}
-use Rattle.ranking.proofs.Standing.{above-strict}
+use Rattle.ranking.proofs.Entries.{above-strict}
 use Rattle.window.specs.declared.Window.{Window}
 use Rattle.window.specs.Rows.{heldReports, fitWindow}
 use Rattle.window.proofs.Standing.{standing-held}
 use Rattle.question.specs.declared.Question.{Question}
-use Rattle.question.specs.Lines.{linesOf, lines, asked, finished, begun, stepped, inRows, stepOn}
-use Rattle.question.specs.Calls.{allOf, heldAs, falls, blank, rangesFit, fitQuestion, stepCall, beginCall}
+use Rattle.list.specs.Lines.{linesOf, allOf, falls, blank}
+use Rattle.question.specs.Lines.{lines, asked, finished, begun, stepped, inRows, stepOn}
+use Rattle.question.specs.Calls.{heldAs, rangesFit, fitQuestion, stepCall, beginCall}
+use Rattle.question.specs.Inner.{stepRefusal}
 use Rattle.question.proofs.Taking.{step-is}
 use Rattle.question.proofs.Ending.{finished-none}
 
@@ -35,11 +39,11 @@ module _ (w : Window) (q : Question) where
   unfolding fitQuestion
   unfit-lines e f = rw (e, f)
 
-  pub unfit-fall : rangesFit q (w .held) ≡ true → allOf (heldAs w (q .weights)) (lines q) ≡ true → falls (lines q) ≡ false → fitQuestion w q ≡ false
+  pub unfit-fall : rangesFit q (w .held) ≡ true → allOf (heldAs w (q .weights)) (lines q) ≡ true → falls above (lines q) ≡ false → fitQuestion w q ≡ false
   unfolding fitQuestion
   unfit-fall e f g = rw (e, f, g)
 
-  pub fit-rest : rangesFit q (w .held) ≡ true → allOf (heldAs w (q .weights)) (lines q) ≡ true → falls (lines q) ≡ true → fitQuestion w q ≡ allOf blank (drop (q .len) (linesOf (q .numbers) (q .scores)))
+  pub fit-rest : rangesFit q (w .held) ≡ true → allOf (heldAs w (q .weights)) (lines q) ≡ true → falls above (lines q) ≡ true → fitQuestion w q ≡ allOf blank (drop (q .len) (linesOf (q .numbers) (q .scores)))
   unfolding fitQuestion
   fit-rest e f g = rw (e, f, g)
 
@@ -74,7 +78,7 @@ ranges q held h =
 pub record Fit (w : Window) (q : Question) : Type 0 where
   pub numbers : Ranges q (w .held)
   pub listed : allOf (heldAs w (q .weights)) (lines q) ≡ true
-  pub falling : falls (lines q) ≡ true
+  pub falling : falls above (lines q) ≡ true
   pub rest : allOf blank (drop (q .len) (linesOf (q .numbers) (q .scores))) ≡ true
 
 pub fit-facts : (w : Window) (q : Question) → fitQuestion w q ≡ true → Fit w q
@@ -82,7 +86,7 @@ unfolding fitQuestion
 fit-facts w q h =
     let A = rangesFit q (w .held) in
     let B = allOf (heldAs w (q .weights)) (lines q) in
-    let C = falls (lines q) in
+    let C = falls above (lines q) in
     let a = and-both (A && B && C) (allOf blank (drop (q .len) (linesOf (q .numbers) (q .scores)))) h in
     let b = and-both (A && B) C (a .0) in
     let c = and-both A B (b .0) in
@@ -149,3 +153,69 @@ module _ (w : Window) (q : Question) where
   pub begin-goes : fitWindow w ≡ true → fitQuestion w q ≡ true → finished q ≡ true → beginCall w q ≡ record { refusal = 0; question = begun q }
   unfolding beginCall
   begin-goes e f g = rw (e, f, g)
+
+-- ---- the answers by what a step is refused with
+
+-- which case it is
+data State (w : Window) (q : Question) : ℕ → Type 0 where
+  unfit : fitWindow w && fitQuestion w q ≡ false → State w q 24
+  ended : fitWindow w ≡ true → fitQuestion w q ≡ true → finished q ≡ true → State w q 25
+  going : fitWindow w ≡ true → fitQuestion w q ≡ true → finished q ≡ false → State w q 0
+
+module _ (w : Window) (q : Question) where
+  state : State w q (stepRefusal w q)
+  unfolding stepRefusal
+  state = go (tested (fitWindow w && fitQuestion w q)) (tested (finished q))
+    where
+      go : Tested (fitWindow w && fitQuestion w q) → Tested (finished q) → State w q (stepRefusal w q)
+      go (failed e) t = rw e (unfit e)
+      go (passed e) (passed t) = let both = and-both (fitWindow w) (fitQuestion w q) e in rw (e, t) (ended (both .0) (both .1) t)
+      go (passed e) (failed t) = let both = and-both (fitWindow w) (fitQuestion w q) e in rw (e, t) (going (both .0) (both .1) t)
+
+  module _ (r : ℕ) (is : r ≡ stepRefusal w q) where
+    known : State w q r
+    known = subst (State w q) (sym is) state
+
+    pub step-refused : (r ≡ 0 → ⊥) → record { refusal = r; question = q } ≡ stepCall w q
+    step-refused some = go known some
+      where
+        go : {n : ℕ} → State w q n → (n ≡ 0 → ⊥) → record { refusal = n; question = q } ≡ stepCall w q
+        go (unfit e) h = sym (step-unfit w q e)
+        go (ended e f g) h = sym (step-ended w q e f g)
+        go (going e f g) h = absurd (h refl)
+
+    pub step-done : r ≡ 0 → record { refusal = 0; question = stepOn q w } ≡ stepCall w q
+    step-done none = go known none
+      where
+        go : {n : ℕ} → State w q n → n ≡ 0 → record { refusal = 0; question = stepOn q w } ≡ stepCall w q
+        go (unfit e) h = absurd (no h)
+          where
+            no : _≡_ {A = ℕ} 24 0 → ⊥
+            no z = omega arith
+        go (ended e f g) h = absurd (no h)
+          where
+            no : _≡_ {A = ℕ} 25 0 → ⊥
+            no z = omega arith
+        go (going e f g) h = sym (step-goes w q e f g)
+
+    pub begin-refused : (r ≡ 25 → ⊥) → record { refusal = 24; question = q } ≡ beginCall w q
+    begin-refused other = go known other
+      where
+        go : {n : ℕ} → State w q n → (n ≡ 25 → ⊥) → record { refusal = 24; question = q } ≡ beginCall w q
+        go (unfit e) h = sym (begin-unfit w q (ap (λ b. b && finished q) e))
+        go (ended e f g) h = absurd (h refl)
+        go (going e f g) h = sym (begin-unfit w q (ap (λ b. fitWindow w && fitQuestion w q && b) g ∙ and-false (fitWindow w && fitQuestion w q)))
+
+    pub begin-done : r ≡ 25 → record { refusal = 0; question = begun q } ≡ beginCall w q
+    begin-done all = go known all
+      where
+        go : {n : ℕ} → State w q n → n ≡ 25 → record { refusal = 0; question = begun q } ≡ beginCall w q
+        go (unfit e) h = absurd (no h)
+          where
+            no : _≡_ {A = ℕ} 24 25 → ⊥
+            no z = omega arith
+        go (ended e f g) h = sym (begin-goes w q e f g)
+        go (going e f g) h = absurd (no h)
+          where
+            no : _≡_ {A = ℕ} 0 25 → ⊥
+            no z = omega arith

@@ -1,19 +1,20 @@
--- When a search has ended, case by case as a question tells it, and told of a list and a place in the visiting order.
+-- When a search has ended, case by case as a question tells it.
 -- Assumes nothing.
-use mathlib.Core.Path.{_≡_, _∙_}
-use mathlib.Core.Bool.{true, false, not, and-false, Bool·not-not}
-use Prim.Native.Nat.{ℕ, _+_, _≤_, _<_}
-use borrow.Author.Tests.{le-leb, lt-leb, ne-eqb, eq-eqb}
+use mathlib.Core.Path.{_≡_, ap₂, _∙_}
+use mathlib.Core.Bool.{true, false, not, _&&_, _||_, and-false, Bool·not-not}
+use Prim.Native.Nat.{_≤_, _<_}
+use borrow.Author.Tests.{le-leb, lt-leb, ne-eqb, eq-eqb, eqb-true}
 use lib.Dec.{eqb}
-use lib.IntN.{pos}
-use lib.ListN.{getD}
 use lib.Signed.{ltZ}
+use Rattle.laws.specs.Lists.{onLast}
 use Rattle.ranking.specs.Cells.{bestScore}
 use Rattle.ranking.specs.Standing.{reaches}
+use Rattle.laws.proofs.Tests.{Tested, passed, failed, tested}
+use Rattle.list.proofs.Bars.{bar-full, bar-open}
 use Rattle.question.specs.declared.Question.{Question}
-use Rattle.question.specs.Lines.{finished}
-use Rattle.question.specs.Inner.{shown}
-use Rattle.question.proofs.Stored.{Roomy, no-lines, last-line}
+use Rattle.question.specs.Lines.{listOf, lines, finished}
+use Rattle.question.specs.Inner.{barOf}
+use Rattle.question.proofs.Stored.{Roomy, no-lines}
 
 module _ (q : Question) where
   pub finished-none : 256 ≤ q .next → finished q ≡ true
@@ -25,12 +26,19 @@ module _ (q : Question) where
     unfolding finished
     finished-other e = rw (lt-leb 256 (q .next) h, ne-eqb (q .len) (q .k) e)
 
-    pub finished-empty : shown q ≡ 0 → finished q ≡ false
+    pub finished-open : barOf q .full ≡ false → finished q ≡ false
     unfolding finished
-    finished-empty e = rw (lt-leb 256 (q .next) h, no-lines q e) (and-false (eqb (q .len) (q .k)))
+    finished-open e = go (tested (eqb (q .len) (q .k)))
+      where
+        go : Tested (eqb (q .len) (q .k)) → finished q ≡ false
+        go (failed t) = rw (lt-leb 256 (q .next) h, t)
+        go (passed t) =
+            rw (lt-leb 256 (q .next) h, no-lines q (bar-open (listOf q) (q .k) e (eqb-true (q .len) (q .k) t))) (and-false (eqb (q .len) (q .k)))
 
-    pub finished-full : Roomy (q .numbers) (q .scores) → q .len ≡ q .k → (i : ℕ) → i + 1 ≡ shown q → finished q ≡ ltZ (bestScore (q .weights) (q .next)) (getD (q .scores) i (pos 0))
+    pub finished-full : Roomy (q .numbers) (q .scores) → barOf q .full ≡ true → finished q ≡ ltZ (bestScore (q .weights) (q .next)) (barOf q .score)
     unfolding finished
-    finished-full r e i f =
-        rw (lt-leb 256 (q .next) h, eq-eqb (q .len) (q .k) e)
-        (last-line q r i f (λ z. not (reaches (q .weights) (q .next) z)) ∙ Bool·not-not (ltZ (bestScore (q .weights) (q .next)) (getD (q .scores) i (pos 0))))
+    finished-full r e =
+        let full = bar-full (listOf q) (q .k) r e in
+        ap₂ (λ a b. a || b && onLast (λ z. not (reaches (q .weights) (q .next) z)) (lines q)) (lt-leb 256 (q .next) h) (eq-eqb (q .len) (q .k) (full .as-many))
+        ∙ full .last (λ z. not (reaches (q .weights) (q .next) z))
+        ∙ Bool·not-not (ltZ (bestScore (q .weights) (q .next)) (barOf q .score))

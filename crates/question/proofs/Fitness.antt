@@ -1,29 +1,16 @@
--- A question's fitness, test by test as it is checked: a walk over the lines keeps what is left to check equal to the whole.
+-- A question's fitness, test by test as it is checked.
 -- Assumes nothing.
-use mathlib.Core.Path.{_≡_, refl, sym, ap, ap₂, _∙_}
-use mathlib.Core.Bool.{Bool, true, false, not, _&&_, _||_}
-use mathlib.Core.List.{List, [], _∷_}
-use Prim.Native.Nat.{ℕ, suc, _+_, _-_, min, _≤_, _<_}
+use mathlib.Core.Path.{_≡_, sym, _∙_}
+use mathlib.Core.Bool.{Bool, true, false, _&&_}
+use Prim.Native.Nat.{ℕ, _+_, _-_, min, _≤_, _<_}
 use native.Mathlib.Nat.{mod-lt}
 use native.Mathlib.Omega.{arith}
-use borrow.Author.Tests.{not-true, leb-true, leb-false, le-leb, lt-leb, ltb-true, eqb-true, eqb-false}
-use lib.Dec.{leb, ltb, eqb}
-use lib.IntN.{ℤ, pos}
-use lib.ListN.{length, take, drop, getD, length-drop, drop-of-length-le}
-use lib.Seq.{take-all}
-use lib.Signed.{ltZ, mag}
-use mir.Facts.{toZ-ofZ}
-use mir.Syntax.{w32}
-use mir.Val.{SFits, toZ, ofZ}
-use Rattle.ranking.specs.Standing.{Entry, above}
-use Rattle.laws.proofs.Tests.{Tested, passed, failed, tested, clash, and-both, or-left, or-right}
-use Rattle.laws.proofs.Words.{kept}
-use Rattle.laws.proofs.Whole.{ltZ-strict}
+use borrow.Author.Tests.{leb-true, leb-false, le-leb, lt-leb, ltb-true}
+use lib.Dec.{leb, ltb}
+use Rattle.laws.proofs.Tests.{Tested, passed, failed, tested, and-both}
 use Rattle.window.specs.Rows.{sized, rowOf}
-use Rattle.question.specs.declared.Question.{Question}
-use Rattle.question.specs.Lines.{linesOf}
-use Rattle.question.specs.Calls.{allOf, equal, holdsNumber, falls}
-use Rattle.question.proofs.Stored.{Roomy, lineAt, drop-line, none-left, length-all, length-front}
+pub use Rattle.list.proofs.Walking.{equal-same, equal-other}
+use Rattle.question.specs.Calls.{holdsNumber}
 
 -- ---- tests in a row
 
@@ -35,151 +22,6 @@ fourth-fails e p q r s = rw (p, q, r, s)
 
 pub fifth-decides : {a b c d : Bool} (e : Bool) → a ≡ true → b ≡ true → c ≡ true → d ≡ true → a && b && c && d && e ≡ e
 fifth-decides e p q r s = rw (p, q, r, s)
-
--- ---- equal numbers
-
-pub equal-same : (a b : ℤ) → a ≡ b → equal a b ≡ true
-unfolding equal
-equal-same a b e =
-    ap (λ z. not (ltZ a z || ltZ z a)) (sym e) ∙ ap (λ t. not (t || t)) (ltZ-strict .irreflexive a)
-
-pub equal-true : (a b : ℤ) → equal a b ≡ true → a ≡ b
-unfolding equal
-equal-true a b h = go (tested (ltZ a b)) (tested (ltZ b a))
-  where
-    neither : ltZ a b || ltZ b a ≡ false
-    neither = not-true (ltZ a b || ltZ b a) h
-
-    go : Tested (ltZ a b) → Tested (ltZ b a) → a ≡ b
-    go (passed e) t = clash (or-left (ltZ a b) (ltZ b a) e) neither
-    go (failed e) (passed f) = clash (or-right (ltZ a b) (ltZ b a) f) neither
-    go (failed e) (failed f) = ltZ-strict .total a b e f
-
-pub equal-other : (a b : ℤ) → (a ≡ b → ⊥) → equal a b ≡ false
-equal-other a b n = go (tested (equal a b))
-  where
-    go : Tested (equal a b) → equal a b ≡ false
-    go (passed e) = absurd (n (equal-true a b e))
-    go (failed e) = e
-
--- by their bits
-pub equal-bits : (a b : ℤ) → SFits w32 a → SFits w32 b → eqb (ofZ w32 a) (ofZ w32 b) ≡ equal a b
-equal-bits a b f g = go (tested (eqb (ofZ w32 a) (ofZ w32 b)))
-  where
-    go : Tested (eqb (ofZ w32 a) (ofZ w32 b)) → eqb (ofZ w32 a) (ofZ w32 b) ≡ equal a b
-    go (passed t) = t ∙ sym (equal-same a b (sym (toZ-ofZ f) ∙ ap (toZ w32) (eqb-true (ofZ w32 a) (ofZ w32 b) t) ∙ toZ-ofZ g))
-    go (failed t) = t ∙ sym (equal-other a b (λ e. eqb-false (ofZ w32 a) (ofZ w32 b) t (ap (ofZ w32) e)))
-
--- ---- a walk over a list
-
--- a walk over the first n lines has come to the line i: what is left to test decides the whole
-pub record Walk (p : Entry → Bool) (whole : Bool) (ns : List ℕ) (ss : List ℤ) (n i : ℕ) : Type 0 where
-  pub up-to : i ≤ n
-  pub within : n ≤ 16
-  pub room : Roomy ns ss
-  pub decides : allOf p (drop i (take n (linesOf ns ss))) ≡ whole
-
--- a line as it is read, its score back from its bits
-abbrev pub readLine : List ℕ → List ℤ → ℕ → Entry
-readLine ns ss i = record { number = getD ns i 0; score = toZ w32 (ofZ w32 (getD ss i (pos 0))) }
-
-module _ {p : Entry → Bool} {whole : Bool} {ns : List ℕ} {ss : List ℤ} {n i : ℕ} (w : Walk p whole ns ss n i) where
-  -- past the last line
-  pub walk-ends : n ≤ i → true ≡ whole
-  walk-ends h =
-      let all : i ≡ n = omega (arith, w .up-to) in
-      sym (ap (allOf p) (none-left ns ss (w .room) n (w .within) i all)) ∙ w .decides
-
-  module _ (h : i < n) (fits : mag (getD ss i (pos 0)) < 2147483648) (t : Bool) (is : t ≡ p (readLine ns ss i)) where
-    here : p (lineAt ns ss i) ≡ t
-    here = ap (λ s. p (record { number = getD ns i 0; score = s })) (sym (kept w32 (getD ss i (pos 0)) fits)) ∙ sym is
-
-    next : allOf p (drop i (take n (linesOf ns ss))) ≡ t && allOf p (drop (i + 1) (take n (linesOf ns ss)))
-    next = ap (allOf p) (drop-line ns ss (w .room) n (w .within) i h) ∙ ap (λ b. b && allOf p (drop (i + 1) (take n (linesOf ns ss)))) here
-
-    -- a line that fails decides
-    pub walk-fails : t ≡ false → false ≡ whole
-    walk-fails f = sym (next ∙ ap (λ b. b && allOf p (drop (i + 1) (take n (linesOf ns ss)))) f) ∙ w .decides
-
-    -- one that passes leaves the rest
-    pub walk-on : t ≡ true → Walk p whole ns ss n (i + 1)
-    walk-on e =
-        record {
-          up-to = omega arith;
-          within = w .within;
-          room = w .room;
-          decides = sym (next ∙ ap (λ b. b && allOf p (drop (i + 1) (take n (linesOf ns ss)))) e) ∙ w .decides;
-        }
-
--- a list of one has nothing to fall
-pub falls-short : (l : List Entry) → length l ≤ 1 → falls l ≡ true
-falls-short [] h = refl
-falls-short (x ∷ []) h = refl
-falls-short (x ∷ y ∷ l) h = absurd (no (length l) h)
-  where
-    no : (n : ℕ) → suc (suc n) ≤ 1 → ⊥
-    no n h = omega arith
-
--- the same for the fall from line to line
-pub record Descent (whole : Bool) (ns : List ℕ) (ss : List ℤ) (n i : ℕ) : Type 0 where
-  pub up-to : i ≤ n
-  pub within : n ≤ 16
-  pub room : Roomy ns ss
-  pub decides : falls (drop i (take n (linesOf ns ss))) ≡ whole
-
-module _ {whole : Bool} {ns : List ℕ} {ss : List ℤ} {n i : ℕ} (w : Descent whole ns ss n i) where
-  pub descent-ends : n ≤ i + 1 → true ≡ whole
-  descent-ends h =
-      sym (falls-short (drop i (take n (linesOf ns ss))) (rw (length-drop i (take n (linesOf ns ss)), length-front ns ss (w .room) n (w .within)) (omega arith)))
-      ∙ w .decides
-
-  module _ (h : i + 1 < n) (fits : mag (getD ss i (pos 0)) < 2147483648) (fits′ : mag (getD ss (i + 1) (pos 0)) < 2147483648) (t : Bool) (is : t ≡ above (readLine ns ss i) (readLine ns ss (i + 1))) where
-    falling : above (lineAt ns ss i) (lineAt ns ss (i + 1)) ≡ t
-    falling =
-        sym
-        (is
-        ∙ ap₂ (λ a b. above (record { number = getD ns i 0; score = a }) (record { number = getD ns (i + 1) 0; score = b }))
-        (kept w32 (getD ss i (pos 0)) fits) (kept w32 (getD ss (i + 1) (pos 0)) fits′))
-
-    after : drop (i + 1) (take n (linesOf ns ss)) ≡ lineAt ns ss (i + 1) ∷ drop (i + 1 + 1) (take n (linesOf ns ss))
-    after = drop-line ns ss (w .room) n (w .within) (i + 1) h
-
-    split : falls (drop i (take n (linesOf ns ss))) ≡ t && falls (drop (i + 1) (take n (linesOf ns ss)))
-    split =
-        ap falls (drop-line ns ss (w .room) n (w .within) i (omega arith) ∙ ap (λ l. lineAt ns ss i ∷ l) after)
-        ∙ ap (λ b. b && falls (lineAt ns ss (i + 1) ∷ drop (i + 1 + 1) (take n (linesOf ns ss)))) falling
-        ∙ ap (λ l. t && falls l) (sym after)
-
-    pub descent-fails : t ≡ false → false ≡ whole
-    descent-fails f = sym (split ∙ ap (λ b. b && falls (drop (i + 1) (take n (linesOf ns ss)))) f) ∙ w .decides
-
-    pub descent-on : t ≡ true → Descent whole ns ss n (i + 1)
-    descent-on e =
-        record {
-          up-to = omega arith;
-          within = w .within;
-          room = w .room;
-          decides = sym (split ∙ ap (λ b. b && falls (drop (i + 1) (take n (linesOf ns ss)))) e) ∙ w .decides;
-        }
-
--- what stands past a list's end
-pub rest-lines : (q : Question) → Roomy (q .numbers) (q .scores) → (i : ℕ) → i ≡ min (q .len) 16 → drop i (take 16 (linesOf (q .numbers) (q .scores))) ≡ drop (q .len) (linesOf (q .numbers) (q .scores))
-rest-lines q r i e = ap (drop i) (take-all 16 l (omega (arith, all))) ∙ go (tested (leb (q .len) 16))
-  where
-    l : List Entry
-    l = linesOf (q .numbers) (q .scores)
-
-    all : length l ≡ 16
-    all = length-all (q .numbers) (q .scores) r
-
-    go : Tested (leb (q .len) 16) → drop i l ≡ drop (q .len) l
-    go (passed t) =
-        let h = leb-true (q .len) 16 t in
-        let same : i ≡ q .len = omega arith in
-        ap (λ m. drop m l) same
-    go (failed t) =
-        let h = leb-false (q .len) 16 t in
-        drop-of-length-le l {i = i} (omega (arith, all)) ∙ sym (drop-of-length-le l {i = q .len} (omega (arith, all)))
 
 -- ---- numbers that are held
 

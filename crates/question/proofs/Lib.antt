@@ -1,6 +1,4 @@
 pub mod Stored
-pub mod Placed
-pub mod Sliding
 pub mod Ending
 pub mod Taking
 pub mod Marking

@@ -18,16 +18,19 @@ use Rattle.ranking.specs.declared.Weights.{Weights}
 use Rattle.laws.proofs.Tests.{and-both, and-true}
 use Rattle.laws.proofs.Lists.{here, there, moved}
 use Rattle.search.proofs.Best.{Falling}
-use Rattle.ranking.proofs.Standing.{above-strict}
+use Rattle.ranking.proofs.Entries.{above-strict}
 use Rattle.window.specs.declared.Window.{Window}
 use Rattle.window.specs.Rows.{rowOf, reportOf, reportIn, heldReports, due, fitWindow}
 use Rattle.window.proofs.Fitness as window
 use Rattle.window.proofs.Reports.{held-in, held-of}
 use Rattle.question.specs.declared.Question.{Question}
-use Rattle.question.specs.Lines.{linesOf, lines, asked}
-use Rattle.question.specs.Calls.{allOf, equal, holdsNumber, heldAs, falls, blank, rangesFit, fitQuestion}
-use Rattle.question.proofs.Stored.{Roomy, lines-asked, take-replicate, length-all, length-lines}
-use Rattle.question.proofs.Fitness.{Holds, holds, row-within, equal-same, equal-true}
+use Rattle.list.specs.Lines.{linesOf, allOf, equal, falls, blank}
+use Rattle.list.proofs.Stored.{take-replicate, length-all, column-numbers, column-scores}
+use Rattle.list.proofs.Walking.{equal-same, equal-true}
+use Rattle.question.specs.Lines.{lines, asked, withList}
+use Rattle.question.specs.Calls.{holdsNumber, heldAs, rangesFit, fitQuestion}
+use Rattle.question.proofs.Stored.{Roomy, lines-asked, length-lines}
+use Rattle.question.proofs.Fitness.{Holds, holds, row-within}
 use Rattle.question.proofs.Doors.{Ranges, Fit, fit-facts}
 
 -- ---- tests over a list
@@ -42,16 +45,16 @@ pub all-is : {A : Type 0} (p : A → Bool) (l : List A) → ((x : A) → x ∈ l
 all-is p [] h = refl
 all-is p (y ∷ l) h = and-true (h y here) (all-is p l (λ x m. h x (there m)))
 
-pub falling-falls : (l : List Entry) → Falling above l → falls l ≡ true
+pub falling-falls : (l : List Entry) → Falling above l → falls above l ≡ true
 falling-falls [] w = refl
 falling-falls (x ∷ []) w = refl
 falling-falls (x ∷ y ∷ l) w = and-true (w .0 y here) (falling-falls (y ∷ l) (w .1))
 
-pub falls-falling : (l : List Entry) → falls l ≡ true → Falling above l
+pub falls-falling : (l : List Entry) → falls above l ≡ true → Falling above l
 falls-falling [] h = tt
 falls-falling (x ∷ []) h = (λ z m. absurd (List·Memᴰ·not-nil m), tt)
 falls-falling (x ∷ y ∷ l) h =
-    let both = and-both (above x y) (falls (y ∷ l)) h in
+    let both = and-both (above x y) (falls above (y ∷ l)) h in
     go (both .0) (falls-falling (y ∷ l) (both .1))
   where
     go : above x y ≡ true → Falling above (y ∷ l) → Falling above (x ∷ y ∷ l)
@@ -139,24 +142,13 @@ fit-asked w fit k weights l next r held fall =
     (le-leb next 256 (r .cell-range)))
     (le-leb (length l) (min k (w .held)) (r .short)))
     (subst (λ m. allOf (heldAs w weights) m ≡ true) (sym back) (all-is (heldAs w weights) l (λ e m. listed w fit weights e .1 (held e m)))))
-    (subst (λ m. falls m ≡ true) (sym back) (falling-falls l fall)))
+    (subst (λ m. falls above m ≡ true) (sym back) (falling-falls l fall)))
     (rest-blank 16 16 (omega arith) l)
   where
     back : lines (asked k weights l next) ≡ l
     back = lines-asked k weights l next (omega (arith, r .small, r .short))
 
 -- ---- a fit question and its meaning
-
-numbers-of : (ns : List ℕ) (ss : List ℤ) → length ns ≡ length ss → map (λ e. e .number) (linesOf ns ss) ≡ ns
-numbers-of [] ss h = refl
-numbers-of (n ∷ ns) [] h = absurd (suc-ne-zero (length ns) h)
-numbers-of (n ∷ ns) (s ∷ ss) h = ap (λ l. n ∷ l) (numbers-of ns ss (suc-inj h))
-
-scores-of : (ns : List ℕ) (ss : List ℤ) → length ns ≡ length ss → map (λ e. e .score) (linesOf ns ss) ≡ ss
-scores-of [] [] h = refl
-scores-of [] (s ∷ ss) h = absurd (suc-ne-zero (length ss) (sym h))
-scores-of (n ∷ ns) [] h = absurd (suc-ne-zero (length ns) h)
-scores-of (n ∷ ns) (s ∷ ss) h = ap (λ l. s ∷ l) (scores-of ns ss (suc-inj h))
 
 module _ {A : Type 0} (f : Entry → A) (d : A) where
   alike : (l : List Entry) → ((e : Entry) → e ∈ l → f e ≡ d) → replicate (length l) d ≡ map f l
@@ -172,7 +164,7 @@ module _ {A : Type 0} (f : Entry → A) (d : A) where
       ap (λ m. f x ∷ m) (column-back n p (omega arith) len l (suc-inj e) rest)
 
 -- A fit question is its list, stored: k, weights, lines and next cell say all of it.
-pub fit-stored : (w : Window) (q : Question) → Roomy (q .numbers) (q .scores) → fitQuestion w q ≡ true → q ≡ asked (q .k) (q .weights) (lines q) (q .next)
+pub fit-stored : (w : Window) (q : Question) → Roomy (q .numbers) (q .scores) → fitQuestion w q ≡ true → q ≡ withList q (lines q)
 fit-stored w q room fit i =
     record {
       k = q .k;
@@ -194,20 +186,17 @@ fit-stored w q room fit i =
         let both = and-both (eqb (e .number) 0) (equal (e .score) (pos 0)) (all-in blank (drop (q .len) L) (facts .rest) e m) in
         (eqb-true (e .number) 0 (both .0), equal-true (e .score) (pos 0) (both .1))
 
-    as-long : length (q .numbers) ≡ length (q .scores)
-    as-long = room .numbers ∙ sym (room .scores)
-
     numbers : q .numbers ≡ take 16 (map (λ e. e .number) (lines q) ++ replicate 16 0)
     numbers =
         sym
         (column-back (λ e. e .number) 0 16 16 (omega arith) (q .len) L (length-all (q .numbers) (q .scores) room) (λ e m. zeros e m .0)
-        ∙ numbers-of (q .numbers) (q .scores) as-long)
+        ∙ column-numbers (q .numbers) (q .scores) room)
 
     scores : q .scores ≡ take 16 (map (λ e. e .score) (lines q) ++ replicate 16 (pos 0))
     scores =
         sym
         (column-back (λ e. e .score) (pos 0) 16 16 (omega arith) (q .len) L (length-all (q .numbers) (q .scores) room) (λ e m. zeros e m .1)
-        ∙ scores-of (q .numbers) (q .scores) as-long)
+        ∙ column-scores (q .numbers) (q .scores) room)
 
     len : q .len ≡ length (lines q)
     len = sym (length-lines q room ∙ few)

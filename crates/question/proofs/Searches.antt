@@ -14,7 +14,8 @@ use lib.ListN.{length, take}
 use lib.Seq.{take-suc}
 use Rattle.laws.specs.Lists.{_∈_, only}
 use Rattle.search.specs.Best.{best}
-use Rattle.ranking.specs.Cells.{inRange, cell, cells, visiting, placeOf, cellAt}
+use Rattle.values.specs.Range.{inRange}
+use Rattle.ranking.specs.Cells.{cell, cells, visiting, placeOf, cellAt}
 use Rattle.search.specs.Search.{entries, heldIn, listAfter, steps, marks, has}
 use Rattle.ranking.specs.Standing.{Held, Entry, above, entry, searchOf, Wanted}
 use Rattle.ranking.specs.declared.Weights.{Weights}
@@ -24,7 +25,8 @@ use Rattle.search.proofs.Best.{Falling, best-of, best-falling, length-best-le}
 use Rattle.search.proofs.Search.{has-in, in-has, held-part, ends, goes-on}
 use Rattle.ranking.proofs.Cells.{length-visiting}
 use Rattle.ranking.proofs.Scan.{place-at, at-place, cell-at, left-none}
-use Rattle.ranking.proofs.Standing.{above-strict, steps-bounded, local, Alike, demand-3, Exact, length-list}
+use Rattle.ranking.proofs.Entries.{above-strict}
+use Rattle.ranking.proofs.Standing.{steps-bounded, local, Alike, demand-3, Exact, length-list}
 use Rattle.window.specs.declared.Window.{Window}
 use Rattle.window.specs.Rows.{heldReports, fitWindow}
 use Rattle.window.proofs.Fitness as window

@@ -20,7 +20,8 @@ use Rattle.ranking.specs.declared.Weights.{Weights}
 use Rattle.laws.proofs.Tests.{Tested, passed, failed, tested, clash}
 use Rattle.search.proofs.Best.{length-best-le}
 use Rattle.search.proofs.Search.{list-zero, list-suc, ends}
-use Rattle.ranking.proofs.Standing.{above-strict, steps-bounded}
+use Rattle.ranking.proofs.Entries.{above-strict}
+use Rattle.ranking.proofs.Standing.{steps-bounded}
 use Rattle.ranking.proofs.Scan.{place-at, cell-at, left-at, left-none}
 use Rattle.laws.proofs.Lists.{getD-past, lt-or-eq, only-same}
 use Rattle.question.specs.declared.Question.{Question}

@@ -1,33 +1,41 @@
--- What a scan does to a list: the lines one after the other, and then the rows' reports, are put in their rank and the list is cut, which is the best k of them all.
+-- What a step does to a list: the rows' reports of its cell are put in their rank one after the other and the list is cut, which is the best k of them all.
 -- Assumes nothing.
-use mathlib.Core.Path.{_≡_, sym, ap, ap₂, _∙_, subst}
+use mathlib.Core.Path.{_≡_, sym, ap, ap₂, _∙_}
 use mathlib.Core.Logic.{⊎-elim}
 use mathlib.Core.Bool.{Bool, true, false, _&&_, and-false}
 use mathlib.Core.List.{List, [], _∷_, _++_, map, append-nil, List·Memᴰ·head, List·Memᴰ·cases-cons, Memᴰ·append-left, Memᴰ·append-right, List·Memᴰ·append-cases}
-use Prim.Native.Nat.{ℕ, suc, _+_, _≤_, _<_}
+use Prim.Native.Nat.{ℕ, suc, _+_, min, _≤_, _<_}
 use native.Mathlib.Numerals.{add-one}
 use native.Mathlib.Omega.{arith}
 use borrow.Author.Tests.{lt-leb, le-leb, le-ltb, lt-ltb}
 use lib.Dec.{eqb, leb, ltb}
-use lib.IntN.{ℤ}
 use lib.ListN.{length, take, getD, length-take}
-use lib.Seq.{take-take, take-nil}
-use Rattle.laws.specs.Lists.{only}
+use lib.Seq.{take-take}
 use Rattle.search.specs.Best.{best, place}
+use Rattle.laws.specs.Lists.{only}
 use Rattle.ranking.specs.Cells.{cell, placeOf, cellAt}
 use Rattle.ranking.specs.Standing.{Held, Entry, above, entry}
 use Rattle.ranking.specs.declared.Weights.{Weights}
-use Rattle.laws.proofs.Tests.{Tested, passed, failed, tested, and-true, if-so, if-not}
-use Rattle.laws.proofs.Lists.{_⊆_, there, only-yes, only-no}
-use Rattle.search.proofs.Best.{best-cons, best-snoc, best-append, best-same, length-best-le}
-use Rattle.ranking.proofs.Standing.{above-strict}
+use Rattle.laws.proofs.Tests.{Tested, passed, failed, tested, and-true}
+use Rattle.laws.proofs.Lists.{_⊆_, there}
+use Rattle.search.proofs.Best.{best-cons, best-append, best-same, length-best-le}
+use Rattle.ranking.proofs.Entries.{above-strict}
 use Rattle.window.specs.declared.Window.{Window}
 use Rattle.window.specs.Rows.{reportIn, standing}
+pub use Rattle.list.proofs.Choices.{if-so, if-not}
+use Rattle.list.proofs.Stored.{fewest, lines-back}
 use Rattle.question.specs.declared.Question.{Question}
-use Rattle.question.specs.Lines.{linesOf, lines, asked, cutToK, stepped, stepOn, inRows}
+use Rattle.question.specs.Lines.{lines, asked, withList, cutToK, taken, stepped, stepOn, inRows}
 use Rattle.question.specs.Inner.{joined, taking, listTaken, at}
-use Rattle.question.proofs.Stored.{Roomy, lineAt, take-line, lines-asked}
-use Rattle.question.proofs.Placed.{Has, has-none}
+use Rattle.question.proofs.Stored.{lines-asked}
+
+-- ---- tests
+
+only-yes : {A : Type 0} (p : A → Bool) (x : A) (l : List A) → p x ≡ true → only p (x ∷ l) ≡ x ∷ only p l
+only-yes p x l e = rw (e, only)
+
+only-no : {A : Type 0} (p : A → Bool) (x : A) (l : List A) → p x ≡ false → only p (x ∷ l) ≡ only p l
+only-no p x l e = rw (e, only)
 
 module _ (q : Question) (h : Held) where
   pub taking-none : eqb (h .number) 0 ≡ true → taking q h ≡ q
@@ -57,29 +65,12 @@ joined-best k w l next e small =
     joined-asked k w (best above k l) next e small (omega (arith, length-best-le above above-strict k l))
     ∙ ap (λ m. asked k w m next) (sym (best-cons above above-strict k e l))
 
--- ---- the lines
-
-pub ranked-none : (first : Question) (k : ℕ) (w : Weights) (next : ℕ) → first ≡ asked k w [] next → Has first first (best above (first .k) [])
-ranked-none first k w next e = subst (Has first first) (sym (take-nil (first .k))) (has-none first k w next e)
-
-module _ (ns : List ℕ) (ss : List ℤ) (r : Roomy ns ss) (n : ℕ) (h : n ≤ 16) (i : ℕ) (g : i < n) where
-  pub ranked-more : (first q p : Question) → first .k ≤ 16 → Has first q (best above (first .k) (take i (take n (linesOf ns ss)))) → p ≡ joined q (lineAt ns ss i) → Has first p (best above (first .k) (take (i + 1) (take n (linesOf ns ss))))
-  ranked-more first q p small has e =
-      record {
-        room = omega (arith, length-best-le above above-strict k (take (i + 1) L));
-        is =
-            e
-            ∙ ap (λ b. joined b (lineAt ns ss i)) (has .is)
-            ∙ joined-asked k (first .weights) (best above k (take i L)) (first .next) (lineAt ns ss i) small (has .room)
-            ∙ ap (λ m. asked k (first .weights) m (first .next))
-            (sym (best-snoc above above-strict k (take i L) (lineAt ns ss i)) ∙ ap (best above k) (sym (take-line ns ss r n h i g)));
-      }
-    where
-      k : ℕ
-      k = first .k
-
-      L : List Entry
-      L = take n (linesOf ns ss)
+-- room for k lines, or for 16, is the list with the entry cut to k
+pub within-joined : (q : Question) (x : Entry) → withList q (take (min (q .k) 16) (place above x (lines q))) ≡ joined q x
+within-joined q x = ap (withList q) (fewest (q .k) 16 whole ∙ ap (take (q .k)) (sym (lines-back (take 16 whole) (rw length-take (omega arith)))))
+  where
+    whole : List Entry
+    whole = place above x (lines q)
 
 -- ---- the rows
 
@@ -98,7 +89,7 @@ module _ (q : Question) (small : q .k ≤ 16) (w : Window) where
       old = map (entry (q .weights)) (only inCell (standing w row))
 
       listing : List Entry → Question
-      listing l = asked (q .k) (q .weights) (best above (q .k) l) (q .next)
+      listing l = withList q (best above (q .k) l)
 
       rows : List Held → Question
       rows hs = listing (lines q ++ map (entry (q .weights)) (only inCell hs))
@@ -128,29 +119,29 @@ module _ (q : Question) (small : q .k ≤ 16) (w : Window) where
       go (failed z) (passed t) =
           taking-here (listTaken q w row) (reportIn w row) z t
           ∙ joined-best (q .k) (q .weights) (lines q ++ old) (q .next) e small
-          ∙ ap (λ l. asked (q .k) (q .weights) l (q .next)) (sym middle)
+          ∙ ap (withList q) (sym middle)
           ∙ ap (λ hs. listing (lines q ++ map (entry (q .weights)) hs)) (sym (only-yes inCell (reportIn w row) (standing w row) t))
           ∙ ap rows (sym (if-not (standing w row) (reportIn w row ∷ standing w row) z))
 
 -- a list that is ranked first
-module _ (q first : Question) (small : q .k ≤ 16) (e : first ≡ asked (q .k) (q .weights) (best above (q .k) (lines q)) (q .next)) (w : Window) where
+module _ (q first : Question) (small : q .k ≤ 16) (e : first ≡ withList q (best above (q .k) (lines q))) (w : Window) where
   first-lines : lines first ≡ best above (q .k) (lines q)
   first-lines =
       ap lines e
-      ∙ lines-asked (q .k) (q .weights) (best above (q .k) (lines q)) (q .next) (omega (arith, length-best-le above above-strict (q .k) (lines q)))
+      ∙ lines-back (best above (q .k) (lines q)) (omega (arith, length-best-le above above-strict (q .k) (lines q)))
 
   -- and then rows are taken: as if it had not been
   pub taken-same : (n : ℕ) → listTaken first w n ≡ listTaken q w n
   taken-same n =
-      ap₂ (λ b l. asked (b .k) (b .weights) (best above (b .k) (l ++ rows b)) (b .next)) e first-lines
-      ∙ ap (λ l. asked (q .k) (q .weights) l (q .next)) (best-append above above-strict (q .k) (lines q) (rows q))
+      ap₂ (λ b l. withList b (best above (b .k) (l ++ rows b))) e first-lines
+      ∙ ap (withList q) (best-append above above-strict (q .k) (lines q) (rows q))
     where
       rows : Question → List Entry
       rows b = map (entry (b .weights)) (only (λ h. eqb (cell (h .loss) (h .shake)) (b .next)) (standing w n))
 
   -- before the first row
   pub taken-none : first ≡ listTaken first w 0
-  taken-none = e ∙ ap (λ l. asked (q .k) (q .weights) (best above (q .k) l) (q .next)) (sym (append-nil (lines q))) ∙ sym (taken-same 0)
+  taken-none = e ∙ ap (λ l. withList q (best above (q .k) l)) (sym (append-nil (lines q))) ∙ sym (taken-same 0)
 
 -- ---- a step
 

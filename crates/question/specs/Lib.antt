@@ -1,4 +1,4 @@
 -- One question: its list, its marks and its search; what the functions of `question` are held to.
 pub mod Lines
-pub mod Inner
 pub mod Calls
+pub mod Inner

@@ -2,9 +2,9 @@
 use Prim.Native.Nat.{ℕ, zero, suc, _+_}
 use mathlib.Core.Bool.{Bool, cond, not, _&&_, _||_}
 use mathlib.Core.List.{List, [], _∷_, _++_, map}
-use lib.ListN.{length, take, replicate}
+use lib.ListN.{length, take}
 use lib.Dec.{leb, ltb, eqb}
-use lib.IntN.{ℤ, pos}
+use lib.IntN.{pos}
 use Rattle.ranking.specs.declared.Weights.{Weights}
 use Rattle.laws.specs.Lists.{onLast, only}
 use Rattle.search.specs.Best.{best, place}
@@ -13,30 +13,34 @@ use Rattle.search.specs.Search.{has, steps, found}
 use Rattle.ranking.specs.Standing.{Held, Entry, above, entry, reaches, searchOf}
 use Rattle.window.specs.declared.Window.{Window}
 use Rattle.window.specs.Rows.{standing}
+use Rattle.list.specs.declared.Lines.{Lines}
+use Rattle.list.specs.Lines.{room, numbersOf, scoresOf, stored, linesIn}
+pub use Rattle.list.specs.Lines.{linesOf}
+pub use Rattle.list.specs.Rows.{rowsOf}
 use Rattle.question.specs.declared.Question.{Question}
 use Rattle.question.specs.declared.Searched.{Searched}
 
--- The lines of a list, from their numbers and scores.
-abbrev pub linesOf : List ℕ → List ℤ → List Entry
-linesOf [] ss = []
-linesOf (n ∷ ns) [] = []
-linesOf (n ∷ ns) (s ∷ ss) = record { number = n; score = s } ∷ linesOf ns ss
+-- A question's list.
+abbrev pub listOf : Question → Lines
+listOf q = record { numbers = q .numbers; scores = q .scores; len = q .len }
 
--- A question's list, best first.
+-- Its lines, best first.
 abbrev pub lines : Question → List Entry
-lines q = take (q .len) (linesOf (q .numbers) (q .scores))
+lines q = linesIn (listOf q)
 
--- A question with that list and that next cell, as it is stored: "unused places are 0".
+-- The same question with another list.
+abbrev pub holding : Question → Lines → Question
+holding q l =
+    record { k = q .k; weights = q .weights; numbers = l .numbers; scores = l .scores; len = l .len; next = q .next }
+
+-- And with some lines, as a list stores them.
+abbrev pub withList : Question → List Entry → Question
+withList q l = holding q (stored l)
+
+-- A question with that list and that next cell.
 abbrev pub asked : ℕ → Weights → List Entry → ℕ → Question
 asked k w l next =
-    record {
-      k = k;
-      weights = w;
-      numbers = take 16 (map (λ e. e .number) l ++ replicate 16 0);
-      scores = take 16 (map (λ e. e .score) l ++ replicate 16 (pos 0));
-      len = length l;
-      next = next;
-    }
+    record { k = k; weights = w; numbers = numbersOf l; scores = scoresOf l; len = length l; next = next }
 
 -- "An empty slot is k = 0 and everything else 0."
 abbrev pub emptySlot : Question
@@ -60,11 +64,11 @@ marksOf q = map (isMarked q) cells
 
 -- One entry put in its rank among the lines, "each once"; a list has room for 16.
 abbrev pub withEntry : Question → Entry → Question
-withEntry q e = asked (q .k) (q .weights) (take 16 (place above e (lines q))) (q .next)
+withEntry q e = withList q (take room (place above e (lines q)))
 
 -- "The list is cut to k."
 abbrev pub cutToK : Question → Question
-cutToK q = asked (q .k) (q .weights) (take (q .k) (lines q)) (q .next)
+cutToK q = withList q (take (q .k) (lines q))
 
 -- "It ends when no cell is left, or when the list has k entries and the next cell's best possible score is below the last entry's score."
 unfoldable pub finished : Question → Bool
@@ -75,12 +79,15 @@ finished q =
 abbrev pub begun : Question → Question
 begun q = asked (q .k) (q .weights) [] (cellAt (q .weights) 0)
 
+-- "the best k of its old entries and that cell's held reports, each once"
+abbrev pub taken : Question → List Held → List Entry
+taken q hs =
+    best above (q .k) (lines q ++ map (entry (q .weights)) (only (λ h. eqb (cell (h .loss) (h .shake)) (q .next)) hs))
+
 -- "The next cell is marked, and the list becomes the best k of its old entries and that cell's held reports, each once."
 unfoldable pub stepped : Question → List Held → Question
 stepped q hs =
-    asked (q .k) (q .weights)
-    (best above (q .k) (lines q ++ map (entry (q .weights)) (only (λ h. eqb (cell (h .loss) (h .shake)) (q .next)) hs)))
-    (cellAt (q .weights) (placeOf (q .weights) (q .next) + 1))
+    asked (q .k) (q .weights) (taken q hs) (cellAt (q .weights) (placeOf (q .weights) (q .next) + 1))
 
 -- n steps, one after the other.
 unfoldable pub takes : ℕ → Question → List Held → Question
@@ -112,8 +119,3 @@ searchedOn q w = cond (leb (q .k) 16) (searchedIn q (inRows w)) (record { steps 
 -- The same over what stands in the first n rows.
 unfoldable pub searchedFirst : Question → Window → ℕ → Searched
 searchedFirst q w n = cond (leb (q .k) 16) (searchedIn q (standing w n)) (record { steps = 0; question = q })
-
--- Three arrays as the rows of a window.
-abbrev pub rowsOf : List ℕ → List ℕ → List ℕ → Window
-rowsOf losses shakes numbers =
-    record { losses = losses; shakes = shakes; numbers = numbers; size = 0; entered = 0; held = 0 }

@@ -1,18 +1,19 @@
 // One question: its weights, its list of at most 16 lines, and how far its search has come.
 ghost use mathlib.Core.Path.{_≡_};
 ghost use mathlib.Core.List.{[]};
-ghost use Prim.Native.Nat.{min, _+_, _%_, _≤_, _<_};
-ghost use Rattle.window.specs.Rows.{standing};
+ghost use Prim.Native.Nat.{min, _%_, _≤_};
 ghost use lib.ListN.{take, drop};
-ghost use lib.IntN.{pos};
-ghost use Rattle.search.specs.Best.{best};
+ghost use Rattle.search.specs.Best.{best, place};
 ghost use Rattle.ranking.specs.Standing.{above};
-ghost use Rattle.question.specs.Lines.{asked, linesOf, lines, emptySlot, withEntry, cutToK, finished, begun, stepOn, rowsOf, searchedOn, searchedFirst, stepsTaken, isMarked, marksOf};
-ghost use Rattle.question.specs.Calls.{allOf, holdsNumber, heldAs, falls, blank, rangesFit, fitQuestion, stepCall, beginCall};
-ghost use Rattle.question.specs.Inner.{shown, rankIn, newIn, within, joined, taking, listTaken, at, barIn, leastAt, barOf, admits, slid, wiped, Roomy, Placing, gathered, endedOf};
+ghost use Rattle.list.specs.Lines.{linesOf, allOf, blank};
+ghost use Rattle.list.specs.Rows.{rowsOf};
+ghost use Rattle.question.specs.Lines.{asked, listOf, holding, withList, lines, emptySlot, withEntry, cutToK, finished, begun, stepOn, searchedOn, searchedFirst, stepsTaken, isMarked, marksOf};
+ghost use Rattle.question.specs.Calls.{holdsNumber, heldAs, rangesFit, fitQuestion, stepCall, beginCall};
+ghost use Rattle.question.specs.Inner.{joined, taking, listTaken, at, endedOf, stepRefusal};
+use list::Lines;
+use list::gathered;
 use ranking::Grid;
 use ranking::Weights;
-use ranking::ranks_above;
 use window::Window;
 
 // `next` is the cell that the search takes next, 256 where none is left: the cells before it in the visiting order are the
@@ -20,8 +21,8 @@ use window::Window;
 pub struct Question {
     pub k: u8,
     pub weights: Weights,
-    pub numbers: [u32; 16],
-    pub scores: [i32; 16],
+    pub numbers: [u32; Lines::ROOM],
+    pub scores: [i32; Lines::ROOM],
     pub len: u8,
     pub next: u16,
 }
@@ -36,13 +37,6 @@ pub struct Searched {
 pub struct Stepped {
     pub refusal: u8,
     pub question: Question,
-}
-
-// What an entry has to rank above to change a list that is full: its last line.
-struct Bar {
-    full: bool,
-    number: u32,
-    score: i32,
 }
 
 impl Question {
@@ -64,8 +58,8 @@ impl Question {
     fn blank(k: u8, weights: Weights, next: u16) -> Question
         ensures { λ r. ⌜ r ≡ asked k weights [] next ⌝ }
     {
-        let numbers = [0u32; 16];
-        let scores = [0i32; 16];
+        let numbers = [0u32; Lines::ROOM];
+        let scores = [0i32; Lines::ROOM];
         Question {
             k,
             weights,
@@ -76,66 +70,62 @@ impl Question {
         }
     }
 
-    // How many lines there are.
-    fn shown(self) -> u8
-        ensures { λ r. ⌜ r ≡ shown self ⌝ }
+    // Its list.
+    fn list(self) -> Lines
+        ensures { λ r. ⌜ r ≡ listOf self ⌝ }
     {
-        fewer(self.len, Question::LINES)
+        let numbers = self.numbers;
+        let scores = self.scores;
+        Lines {
+            numbers,
+            scores,
+            len: self.len,
+        }
     }
 
-    // This question with the first m lines of two arrays.
-    fn listing(self, numbers: [u32; 16], scores: [i32; 16], m: usize) -> Question
-        requires { ⌜ m ≤ 16 ⌝ }
-        ensures { λ r. ⌜ r ≡ asked (self .k) (self .weights) (take m (linesOf numbers scores)) (self .next) ⌝ }
+    // This question with another list.
+    fn holding(self, list: Lines) -> Question
+        ensures { λ r. ⌜ r ≡ holding self list ⌝ }
     {
         let weights = self.weights;
-        let mut top = numbers;
-        let mut by = scores;
-        wipe(&mut top, &mut by, m);
+        let numbers = list.numbers;
+        let scores = list.scores;
         Question {
             k: self.k,
             weights,
-            numbers: top,
-            scores: by,
-            len: m as u8,
+            numbers,
+            scores,
+            len: list.len,
             next: self.next,
         }
     }
 
-    // One entry put in its rank among the lines, once, of which at most `room` are kept.
-    fn within(self, room: u8, number: u32, score: i32) -> Question
-        requires { ⌜ room ≤ 16 ⌝ }
-        ensures { λ r. ⌜ r ≡ within self room (record { number = number; score = score }) ⌝ }
+    // One entry put in its rank among the lines, once, of which at most `most` are kept.
+    fn within(self, most: usize, number: u32, score: i32) -> Question
+        ensures { λ r. ⌜ r ≡ withList self (take (min most 16) (place above (record { number = number; score = score }) (lines self))) ⌝ }
     {
-        let n = self.shown() as usize;
-        let mut top = self.numbers;
-        let mut by = self.scores;
-        let m = placed_in(&mut top, &mut by, n, room as usize, number, score);
-        self.listing(top, by, m)
+        self.holding(self.list().placed(most, number, score))
     }
 
     // One entry put in its rank among the lines, once, of which at most 16 are kept.
     pub fn added(self, number: u32, score: i32) -> Question
         ensures { λ r. ⌜ r ≡ withEntry self (record { number = number; score = score }) ⌝ }
     {
-        self.within(Question::LINES, number, score)
+        self.within(Lines::ROOM, number, score)
     }
 
     // The first k lines.
     pub fn cut(self) -> Question
         ensures { λ r. ⌜ r ≡ cutToK self ⌝ }
     {
-        let n = fewer(self.k, self.shown()) as usize;
-        let numbers = self.numbers;
-        let scores = self.scores;
-        self.listing(numbers, scores, n)
+        self.holding(self.list().first(self.k as usize))
     }
 
     // One entry among the first k.
     pub fn joined(self, number: u32, score: i32) -> Question
         ensures { λ r. ⌜ r ≡ joined self (record { number = number; score = score }) ⌝ }
     {
-        self.within(fewer(self.k, Question::LINES), number, score)
+        self.within(self.k as usize, number, score)
     }
 
     // The search has ended: no cell is left, or k lines are there and the next cell's best possible score is below the last
@@ -147,16 +137,11 @@ impl Question {
         if Grid::CELLS <= next {
             return true;
         }
-        if self.len != self.k {
-            return false;
+        let bar = self.list().bar(self.k);
+        if bar.full {
+            return self.weights.best(next as u8) < bar.score;
         }
-        let n = self.shown() as usize;
-        if n == 0 {
-            return false;
-        }
-        let scores = self.scores;
-        let last = n - 1;
-        self.weights.best(next as u8) < scores[last]
+        false
     }
 
     // A search anew: no lines, and the first cell is next.
@@ -169,18 +154,9 @@ impl Question {
     // The best k of the lines.
     fn ranked(self) -> Question
         requires { ⌜ self .k ≤ 16 ⌝ }
-        ensures { λ r. ⌜ r ≡ asked (self .k) (self .weights) (best above (self .k) (lines self)) (self .next) ⌝ }
+        ensures { λ r. ⌜ r ≡ withList self (best above (self .k) (lines self)) ⌝ }
     {
-        let n = self.shown() as usize;
-        let numbers = self.numbers;
-        let scores = self.scores;
-        let mut list = Question::blank(self.k, self.weights, self.next);
-        let mut i: usize = 0;
-        while i < n {
-            list = list.joined(numbers[i], scores[i]);
-            i += 1;
-        }
-        list
+        self.holding(self.list().best(self.k as usize))
     }
 
     // The report of one row joins the lines, if it lies in the next cell.
@@ -259,68 +235,15 @@ impl Question {
                 question: self,
             };
         }
-        let list = self.gathered(losses, shakes, numbers, smaller(rows, Window::ROWS));
-        list.ended()
-    }
-
-    // The best k of the reports in the first `rows` rows. A report that doesn't pass the bar changes nothing.
-    fn gathered<'a>(
-        self,
-        losses: &'a [u16; 1024],
-        shakes: &'a [u16; 1024],
-        numbers: &'a [u32; 1024],
-        rows: usize,
-    ) -> Question
-        requires { ⌜ (self .k ≤ 16) × (rows ≤ 1024) ⌝ }
-        ensures { λ r. ⌜ r ≡ gathered self (rowsOf (now (losses .entry)) (now (shakes .entry)) (now (numbers .entry))) rows ⌝ }
-    {
-        let weights = self.weights;
-        let k = self.k as usize;
-        let mut top = [0u32; 16];
-        let mut by = [0i32; 16];
-        let mut len: usize = 0;
-        let mut bar = bar_in(&top, &by, len, len == k);
-        let mut least = bar.least();
-        let mut row: usize = 0;
-        while row < rows {
-            let here = row;
-            row += 1;
-            let score = weights.score(losses[here], shakes[here]);
-            if score < least {
-                continue;
-            }
-            let number = numbers[here];
-            if !bar.admits(number, score) {
-                continue;
-            }
-            len = placed_in(&mut top, &mut by, len, k, number, score);
-            bar = bar_in(&top, &by, len, len == k);
-            least = bar.least();
-        }
-        Question {
-            k: self.k,
-            weights,
-            numbers: top,
-            scores: by,
-            len: len as u8,
-            next: self.next,
-        }
-    }
-
-    // The list's bar; a list with no line has none.
-    fn bar(self) -> Bar
-        ensures { λ r. ⌜ r ≡ barOf self ⌝ }
-    {
-        let n = self.shown() as usize;
-        let full = self.len == self.k;
-        bar_in(&self.numbers, &self.scores, n, full)
+        let list = gathered(self.weights, self.k, losses, shakes, numbers, rows);
+        self.holding(list).ended()
     }
 
     // Where the search that found this list ends: a full list's last score decides which cells were taken.
     fn ended(self) -> Searched
         ensures { λ r. ⌜ r ≡ endedOf self ⌝ }
     {
-        let bar = self.bar();
+        let bar = self.list().bar(self.k);
         if bar.full {
             let reach = self.weights.reach(bar.score);
             return Searched {
@@ -376,8 +299,9 @@ impl Question {
     {
         if self.ranges_fit(window.held) {
             if self.lines_held(window) {
-                if self.falls() {
-                    return self.rest_blank();
+                let list = self.list();
+                if list.falls() {
+                    return list.rest_blank();
                 }
             }
         }
@@ -389,14 +313,9 @@ impl Question {
     pub fn step(self, window: Window) -> Stepped
         ensures { λ r. ⌜ r ≡ stepCall window self ⌝ }
     {
-        if !window.fit() {
-            return self.refused(Question::UNFIT);
-        }
-        if !self.fit(window) {
-            return self.refused(Question::UNFIT);
-        }
-        if self.finished() {
-            return self.refused(Question::FINISHED);
+        let refusal = self.refusal(window);
+        if refusal != 0 {
+            return self.refused(refusal);
         }
         Stepped {
             refusal: 0,
@@ -409,19 +328,28 @@ impl Question {
     pub fn begin(self, window: Window) -> Stepped
         ensures { λ r. ⌜ r ≡ beginCall window self ⌝ }
     {
-        if !window.fit() {
-            return self.refused(Question::UNFIT);
-        }
-        if !self.fit(window) {
-            return self.refused(Question::UNFIT);
-        }
-        if !self.finished() {
+        if self.refusal(window) != Question::FINISHED {
             return self.refused(Question::UNFIT);
         }
         Stepped {
             refusal: 0,
             question: self.begun(),
         }
+    }
+
+    // What a step is refused with; 0, where it goes on.
+    fn refusal(self, window: Window) -> u8
+        ensures { λ r. ⌜ r ≡ stepRefusal window self ⌝ }
+    {
+        if window.fit() {
+            if self.fit(window) {
+                if self.finished() {
+                    return Question::FINISHED;
+                }
+                return 0;
+            }
+        }
+        Question::UNFIT
     }
 
     fn refused(self, refusal: u8) -> Stepped
@@ -461,7 +389,7 @@ impl Question {
     fn lines_held(self, window: Window) -> bool
         ensures { λ r. ⌜ r ≡ allOf (heldAs window (self .weights)) (lines self) ⌝ }
     {
-        let n = self.shown() as usize;
+        let n = self.list().shown();
         let mut i: usize = 0;
         while i < n {
             if !held_as(window, self.weights, self.numbers[i], self.scores[i]) {
@@ -472,224 +400,12 @@ impl Question {
         true
     }
 
-    // Each line ranks above the next.
-    fn falls(self) -> bool
-        ensures { λ r. ⌜ r ≡ falls (lines self) ⌝ }
-    {
-        let n = self.shown() as usize;
-        let mut i: usize = 0;
-        while i + 1 < n {
-            let next = i + 1;
-            if !ranks_above(
-                self.scores[i],
-                self.numbers[i],
-                self.scores[next],
-                self.numbers[next],
-            ) {
-                return false;
-            }
-            i = next;
-        }
-        true
-    }
-
     // The places past the list's end are 0.
     pub fn rest_blank(self) -> bool
         ensures { λ r. ⌜ r ≡ allOf blank (drop (self .len) (linesOf (self .numbers) (self .scores))) ⌝ }
     {
-        let mut i = self.shown() as usize;
-        while i < 16 {
-            if !is_blank(self.numbers[i], self.scores[i]) {
-                return false;
-            }
-            i += 1;
-        }
-        true
+        self.list().rest_blank()
     }
-}
-
-impl Bar {
-    // No report with a lower score passes; most fail by that alone.
-    fn least(self) -> i32
-        ensures { λ r. ⌜ r ≡ leastAt self ⌝ }
-    {
-        if self.full {
-            return self.score;
-        }
-        -2147483648
-    }
-
-    // A report passes: it has a number, and the list isn't full or it ranks above the last line.
-    fn admits(self, number: u32, score: i32) -> bool
-        ensures { λ r. ⌜ r ≡ admits self (record { number = number; score = score }) ⌝ }
-    {
-        if number == 0 {
-            return false;
-        }
-        if self.full {
-            return ranks_above(score, number, self.score, self.number);
-        }
-        true
-    }
-}
-
-// The bar of the first `len` lines of two arrays.
-fn bar_in<'a>(numbers: &'a [u32; 16], scores: &'a [i32; 16], len: usize, full: bool) -> Bar
-    requires { ⌜ len ≤ 16 ⌝ }
-    ensures { λ r. ⌜ r ≡ barIn (now (numbers .entry)) (now (scores .entry)) len full ⌝ }
-{
-    if len == 0 {
-        return Bar {
-            full: false,
-            number: 0,
-            score: 0,
-        };
-    }
-    let last = len - 1;
-    Bar {
-        full,
-        number: numbers[last],
-        score: scores[last],
-    }
-}
-
-// How many of the first `len` lines of two arrays rank above an entry, before the first that doesn't.
-fn rank_in<'a>(
-    numbers: &'a [u32; 16],
-    scores: &'a [i32; 16],
-    len: usize,
-    number: u32,
-    score: i32,
-) -> usize
-    requires { ⌜ (len ≤ 16) × Roomy (now numbers) (now scores) ⌝ }
-    ensures { λ r. ⌜
-        r ≡ rankIn (record { number = number; score = score }) (take len (linesOf (now (numbers .entry)) (now (scores .entry))))
-        ⌝ }
-{
-    let mut i: usize = 0;
-    while i < len {
-        if !ranks_above(scores[i], numbers[i], score, number) {
-            return i;
-        }
-        i += 1;
-    }
-    len
-}
-
-// The line at an entry's rank is another.
-fn new_in<'a>(
-    numbers: &'a [u32; 16],
-    scores: &'a [i32; 16],
-    len: usize,
-    at: usize,
-    number: u32,
-    score: i32,
-) -> bool
-    requires { ⌜
-        (len ≤ 16) × Roomy (now numbers) (now scores)
-        × (at ≡ rankIn (record { number = number; score = score }) (take len (linesOf (now numbers) (now scores))))
-        ⌝ }
-    ensures { λ r. ⌜
-        r ≡ newIn (record { number = number; score = score }) (take len (linesOf (now (numbers .entry)) (now (scores .entry))))
-        ⌝ }
-{
-    if at < len {
-        return ranks_above(score, number, scores[at], numbers[at]);
-    }
-    true
-}
-
-// An entry put at a place, and the lines from there to the last one moved one place back; the last one goes.
-fn slide<'a>(
-    numbers: &'a mut [u32; 16],
-    scores: &'a mut [i32; 16],
-    at: usize,
-    last: usize,
-    number: u32,
-    score: i32,
-)
-    requires { ⌜ (at ≤ last) × (last < 16) × Roomy (now numbers) (now scores) ⌝ }
-    ensures { λ _. ⌜
-        (now (numbers .exit) ≡ slid at last number (now (numbers .entry)))
-        × (now (scores .exit) ≡ slid at last score (now (scores .entry)))
-        ⌝ }
-{
-    let mut i = last;
-    while at < i {
-        let before = i - 1;
-        numbers[i] = numbers[before];
-        scores[i] = scores[before];
-        i = before;
-    }
-    numbers[at] = number;
-    scores[at] = score;
-}
-
-// 0 in the places of two arrays from one on.
-fn wipe<'a>(numbers: &'a mut [u32; 16], scores: &'a mut [i32; 16], from: usize)
-    requires { ⌜ (from ≤ 16) × Roomy (now numbers) (now scores) ⌝ }
-    ensures { λ _. ⌜
-        (now (numbers .exit) ≡ wiped from 0 (now (numbers .entry))) × (now (scores .exit) ≡ wiped from (pos 0) (now (scores .entry)))
-        ⌝ }
-{
-    let mut i: usize = 16;
-    while from < i {
-        i -= 1;
-        numbers[i] = 0;
-        scores[i] = 0;
-    }
-}
-
-// One entry put in its rank among the first `len` lines of two arrays, once, of which at most `room` are kept: their
-// number then. The lines past them stay.
-fn placed_in<'a>(
-    numbers: &'a mut [u32; 16],
-    scores: &'a mut [i32; 16],
-    len: usize,
-    room: usize,
-    number: u32,
-    score: i32,
-) -> usize
-    requires { ⌜ (len ≤ 16) × (room ≤ 16) × Roomy (now numbers) (now scores) ⌝ }
-    ensures { λ r. ⌜
-        Placing (record { number = number; score = score }) len room (linesOf (now (numbers .entry)) (now (scores .entry))) (linesOf (now (numbers .exit)) (now (scores .exit))) r
-        × Roomy (now (numbers .exit)) (now (scores .exit))
-        ⌝ }
-{
-    let at = rank_in(numbers, scores, len, number, score);
-    if room <= at {
-        return room;
-    }
-    if !new_in(numbers, scores, len, at, number, score) {
-        return smaller(len, room);
-    }
-    let last = smaller(len, room - 1);
-    slide(numbers, scores, at, last, number, score);
-    last + 1
-}
-
-// The smaller of two counts.
-fn smaller(a: usize, b: usize) -> usize
-    ensures { λ r. ⌜ r ≡ min a b ⌝ }
-{
-    if a < b { a } else { b }
-}
-
-// The smaller of two numbers.
-fn fewer(a: u8, b: u8) -> u8
-    ensures { λ r. ⌜ r ≡ min a b ⌝ }
-{
-    if a < b { a } else { b }
-}
-
-// An unused place is 0.
-fn is_blank(number: u32, score: i32) -> bool
-    ensures { λ r. ⌜ r ≡ blank (record { number = number; score = score }) ⌝ }
-{
-    if number != 0 {
-        return false;
-    }
-    score == 0
 }
 
 // The window holds the report of that number, with that score.

@@ -7,17 +7,20 @@ use mathlib.Core.List.{List, [], _∷_, List·Memᴰ·head, List·Memᴰ·cases-
 use Prim.Native.Nat.{ℕ, zero, suc, _+_, _*_, _-_, _/_, _%_, _≤_, _<_}
 use native.Mathlib.Nat.{le-of-suc-le-suc, mul-le-mul, not-suc-le-zero}
 use native.Mathlib.Omega.{arith}
-use borrow.Author.Tests.{lt-ltb}
-use lib.Dec.{ltb}
+use borrow.Author.Tests.{lt-ltb, leb-true}
+use lib.Dec.{ltb, leb}
 use lib.ListN.{length}
 use lib.IntN.{ℤ, pos, negsuc, natAbs, _*ℤ_}
 use lib.Signed.{ltZ, natAbs-le}
 use mir.Syntax.{w16, w32}
 use mir.Val.{SFits}
 use Rattle.laws.specs.Lists.{_∈_}
-use Rattle.ranking.specs.Cells.{score, cell, corner, bestScore, greater, before, count, cells, visiting}
-use Rattle.ranking.specs.declared.Weights.{Weights}
-use Rattle.laws.proofs.Tests.{Tested, passed, failed, tested, clash}
+use Rattle.values.specs.declared.Values.{Values}
+use Rattle.values.specs.Range.{inRange}
+use Rattle.values.proofs.Facts.{range-facts, range-is}
+use Rattle.ranking.specs.Cells.{weightFits, fitRule, score, cell, corner, cornerOf, bestScore, greater, before, count, cells, visiting}
+use Rattle.ranking.specs.declared.Rule.{Rule}
+use Rattle.laws.proofs.Tests.{Tested, passed, failed, tested, clash, and-both}
 use Rattle.laws.proofs.Lists.{Pairwise, Distinct, Same, there, pairwise-map, lt-or-eq}
 use Rattle.laws.proofs.Orders.{StrictTotal, one-way, ltb-strict}
 use Rattle.search.proofs.Best.{Falling, rank-in, rank-of, rank-falling, falling-distinct, length-rank}
@@ -101,9 +104,10 @@ module _ {A : Type 0} (key : A → ℤ) (tie : A → A → Bool) where
       same : (x y : A) → Ranks x y ≡ false → Ranks y x ≡ false → x ≡ y
       same x y p q = decided x y (numbers (key x) (key y)) p q
 
-pub before-strict : (w : Weights) → StrictTotal (before w)
-before-strict w =
-    greater-strict (bestScore w) ltb
+pub before-strict : (rule : Rule) → StrictTotal (before rule)
+unfolding before
+before-strict rule =
+    greater-strict (bestScore rule) ltb
     (record {
       none = ltb-strict .irreflexive;
       chain = ltb-strict .transitive;
@@ -156,35 +160,36 @@ cells-distinct = pairwise-map apart cells (count-rises 256 [] (λ c m. absurd (L
 
 -- ---- the visiting order
 
-module _ (w : Weights) where
-  pub visiting-in : (c : ℕ) → c < 256 → c ∈ visiting w
+module _ (rule : Rule) where
+  pub visiting-in : (c : ℕ) → c < 256 → c ∈ visiting rule
   unfolding visiting
-  visiting-in c h = rank-in (before w) (before-strict w) cells c (cells-in c h)
+  visiting-in c h = rank-in (before rule) (before-strict rule) cells c (cells-in c h)
 
-  pub visiting-of : (c : ℕ) → c ∈ visiting w → c < 256
+  pub visiting-of : (c : ℕ) → c ∈ visiting rule → c < 256
   unfolding visiting
-  visiting-of c m = cells-of c (rank-of (before w) (before-strict w) cells c m)
+  visiting-of c m = cells-of c (rank-of (before rule) (before-strict rule) cells c m)
 
-  pub visiting-same : Same cells (visiting w)
+  pub visiting-same : Same cells (visiting rule)
   visiting-same = (λ c m. visiting-in c (cells-of c m), λ c m. cells-in c (visiting-of c m))
 
-  pub visiting-falling : Falling (before w) (visiting w)
+  pub visiting-falling : Falling (before rule) (visiting rule)
   unfolding visiting
-  visiting-falling = rank-falling (before w) (before-strict w) cells
+  visiting-falling = rank-falling (before rule) (before-strict rule) cells
 
-  pub visiting-distinct : Distinct (visiting w)
-  visiting-distinct = falling-distinct (before w) (before-strict w) (visiting w) visiting-falling
+  pub visiting-distinct : Distinct (visiting rule)
+  visiting-distinct = falling-distinct (before rule) (before-strict rule) (visiting rule) visiting-falling
 
-  pub length-visiting : length (visiting w) ≡ 256
+  pub length-visiting : length (visiting rule) ≡ 256
   unfolding visiting
-  length-visiting = length-rank (before w) (before-strict w) cells cells-distinct
+  length-visiting = length-rank (before rule) (before-strict rule) cells cells-distinct
 
   -- what is taken later has no greater best possible score
-  pub before-best : (c d : ℕ) → before w c d ≡ true → ltZ (bestScore w c) (bestScore w d) ≡ false
+  pub before-best : (c d : ℕ) → before rule c d ≡ true → ltZ (bestScore rule c) (bestScore rule d) ≡ false
+  unfolding before
   before-best c d h =
-      ⊎-elim (λ p. one-way ltZ ltZ-strict (bestScore w d) (bestScore w c) p)
-      (λ p. subst (λ z. ltZ (bestScore w c) z ≡ false) (p .0) (ltZ-strict .irreflexive (bestScore w c)))
-      (greater-of (bestScore w c) (bestScore w d) (ltb c d) h)
+      ⊎-elim (λ p. one-way ltZ ltZ-strict (bestScore rule d) (bestScore rule c) p)
+      (λ p. subst (λ z. ltZ (bestScore rule c) z ≡ false) (p .0) (ltZ-strict .irreflexive (bestScore rule c)))
+      (greater-of (bestScore rule c) (bestScore rule d) (ltb c d) h)
 
 -- ---- corners and bounds
 
@@ -219,17 +224,21 @@ pub row : (c : ℕ) → c < 256 → c / 16 < 16
 row c h = omega arith
 
 -- each cell by its column and row
-pub cell-index : (loss shake c : ℕ) → loss / 256 ≡ c % 16 → shake / 256 ≡ c / 16 → cell loss shake ≡ c
-cell-index loss shake c p q = omega arith
+pub cell-index : (v : Values) (c : ℕ) → v .loss / 256 ≡ c % 16 → v .shake / 256 ≡ c / 16 → cell v ≡ c
+unfolding cell
+cell-index v c p q = omega arith
 
-pub cell-column : (loss shake : ℕ) → loss ≤ 4095 → cell loss shake % 16 ≡ loss / 256
-cell-column loss shake h = omega arith
+pub cell-column : (v : Values) → v .loss ≤ 4095 → cell v % 16 ≡ v .loss / 256
+unfolding cell
+cell-column v h = omega arith
 
-pub cell-row : (loss shake : ℕ) → loss ≤ 4095 → cell loss shake / 16 ≡ shake / 256
-cell-row loss shake h = omega arith
+pub cell-row : (v : Values) → v .loss ≤ 4095 → cell v / 16 ≡ v .shake / 256
+unfolding cell
+cell-row v h = omega arith
 
-pub cell-fits : (loss shake : ℕ) → loss ≤ 4095 → shake ≤ 4095 → cell loss shake < 256
-cell-fits loss shake h g = omega arith
+pub cell-fits : (v : Values) → inRange v ≡ true → cell v < 256
+unfolding cell
+cell-fits v h = let f = range-facts v h in omega (arith, f .loss-fits, f .shake-fits)
 
 -- no value of a cell's column or row counts for more than the corner
 pub corner-up : (a : ℤ) (v : ℕ) → Up (a *ℤ pos v) (a *ℤ pos (corner a (v / 256)))
@@ -256,36 +265,55 @@ part-small a v h g = rw (abs-times a v) (mul-le-mul (natAbs-le a (h .sfits)) g)
 pub part-fits : (a : ℤ) (v : ℕ) → SFits w16 a → v ≤ 4095 → SFits w32 (a *ℤ pos v)
 part-fits a v h g = record { sfits = omega (arith, mag-le (a *ℤ pos v), part-small a v h g) }
 
-module _ (w : Weights) where
+weight-word : (z : ℤ) → weightFits z ≡ true → SFits w16 z
+weight-word (pos n) t = record { sfits = omega (arith, leb-true n 1000 (and-both true (leb n 1000) t .1)) }
+weight-word (negsuc n) t = record { sfits = omega (arith, leb-true n 999 (and-both (leb n 999) true t .0)) }
+
+module _ (rule : Rule) where
   -- a score is at most the best possible score of its cell
-  pub score-bound : (loss shake : ℕ) → loss ≤ 4095 → ltZ (bestScore w (cell loss shake)) (score w loss shake) ≡ false
-  score-bound loss shake h =
-      rw (cell-column loss shake h, cell-row loss shake h) (up-le (up-sum (corner-up (w .loss) loss) (corner-up (w .shake) shake)))
+  pub score-bound : (v : Values) → inRange v ≡ true → ltZ (bestScore rule (cell v)) (score rule v) ≡ false
+  unfolding bestScore score
+  score-bound v h =
+      let f = range-facts v h in
+      rw (cell-column v (f .loss-fits), cell-row v (f .loss-fits))
+      (up-le (up-sum (corner-up (rule .weights .loss) (v .loss)) (corner-up (rule .weights .shake) (v .shake))))
 
   -- the best possible score is the score of the cell's corner, which is permitted
-  pub corner-cell : (c : ℕ) → cell (corner (w .loss) (c % 16)) (corner (w .shake) (c / 16)) ≡ c
-  corner-cell c =
-      cell-index (corner (w .loss) (c % 16)) (corner (w .shake) (c / 16)) c (corner-index (w .loss) (c % 16)) (corner-index (w .shake) (c / 16))
+  pub corner-cell : (c : ℕ) → cell (cornerOf rule c) ≡ c
+  corner-cell c = cell-index (cornerOf rule c) c (corner-index (rule .weights .loss) (c % 16)) (corner-index (rule .weights .shake) (c / 16))
 
-  pub corner-loss : (c : ℕ) → corner (w .loss) (c % 16) ≤ 4095
-  corner-loss c = in-grid (corner (w .loss) (c % 16)) (rw (corner-index (w .loss) (c % 16)) (column c))
+  pub corner-loss : (c : ℕ) → cornerOf rule c .loss ≤ 4095
+  corner-loss c = in-grid (cornerOf rule c .loss) (rw (corner-index (rule .weights .loss) (c % 16)) (column c))
 
-  pub corner-shake : (c : ℕ) → c < 256 → corner (w .shake) (c / 16) ≤ 4095
-  corner-shake c h = in-grid (corner (w .shake) (c / 16)) (rw (corner-index (w .shake) (c / 16)) (row c h))
+  pub corner-shake : (c : ℕ) → c < 256 → cornerOf rule c .shake ≤ 4095
+  corner-shake c h = in-grid (cornerOf rule c .shake) (rw (corner-index (rule .weights .shake) (c / 16)) (row c h))
+
+  pub corner-in : (c : ℕ) → c < 256 → inRange (cornerOf rule c) ≡ true
+  corner-in c h = range-is (cornerOf rule c) (corner-loss c) (corner-shake c h)
+
+  pub corner-best : (c : ℕ) → score rule (cornerOf rule c) ≡ bestScore rule c
+  unfolding bestScore
+  corner-best c = refl
 
   -- every score fits 32 bits, whatever the weights of 16
-  pub score-fits : (loss shake : ℕ) → SFits w16 (w .loss) → SFits w16 (w .shake) → loss ≤ 4095 → shake ≤ 4095 → SFits w32 (score w loss shake)
-  score-fits loss shake a b h g =
+  pub word-fits : (v : Values) → SFits w16 (rule .weights .loss) → SFits w16 (rule .weights .shake) → inRange v ≡ true → SFits w32 (score rule v)
+  unfolding score
+  word-fits v a b h =
+      let f = range-facts v h in
       record {
         sfits =
             omega (
               arith,
-              mag-le (score w loss shake),
-              abs-sum (w .loss *ℤ pos loss) (w .shake *ℤ pos shake),
-              part-small (w .loss) loss a h,
-              part-small (w .shake) shake b g,
+              mag-le (score rule v),
+              abs-sum (rule .weights .loss *ℤ pos (v .loss)) (rule .weights .shake *ℤ pos (v .shake)),
+              part-small (rule .weights .loss) (v .loss) a (f .loss-fits),
+              part-small (rule .weights .shake) (v .shake) b (f .shake-fits),
             );
       }
 
-  pub best-fits : (c : ℕ) → c < 256 → SFits w16 (w .loss) → SFits w16 (w .shake) → SFits w32 (bestScore w c)
-  best-fits c h a b = score-fits (corner (w .loss) (c % 16)) (corner (w .shake) (c / 16)) a b (corner-loss c) (corner-shake c h)
+  -- and so it does by a fit rule
+  pub score-fits : fitRule rule ≡ true → (v : Values) → inRange v ≡ true → SFits w32 (score rule v)
+  unfolding fitRule
+  score-fits fit v h =
+      let both = and-both (weightFits (rule .weights .loss)) (weightFits (rule .weights .shake)) fit in
+      word-fits v (weight-word (rule .weights .loss) (both .0)) (weight-word (rule .weights .shake) (both .1)) h

@@ -1,4 +1,6 @@
+-- What is proved of a question's rule beside its functions.
 pub mod Cells
+pub mod Entries
 pub mod Standing
 pub mod Scan
 pub mod Reaching

@@ -17,7 +17,7 @@ use Rattle.laws.specs.Lists.{_∈_, only}
 use Rattle.ranking.specs.Cells.{bestScore, before, count, cells, visiting, reaching, reachOf}
 use Rattle.ranking.specs.Scan.{met, metRow}
 use Rattle.ranking.specs.declared.Sought.{Sought}
-use Rattle.ranking.specs.declared.Weights.{Weights}
+use Rattle.ranking.specs.declared.Rule.{Rule}
 use Rattle.laws.proofs.Tests.{Tested, passed, failed, tested, clash, or-left, or-right}
 use Rattle.laws.proofs.Lists.{First, Other, pairwise-map, pairwise-only, only-in, only-of, fails-left, left-fails}
 use Rattle.laws.proofs.Orders.{ahead, ltb-strict}
@@ -49,40 +49,40 @@ met-few at c best s = go (tested (ltZ best s)) (tested (leb 256 (at .next) || lt
     go (passed e) (passed t) = subst (λ (m : Sought). m .cells ≤ at .cells + 1) (sym (met-sooner at c best s e t)) (omega arith)
     go (passed e) (failed t) = subst (λ (m : Sought). m .cells ≤ at .cells + 1) (sym (met-later at c best s e t)) (omega arith)
 
-module _ (w : Weights) (s : ℤ) where
+module _ (rule : Rule) (s : ℤ) where
   -- a cell's best possible score is below the score
   abbrev pub below : ℕ → Bool
-  below c = ltZ (bestScore w c) s
+  below c = ltZ (bestScore rule c) s
 
   abbrev pub reached : ℕ → Bool
   reached c = not (below c)
 
   -- ---- in the visiting order
 
-  reached-first : First reached (visiting w)
-  reached-first = pairwise-map earlier (visiting w) (visiting-falling w)
+  reached-first : First reached (visiting rule)
+  reached-first = pairwise-map earlier (visiting rule) (visiting-falling rule)
     where
-      earlier : (c d : ℕ) → before w c d ≡ true → reached d ≡ true → reached c ≡ true
+      earlier : (c d : ℕ) → before rule c d ≡ true → reached d ≡ true → reached c ≡ true
       earlier c d h r = go (tested (below c))
         where
           go : Tested (below c) → reached c ≡ true
           go (failed f) = ap not f
-          go (passed f) = clash (ahead ltZ ltZ-strict (bestScore w d) (bestScore w c) s (before-best w c d h) f) (not-true (below d) r)
+          go (passed f) = clash (ahead ltZ ltZ-strict (bestScore rule d) (bestScore rule c) s (before-best rule c d h) f) (not-true (below d) r)
 
-  reaching-order : reaching w s ≡ length (only reached (visiting w))
+  reaching-order : reaching rule s ≡ length (only reached (visiting rule))
   unfolding reaching
   reaching-order =
-      length-same ltb ltb-strict (only reached cells) (only reached (visiting w))
-      (pairwise-only Other reached cells cells-distinct) (pairwise-only Other reached (visiting w) (visiting-distinct w)) (
-        λ c m. let r = only-of reached cells m in only-in reached (visiting w) (visiting-same w .0 c (r .0)) (r .1),
-        λ c m. let r = only-of reached (visiting w) m in only-in reached cells (visiting-same w .1 c (r .0)) (r .1),
+      length-same ltb ltb-strict (only reached cells) (only reached (visiting rule))
+      (pairwise-only Other reached cells cells-distinct) (pairwise-only Other reached (visiting rule) (visiting-distinct rule)) (
+        λ c m. let r = only-of reached cells m in only-in reached (visiting rule) (visiting-same rule .0 c (r .0)) (r .1),
+        λ c m. let r = only-of reached (visiting rule) m in only-in reached cells (visiting-same rule .1 c (r .0)) (r .1),
       )
 
   -- the cells below the score are those that are left after as many
-  left-below : (c : ℕ) → c < 256 → below c ≡ true ↔ c ∈ drop (reaching w s) (visiting w)
+  left-below : (c : ℕ) → c < 256 → below c ≡ true ↔ c ∈ drop (reaching rule s) (visiting rule)
   left-below c h = (
-    λ e. subst (λ n. c ∈ drop n (visiting w)) (sym reaching-order) (fails-left reached (visiting w) reached-first c (visiting-in w c h) (ap not e)),
-    λ m. not-false (below c) (left-fails reached (visiting w) reached-first c (subst (λ n. c ∈ drop n (visiting w)) reaching-order m)),
+    λ e. subst (λ n. c ∈ drop n (visiting rule)) (sym reaching-order) (fails-left reached (visiting rule) reached-first c (visiting-in rule c h) (ap not e)),
+    λ m. not-false (below c) (left-fails reached (visiting rule) reached-first c (subst (λ n. c ∈ drop n (visiting rule)) reaching-order m)),
   )
 
   -- ---- by rising cells
@@ -91,11 +91,11 @@ module _ (w : Weights) (s : ℤ) where
   pub record Met (d : ℕ) (at : Sought) : Type 0 where
     pub number : at .cells ≡ length (only reached (count d []))
     pub few : at .cells ≤ d
-    pub first : Scanned w below d (at .next)
-    pub known : at .next < 256 → (at .next < d) × (at .best ≡ bestScore w (at .next))
+    pub first : Scanned rule below d (at .next)
+    pub known : at .next < 256 → (at .next < d) × (at .best ≡ bestScore rule (at .next))
 
   pub met-none : (at : Sought) → at ≡ record { cells = 0; next = 256; best = at .best } → Met 0 at
-  met-none at e = subst (Met 0) (sym e) (record { number = refl; few = omega arith; first = scanned-none w below; known = λ h. absurd (no h) })
+  met-none at e = subst (Met 0) (sym e) (record { number = refl; few = omega arith; first = scanned-none rule below; known = λ h. absurd (no h) })
     where
       no : 256 < 256 → ⊥
       no h = omega arith
@@ -106,7 +106,7 @@ module _ (w : Weights) (s : ℤ) where
         record {
           number = ap (λ n. n + 1) (so-far .number) ∙ sym (counted-yes reached d (ap not e));
           few = omega (arith, so-far .few);
-          first = scanned-leave w below (at .next) d cell (so-far .first) (λ t. clash t e);
+          first = scanned-leave rule below (at .next) d cell (so-far .first) (λ t. clash t e);
           known = λ h. let k = so-far .known h in (less (k .0), k .1);
         }
       where
@@ -114,84 +114,86 @@ module _ (w : Weights) (s : ℤ) where
         less h = omega arith
 
     -- of two cells the later one is taken sooner exactly where its best possible score is greater
-    sooner : ltZ (at .best) (bestScore w d) ≡ true → at .next < 256 → before w d (at .next) ≡ true
+    sooner : ltZ (at .best) (bestScore rule d) ≡ true → at .next < 256 → before rule d (at .next) ≡ true
+    unfolding before
     sooner e h =
-        greater-by (bestScore w d) (bestScore w (at .next)) (ltb d (at .next))
-        (subst (λ b. ltZ b (bestScore w d) ≡ true) (so-far .known h .1) e)
+        greater-by (bestScore rule d) (bestScore rule (at .next)) (ltb d (at .next))
+        (subst (λ b. ltZ b (bestScore rule d) ≡ true) (so-far .known h .1) e)
 
-    not-sooner : ltZ (at .best) (bestScore w d) ≡ false → at .next < 256 → before w d (at .next) ≡ false
-    not-sooner e h = go (numbers (bestScore w d) (bestScore w (at .next)))
+    not-sooner : ltZ (at .best) (bestScore rule d) ≡ false → at .next < 256 → before rule d (at .next) ≡ false
+    unfolding before
+    not-sooner e h = go (numbers (bestScore rule d) (bestScore rule (at .next)))
       where
-        go : Numbers (bestScore w d) (bestScore w (at .next)) → before w d (at .next) ≡ false
-        go (more l) = clash l (subst (λ b. ltZ b (bestScore w d) ≡ false) (so-far .known h .1) e)
-        go (less l) = less-by (bestScore w d) (bestScore w (at .next)) (ltb d (at .next)) l
+        go : Numbers (bestScore rule d) (bestScore rule (at .next)) → before rule d (at .next) ≡ false
+        go (more l) = clash l (subst (λ b. ltZ b (bestScore rule d) ≡ false) (so-far .known h .1) e)
+        go (less l) = less-by (bestScore rule d) (bestScore rule (at .next)) (ltb d (at .next)) l
         go (equal l) =
-            greater-tie (bestScore w d) (bestScore w (at .next)) (ltb d (at .next)) l ∙ le-ltb d (at .next) (omega (arith, so-far .known h .0))
+            greater-tie (bestScore rule d) (bestScore rule (at .next)) (ltb d (at .next)) l ∙ le-ltb d (at .next) (omega (arith, so-far .known h .0))
 
-    takes : below d ≡ true → (at .next < 256 → before w d (at .next) ≡ true) → Met (d + 1) (record { cells = at .cells; next = d; best = bestScore w d })
+    takes : below d ≡ true → (at .next < 256 → before rule d (at .next) ≡ true) → Met (d + 1) (record { cells = at .cells; next = d; best = bestScore rule d })
     takes e q =
         record {
           number = so-far .number ∙ sym (counted-no reached d (ap not e));
           few = omega (arith, so-far .few);
-          first = scanned-take w below (at .next) d cell (so-far .first) e q;
+          first = scanned-take rule below (at .next) d cell (so-far .first) e q;
           known = λ h. (omega arith, refl);
         }
 
-    leaves : below d ≡ true → at .next < 256 → before w d (at .next) ≡ false → Met (d + 1) at
+    leaves : below d ≡ true → at .next < 256 → before rule d (at .next) ≡ false → Met (d + 1) at
     leaves e h q =
         record {
           number = so-far .number ∙ sym (counted-no reached d (ap not e));
           few = omega (arith, so-far .few);
-          first = scanned-leave w below (at .next) d cell (so-far .first) (λ t. (h, q));
+          first = scanned-leave rule below (at .next) d cell (so-far .first) (λ t. (h, q));
           known = λ g. let k = so-far .known g in (less (k .0), k .1);
         }
       where
         less : {n : ℕ} → n < d → n < d + 1
         less h = omega arith
 
-    pub met-more : Met (d + 1) (met at d (bestScore w d) s)
-    met-more = go (tested (below d)) (tested (leb 256 (at .next))) (tested (ltZ (at .best) (bestScore w d)))
+    pub met-more : Met (d + 1) (met at d (bestScore rule d) s)
+    met-more = go (tested (below d)) (tested (leb 256 (at .next))) (tested (ltZ (at .best) (bestScore rule d)))
       where
-        go : Tested (below d) → Tested (leb 256 (at .next)) → Tested (ltZ (at .best) (bestScore w d)) → Met (d + 1) (met at d (bestScore w d) s)
-        go (failed e) t u = subst (Met (d + 1)) (sym (met-counts at d (bestScore w d) s e)) (counts e)
+        go : Tested (below d) → Tested (leb 256 (at .next)) → Tested (ltZ (at .best) (bestScore rule d)) → Met (d + 1) (met at d (bestScore rule d) s)
+        go (failed e) t u = subst (Met (d + 1)) (sym (met-counts at d (bestScore rule d) s e)) (counts e)
         go (passed e) (passed t) u =
-            subst (Met (d + 1)) (sym (met-sooner at d (bestScore w d) s e (or-left (leb 256 (at .next)) (ltZ (at .best) (bestScore w d)) t)))
+            subst (Met (d + 1)) (sym (met-sooner at d (bestScore rule d) s e (or-left (leb 256 (at .next)) (ltZ (at .best) (bestScore rule d)) t)))
             (takes e (λ h. absurd (no (at .next) h (leb-true 256 (at .next) t))))
           where
             no : (n : ℕ) → n < 256 → 256 ≤ n → ⊥
             no n h g = omega arith
         go (passed e) (failed t) (passed u) =
-            subst (Met (d + 1)) (sym (met-sooner at d (bestScore w d) s e (or-right (leb 256 (at .next)) (ltZ (at .best) (bestScore w d)) u)))
+            subst (Met (d + 1)) (sym (met-sooner at d (bestScore rule d) s e (or-right (leb 256 (at .next)) (ltZ (at .best) (bestScore rule d)) u)))
             (takes e (sooner u))
         go (passed e) (failed t) (failed u) =
-            subst (Met (d + 1)) (sym (met-later at d (bestScore w d) s e (ap₂ (λ a b. a || b) t u)))
+            subst (Met (d + 1)) (sym (met-later at d (bestScore rule d) s e (ap₂ (λ a b. a || b) t u)))
             (leaves e (leb-false 256 (at .next) t) (not-sooner u (leb-false 256 (at .next) t)))
 
   -- a row's cells
-  pub row-none : (at : Sought) (row : ℕ) → at ≡ metRow w s at row 0
+  pub row-none : (at : Sought) (row : ℕ) → at ≡ metRow rule s at row 0
   unfolding metRow
   row-none at row = refl
 
-  pub row-more : (at : Sought) (row n : ℕ) → met (metRow w s at row n) (16 * row + n) (bestScore w (16 * row + n)) s ≡ metRow w s at row (n + 1)
+  pub row-more : (at : Sought) (row n : ℕ) → met (metRow rule s at row n) (16 * row + n) (bestScore rule (16 * row + n)) s ≡ metRow rule s at row (n + 1)
   unfolding metRow
-  row-more at row n = ap (metRow w s at row) (sym (add-one n))
+  row-more at row n = ap (metRow rule s at row) (sym (add-one n))
 
-  row-to : (at : Sought) (row : ℕ) → row < 16 → Met (16 * row) at → (n : ℕ) → n ≤ 16 → Met (16 * row + n) (metRow w s at row n)
+  row-to : (at : Sought) (row : ℕ) → row < 16 → Met (16 * row) at → (n : ℕ) → n ≤ 16 → Met (16 * row + n) (metRow rule s at row n)
   unfolding metRow
   row-to at row h m zero l = subst (λ d. Met d at) (sym (add-zero (16 * row))) m
   row-to at row h m (suc n) l =
-      subst (λ d. Met d (metRow w s at row (suc n))) (up (16 * row)) (met-more (16 * row + n) (metRow w s at row n) (omega arith) (row-to at row h m n (omega arith)))
+      subst (λ d. Met d (metRow rule s at row (suc n))) (up (16 * row)) (met-more (16 * row + n) (metRow rule s at row n) (omega arith) (row-to at row h m n (omega arith)))
     where
       up : (d : ℕ) → d + n + 1 ≡ d + suc n
       up d = omega arith
 
-  pub met-row : (at : Sought) (row : ℕ) → row < 16 → Met (16 * row) at → Met (16 * (row + 1)) (metRow w s at row 16)
-  met-row at row h m = subst (λ d. Met d (metRow w s at row 16)) next (row-to at row h m 16 (omega arith))
+  pub met-row : (at : Sought) (row : ℕ) → row < 16 → Met (16 * row) at → Met (16 * (row + 1)) (metRow rule s at row 16)
+  met-row at row h m = subst (λ d. Met d (metRow rule s at row 16)) next (row-to at row h m 16 (omega arith))
     where
       next : 16 * row + 16 ≡ 16 * (row + 1)
       next = omega arith
 
-  pub met-all : (at : Sought) → Met 256 at → record { cells = at .cells; next = at .next } ≡ reachOf w s
+  pub met-all : (at : Sought) → Met 256 at → record { cells = at .cells; next = at .next } ≡ reachOf rule s
   unfolding reachOf reaching
   met-all at m =
-      ap₂ (λ n c. record { cells = n; next = c }) (m .number) (scanned-left w below (reaching w s) (at .next) left-below (m .first))
+      ap₂ (λ n c. record { cells = n; next = c }) (m .number) (scanned-left rule below (reaching rule s) (at .next) left-below (m .first))

@@ -15,7 +15,7 @@ use lib.Seq.{take-suc, drop-cons}
 use Rattle.laws.specs.Lists.{_∈_, only}
 use Rattle.ranking.specs.Cells.{before, count, cells, visiting, placeOf, cellAt}
 use Rattle.ranking.specs.Scan.{leads, nearer, placeAfter}
-use Rattle.ranking.specs.declared.Weights.{Weights}
+use Rattle.ranking.specs.declared.Rule.{Rule}
 use Rattle.laws.proofs.Tests.{Tested, passed, failed, tested, clash, and-both, and-true}
 use Rattle.laws.proofs.Lists.{Pairwise, here, drop-⊆, lt-or-eq, pairwise-at, pairwise-drop, pairwise-only, only-in, only-of, index-of, getD-in, getD-left, getD-past, only-append, placed, inside, take-more, Other}
 use Rattle.laws.proofs.Orders.{opposite, differs, ltb-strict}
@@ -47,69 +47,69 @@ counted-no p n e = counted p n ∙ rw (e, only) (omega arith)
 
 -- ---- places
 
-module _ (w : Weights) where
+module _ (rule : Rule) where
   abbrev Earlier : ℕ → ℕ → Type 0
-  Earlier c d = before w c d ≡ true
+  Earlier c d = before rule c d ≡ true
 
   -- the place of the cell at a place
-  pub place-at : (n : ℕ) → n < 256 → placeOf w (cellAt w n) ≡ n
+  pub place-at : (n : ℕ) → n < 256 → placeOf rule (cellAt rule n) ≡ n
   place-at n h =
-      length-same ltb ltb-strict (only p cells) (only p (visiting w))
-      (pairwise-only Other p cells cells-distinct) (pairwise-only Other p (visiting w) (visiting-distinct w)) (
-        λ c m. let r = only-of p cells m in only-in p (visiting w) (visiting-same w .0 c (r .0)) (r .1),
-        λ c m. let r = only-of p (visiting w) m in only-in p cells (visiting-same w .1 c (r .0)) (r .1),
+      length-same ltb ltb-strict (only p cells) (only p (visiting rule))
+      (pairwise-only Other p cells cells-distinct) (pairwise-only Other p (visiting rule) (visiting-distinct rule)) (
+        λ c m. let r = only-of p cells m in only-in p (visiting rule) (visiting-same rule .0 c (r .0)) (r .1),
+        λ c m. let r = only-of p (visiting rule) m in only-in p cells (visiting-same rule .1 c (r .0)) (r .1),
       )
-      ∙ falling-place (before w) (before-strict w) 256 (visiting w) n (visiting-falling w) (rw (length-visiting w) h)
+      ∙ falling-place (before rule) (before-strict rule) 256 (visiting rule) n (visiting-falling rule) (rw (length-visiting rule) h)
     where
       p : ℕ → Bool
-      p d = before w d (cellAt w n)
+      p d = before rule d (cellAt rule n)
 
   -- each cell stands at its place
-  pub at-place : (c : ℕ) → c < 256 → (placeOf w c < 256) × (cellAt w (placeOf w c) ≡ c)
+  pub at-place : (c : ℕ) → c < 256 → (placeOf rule c < 256) × (cellAt rule (placeOf rule c) ≡ c)
   at-place c h =
-      let r = index-of 256 (visiting w) (visiting-in w c h) in
-      let below : r .0 < 256 = subst (λ n. r .0 < n) (length-visiting w) (r .1) in
-      let e : placeOf w c ≡ r .0 = ap (placeOf w) (sym (r .2)) ∙ place-at (r .0) below in
-      (subst (λ n. n < 256) (sym e) below, ap (cellAt w) e ∙ r .2)
+      let r = index-of 256 (visiting rule) (visiting-in rule c h) in
+      let below : r .0 < 256 = subst (λ n. r .0 < n) (length-visiting rule) (r .1) in
+      let e : placeOf rule c ≡ r .0 = ap (placeOf rule) (sym (r .2)) ∙ place-at (r .0) below in
+      (subst (λ n. n < 256) (sym e) below, ap (cellAt rule) e ∙ r .2)
 
-  pub cell-at : (n : ℕ) → n < 256 → cellAt w n < 256
-  cell-at n h = visiting-of w (cellAt w n) (getD-in 256 (visiting w) n (rw (length-visiting w) h))
+  pub cell-at : (n : ℕ) → n < 256 → cellAt rule n < 256
+  cell-at n h = visiting-of rule (cellAt rule n) (getD-in 256 (visiting rule) n (rw (length-visiting rule) h))
 
-  pub place-after : (c : ℕ) → c < 256 → placeAfter w c ≡ placeOf w c + 1
-  place-after c h = let e = lt-ltb c 256 h in rw (e, placeAfter) (sym (add-one (placeOf w c)))
+  pub place-after : (c : ℕ) → c < 256 → placeAfter rule c ≡ placeOf rule c + 1
+  place-after c h = let e = lt-ltb c 256 h in rw (e, placeAfter) (sym (add-one (placeOf rule c)))
 
   -- ---- which cells follow
 
-  pub leads-cells : (c d : ℕ) → c < 256 → d < 256 → leads w c d ≡ before w c d
+  pub leads-cells : (c d : ℕ) → c < 256 → d < 256 → leads rule c d ≡ before rule c d
   leads-cells c d h g =
       let e = lt-ltb c 256 h in
       let f = lt-ltb d 256 g in
       rw (e, f, leads)
 
-  pub leads-from : (c d : ℕ) → 256 ≤ c → leads w c d ≡ true
+  pub leads-from : (c d : ℕ) → 256 ≤ c → leads rule c d ≡ true
   leads-from c d h = let e = le-ltb c 256 h in rw (e, leads)
 
-  pub leads-to : (c d : ℕ) → 256 ≤ d → leads w c d ≡ true
+  pub leads-to : (c d : ℕ) → 256 ≤ d → leads rule c d ≡ true
   leads-to c d h = go (tested (ltb c 256))
     where
       last : ltb d 256 ≡ false
       last = le-ltb d 256 h
 
-      go : Tested (ltb c 256) → leads w c d ≡ true
+      go : Tested (ltb c 256) → leads rule c d ≡ true
       go (passed e) = rw (e, last, leads)
       go (failed e) = rw (e, leads)
 
-  pub nearer-yes : (from found d : ℕ) → leads w from d ≡ true → leads w d found ≡ true → nearer w from found d ≡ d
+  pub nearer-yes : (from found d : ℕ) → leads rule from d ≡ true → leads rule d found ≡ true → nearer rule from found d ≡ d
   nearer-yes from found d p q = let e = and-true p q in rw (e, nearer)
 
-  pub nearer-no : (from found d : ℕ) → leads w from d && leads w d found ≡ false → nearer w from found d ≡ found
+  pub nearer-no : (from found d : ℕ) → leads rule from d && leads rule d found ≡ false → nearer rule from found d ≡ found
   nearer-no from found d e = rw (e, nearer)
 
   -- what is known of the cells that pass a test after those below d have been looked at: the one that is taken first
   pub record Scanned (p : ℕ → Bool) (d found : ℕ) : Type 0 where
     pub at-most : found ≤ 256
     pub passes : found < 256 → p found ≡ true
-    pub soonest : (e : ℕ) → e < d → p e ≡ true → (found < 256) × (before w e found ≡ false)
+    pub soonest : (e : ℕ) → e < d → p e ≡ true → (found < 256) × (before rule e found ≡ false)
 
   pub scanned-none : (p : ℕ → Bool) → Scanned p 0 256
   scanned-none p = record { at-most = omega arith; passes = λ h. absurd (no 256 h); soonest = λ e h. absurd (not-suc-le-zero h) }
@@ -125,7 +125,7 @@ module _ (w : Weights) where
         below e h = omega arith
 
     -- d passes and is taken sooner
-    pub scanned-take : p d ≡ true → (found < 256 → before w d found ≡ true) → Scanned p (d + 1) d
+    pub scanned-take : p d ≡ true → (found < 256 → before rule d found ≡ true) → Scanned p (d + 1) d
     scanned-take t q =
         record {
           at-most = omega arith;
@@ -133,18 +133,18 @@ module _ (w : Weights) where
           soonest = λ e h l. (cell, go e (up-to-d e h) l);
         }
       where
-        beaten : (e : ℕ) → e < d → p e ≡ true → Tested (before w e d) → before w e d ≡ false
+        beaten : (e : ℕ) → e < d → p e ≡ true → Tested (before rule e d) → before rule e d ≡ false
         beaten e h l (failed f) = f
         beaten e h l (passed f) =
             let r = so-far .soonest e h l in
-            clash (before-strict w .transitive e d found f (q (r .0))) (r .1)
+            clash (before-strict rule .transitive e d found f (q (r .0))) (r .1)
 
-        go : (e : ℕ) → (e < d) ⊎ (e ≡ d) → p e ≡ true → before w e d ≡ false
-        go e (inl h) l = beaten e h l (tested (before w e d))
-        go e (inr h) l = subst (λ z. before w z d ≡ false) (sym h) (before-strict w .irreflexive d)
+        go : (e : ℕ) → (e < d) ⊎ (e ≡ d) → p e ≡ true → before rule e d ≡ false
+        go e (inl h) l = beaten e h l (tested (before rule e d))
+        go e (inr h) l = subst (λ z. before rule z d ≡ false) (sym h) (before-strict rule .irreflexive d)
 
     -- or not
-    pub scanned-leave : (p d ≡ true → (found < 256) × (before w d found ≡ false)) → Scanned p (d + 1) found
+    pub scanned-leave : (p d ≡ true → (found < 256) × (before rule d found ≡ false)) → Scanned p (d + 1) found
     scanned-leave n =
         record {
           at-most = so-far .at-most;
@@ -152,142 +152,142 @@ module _ (w : Weights) where
           soonest = λ e h l. go e (up-to-d e h) l;
         }
       where
-        go : (e : ℕ) → (e < d) ⊎ (e ≡ d) → p e ≡ true → (found < 256) × (before w e found ≡ false)
+        go : (e : ℕ) → (e < d) ⊎ (e ≡ d) → p e ≡ true → (found < 256) × (before rule e found ≡ false)
         go e (inl h) l = so-far .soonest e h l
         go e (inr h) l =
-            subst (λ z. (found < 256) × (before w z found ≡ false)) (sym h) (n (subst (λ z. p z ≡ true) h l))
+            subst (λ z. (found < 256) × (before rule z found ≡ false)) (sym h) (n (subst (λ z. p z ≡ true) h l))
 
   -- the cells that follow `from`
-  module _ (from found d : ℕ) (cell : d < 256) (so-far : Scanned (leads w from) d found) where
-    pub scanned-more : Scanned (leads w from) (d + 1) (nearer w from found d)
-    scanned-more = go (tested (leads w from d && leads w d found))
+  module _ (from found d : ℕ) (cell : d < 256) (so-far : Scanned (leads rule from) d found) where
+    pub scanned-more : Scanned (leads rule from) (d + 1) (nearer rule from found d)
+    scanned-more = go (tested (leads rule from d && leads rule d found))
       where
-        ahead : leads w d found ≡ true → found < 256 → before w d found ≡ true
+        ahead : leads rule d found ≡ true → found < 256 → before rule d found ≡ true
         ahead q h = sym (leads-cells d found cell h) ∙ q
 
-        at-d : leads w d found ≡ false → (found < 256) ⊎ (found ≡ 256) → (found < 256) × (before w d found ≡ false)
+        at-d : leads rule d found ≡ false → (found < 256) ⊎ (found ≡ 256) → (found < 256) × (before rule d found ≡ false)
         at-d q (inl h) = (h, sym (leads-cells d found cell h) ∙ q)
         at-d q (inr h) = clash (leads-to d found (omega arith)) q
 
-        go : Tested (leads w from d && leads w d found) → Scanned (leads w from) (d + 1) (nearer w from found d)
+        go : Tested (leads rule from d && leads rule d found) → Scanned (leads rule from) (d + 1) (nearer rule from found d)
         go (passed e) =
-            let r = and-both (leads w from d) (leads w d found) e in
-            subst (Scanned (leads w from) (d + 1)) (sym (nearer-yes from found d (r .0) (r .1)))
-            (scanned-take (leads w from) found d cell so-far (r .0) (ahead (r .1)))
+            let r = and-both (leads rule from d) (leads rule d found) e in
+            subst (Scanned (leads rule from) (d + 1)) (sym (nearer-yes from found d (r .0) (r .1)))
+            (scanned-take (leads rule from) found d cell so-far (r .0) (ahead (r .1)))
         go (failed e) =
-            subst (Scanned (leads w from) (d + 1)) (sym (nearer-no from found d e))
-            (scanned-leave (leads w from) found d cell so-far
-            (λ p. at-d (sym (ap (λ b. b && leads w d found) p) ∙ e) (lt-or-eq (so-far .at-most))))
+            subst (Scanned (leads rule from) (d + 1)) (sym (nearer-no from found d e))
+            (scanned-leave (leads rule from) found d cell so-far
+            (λ p. at-d (sym (ap (λ b. b && leads rule d found) p) ∙ e) (lt-or-eq (so-far .at-most))))
 
   -- a cell with its place: it ends the cells up to its place, and what follows it is left
   module _ (from : ℕ) (h : from < 256) where
     n : ℕ
-    n = placeOf w from
+    n = placeOf rule from
 
-    within : n < length (visiting w)
+    within : n < length (visiting rule)
     unfolding n
-    within = rw (length-visiting w) (at-place from h .0)
+    within = rw (length-visiting rule) (at-place from h .0)
 
-    up-to : take (suc n) (visiting w) ≡ take n (visiting w) ++ (from ∷ [])
+    up-to : take (suc n) (visiting rule) ≡ take n (visiting rule) ++ (from ∷ [])
     unfolding n
-    up-to = take-suc (visiting w) n 256 within ∙ ap (λ c. take n (visiting w) ++ (c ∷ [])) (at-place from h .1)
+    up-to = take-suc (visiting rule) n 256 within ∙ ap (λ c. take n (visiting rule) ++ (c ∷ [])) (at-place from h .1)
 
-    at-left : from ∈ drop n (visiting w)
+    at-left : from ∈ drop n (visiting rule)
     unfolding n
-    at-left = subst (λ l. from ∈ l) (sym (drop-cons (visiting w) n 256 within)) (List·Memᴰ·head (sym (at-place from h .1)))
+    at-left = subst (λ l. from ∈ l) (sym (drop-cons (visiting rule) n 256 within)) (List·Memᴰ·head (sym (at-place from h .1)))
 
-    left-follows : (e : ℕ) → e ∈ drop (suc n) (visiting w) → before w from e ≡ true
+    left-follows : (e : ℕ) → e ∈ drop (suc n) (visiting rule) → before rule from e ≡ true
     left-follows e m =
-        pairwise-at Earlier (suc n) (visiting w) (visiting-falling w) from e
-        (subst (λ l. from ∈ l) (sym up-to) (Memᴰ·append-right (take n (visiting w)) here)) m
+        pairwise-at Earlier (suc n) (visiting rule) (visiting-falling rule) from e
+        (subst (λ l. from ∈ l) (sym up-to) (Memᴰ·append-right (take n (visiting rule)) here)) m
 
-    follows-left : (e : ℕ) → e < 256 → before w from e ≡ true → e ∈ drop (suc n) (visiting w)
+    follows-left : (e : ℕ) → e < 256 → before rule from e ≡ true → e ∈ drop (suc n) (visiting rule)
     follows-left e g b =
-        ⊎-elim (λ m. absurd (not-up-to (List·Memᴰ·append-cases (take n (visiting w)) (subst (λ l. e ∈ l) up-to m)))) (λ m. m)
-        (List·Memᴰ·append-cases (take (suc n) (visiting w)) (subst (λ l. e ∈ l) (sym (take-append-drop (suc n) (visiting w))) (visiting-in w e g)))
+        ⊎-elim (λ m. absurd (not-up-to (List·Memᴰ·append-cases (take n (visiting rule)) (subst (λ l. e ∈ l) up-to m)))) (λ m. m)
+        (List·Memᴰ·append-cases (take (suc n) (visiting rule)) (subst (λ l. e ∈ l) (sym (take-append-drop (suc n) (visiting rule))) (visiting-in rule e g)))
       where
-        not-up-to : (e ∈ take n (visiting w)) ⊎ (e ∈ from ∷ []) → ⊥
-        not-up-to (inl m) = opposite (before w) (before-strict w) from e b (pairwise-at Earlier n (visiting w) (visiting-falling w) e from m at-left)
-        not-up-to (inr m) = differs (before w) (before-strict w) from e b (sym (List·Memᴰ·eq-of-singleton m))
+        not-up-to : (e ∈ take n (visiting rule)) ⊎ (e ∈ from ∷ []) → ⊥
+        not-up-to (inl m) = opposite (before rule) (before-strict rule) from e b (pairwise-at Earlier n (visiting rule) (visiting-falling rule) e from m at-left)
+        not-up-to (inr m) = differs (before rule) (before-strict rule) from e b (sym (List·Memᴰ·eq-of-singleton m))
 
   -- the cells that follow are those that are left
-  following : (from e : ℕ) → e < 256 → leads w from e ≡ true ↔ e ∈ drop (placeAfter w from) (visiting w)
+  following : (from e : ℕ) → e < 256 → leads rule from e ≡ true ↔ e ∈ drop (placeAfter rule from) (visiting rule)
   unfolding n
   following from e g = go (tested (ltb from 256))
     where
-      go : Tested (ltb from 256) → leads w from e ≡ true ↔ e ∈ drop (placeAfter w from) (visiting w)
+      go : Tested (ltb from 256) → leads rule from e ≡ true ↔ e ∈ drop (placeAfter rule from) (visiting rule)
       go (passed t) =
           let h = ltb-true from 256 t in
           rw (t, placeAfter)
           (λ l. follows-left from h e g (sym (leads-cells from e h g) ∙ l), λ m. leads-cells from e h g ∙ left-follows from h e m)
       go (failed t) =
-          rw (t, placeAfter) (λ l. visiting-in w e g, λ m. leads-from from e (ltb-false from 256 t))
+          rw (t, placeAfter) (λ l. visiting-in rule e g, λ m. leads-from from e (ltb-false from 256 t))
 
   -- where those that pass the test are what is left after the place m, all the cells looked at show the one at m
-  pub scanned-left : (p : ℕ → Bool) (m found : ℕ) → ((e : ℕ) → e < 256 → p e ≡ true ↔ e ∈ drop m (visiting w)) → Scanned p 256 found → found ≡ cellAt w m
-  scanned-left p m found left s = go (drop m (visiting w)) refl
+  pub scanned-left : (p : ℕ → Bool) (m found : ℕ) → ((e : ℕ) → e < 256 → p e ≡ true ↔ e ∈ drop m (visiting rule)) → Scanned p 256 found → found ≡ cellAt rule m
+  scanned-left p m found left s = go (drop m (visiting rule)) refl
     where
-      found-left : found < 256 → found ∈ drop m (visiting w)
+      found-left : found < 256 → found ∈ drop m (visiting rule)
       found-left h = left found h .0 (s .passes h)
 
-      go : (rest : List ℕ) → drop m (visiting w) ≡ rest → found ≡ cellAt w m
+      go : (rest : List ℕ) → drop m (visiting rule) ≡ rest → found ≡ cellAt rule m
       go [] q =
-          ⊎-elim (λ h. absurd (List·Memᴰ·not-nil (subst (λ l. found ∈ l) q (found-left h)))) (λ e. e ∙ sym (getD-past 256 (visiting w) m q))
+          ⊎-elim (λ h. absurd (List·Memᴰ·not-nil (subst (λ l. found ∈ l) q (found-left h)))) (λ e. e ∙ sym (getD-past 256 (visiting rule) m q))
           (lt-or-eq (s .at-most))
       go (x ∷ xs) q =
-          let x-left : x ∈ drop m (visiting w) = subst (λ l. x ∈ l) (sym q) here in
-          let x-cell = visiting-of w x (drop-⊆ m (visiting w) x x-left) in
+          let x-left : x ∈ drop m (visiting rule) = subst (λ l. x ∈ l) (sym q) here in
+          let x-cell = visiting-of rule x (drop-⊆ m (visiting rule) x x-left) in
           let r = s .soonest x x-cell (left x x-cell .1 x-left) in
           ⊎-elim (λ e. e)
-          (λ k. clash (subst (Pairwise Earlier) q (pairwise-drop Earlier m (visiting w) (visiting-falling w)) .0 found k) (r .1))
+          (λ k. clash (subst (Pairwise Earlier) q (pairwise-drop Earlier m (visiting rule) (visiting-falling rule)) .0 found k) (r .1))
           (List·Memᴰ·cases-cons (subst (λ l. found ∈ l) q (found-left (r .0))))
-          ∙ sym (getD-left 256 (visiting w) m q)
+          ∙ sym (getD-left 256 (visiting rule) m q)
 
   -- after all the cells the scan has found the one that follows
-  pub scanned-all : (from found : ℕ) → Scanned (leads w from) 256 found → found ≡ cellAt w (placeAfter w from)
-  scanned-all from found s = scanned-left (leads w from) (placeAfter w from) found (following from) s
+  pub scanned-all : (from found : ℕ) → Scanned (leads rule from) 256 found → found ≡ cellAt rule (placeAfter rule from)
+  scanned-all from found s = scanned-left (leads rule from) (placeAfter rule from) found (following from) s
 
   -- ---- the cells taken so far, by the next one
 
   -- the next cell begins what is left
-  pub left-at : (m : ℕ) → m < 256 → drop m (visiting w) ≡ cellAt w m ∷ drop (suc m) (visiting w)
-  left-at m h = drop-cons (visiting w) m 256 (rw (length-visiting w) h)
+  pub left-at : (m : ℕ) → m < 256 → drop m (visiting rule) ≡ cellAt rule m ∷ drop (suc m) (visiting rule)
+  left-at m h = drop-cons (visiting rule) m 256 (rw (length-visiting rule) h)
 
-  pub left-none : (m : ℕ) → 256 ≤ m → drop m (visiting w) ≡ []
-  left-none m h = drop-of-length-le (visiting w) {i = m} (subst (λ n. n ≤ m) (sym (length-visiting w)) h)
+  pub left-none : (m : ℕ) → 256 ≤ m → drop m (visiting rule) ≡ []
+  left-none m h = drop-of-length-le (visiting rule) {i = m} (subst (λ n. n ≤ m) (sym (length-visiting rule)) h)
 
   -- a cell is among the first m exactly where its place is below m
-  pub taken-place : (m c : ℕ) → c < 256 → c ∈ take m (visiting w) ↔ placeOf w c < m
+  pub taken-place : (m c : ℕ) → c < 256 → c ∈ take m (visiting rule) ↔ placeOf rule c < m
   unfolding n
   taken-place m c h = (to, from)
     where
-      to : c ∈ take m (visiting w) → placeOf w c < m
+      to : c ∈ take m (visiting rule) → placeOf rule c < m
       to t =
-          let r = placed m (visiting w) t in
-          let e = getD-left 256 (visiting w) (r .0) (r .3) in
-          let below = subst (λ z. r .0 < z) (length-visiting w) (inside (r .0) (visiting w) (r .3)) in
-          subst (λ z. z < m) (sym (ap (placeOf w) (sym e) ∙ place-at (r .0) below)) (r .1)
+          let r = placed m (visiting rule) t in
+          let e = getD-left 256 (visiting rule) (r .0) (r .3) in
+          let below = subst (λ z. r .0 < z) (length-visiting rule) (inside (r .0) (visiting rule) (r .3)) in
+          subst (λ z. z < m) (sym (ap (placeOf rule) (sym e) ∙ place-at (r .0) below)) (r .1)
 
-      from : placeOf w c < m → c ∈ take m (visiting w)
+      from : placeOf rule c < m → c ∈ take m (visiting rule)
       from l =
-          take-more (visiting w) l c
-          (subst (λ s. c ∈ s) (sym (up-to c h)) (Memᴰ·append-right (take (placeOf w c) (visiting w)) here))
+          take-more (visiting rule) l c
+          (subst (λ s. c ∈ s) (sym (up-to c h)) (Memᴰ·append-right (take (placeOf rule c) (visiting rule)) here))
 
   -- and, while cells are left, exactly where it stands before the next one
-  pub taken-before : (m c : ℕ) → m < 256 → c < 256 → c ∈ take m (visiting w) ↔ before w c (cellAt w m) ≡ true
+  pub taken-before : (m c : ℕ) → m < 256 → c < 256 → c ∈ take m (visiting rule) ↔ before rule c (cellAt rule m) ≡ true
   taken-before m c h g = (to, from)
     where
-      to : c ∈ take m (visiting w) → before w c (cellAt w m) ≡ true
-      to t = pairwise-at Earlier m (visiting w) (visiting-falling w) c (cellAt w m) t (subst (λ l. cellAt w m ∈ l) (sym (left-at m h)) here)
+      to : c ∈ take m (visiting rule) → before rule c (cellAt rule m) ≡ true
+      to t = pairwise-at Earlier m (visiting rule) (visiting-falling rule) c (cellAt rule m) t (subst (λ l. cellAt rule m ∈ l) (sym (left-at m h)) here)
 
-      not-left : before w c (cellAt w m) ≡ true → c ∈ drop m (visiting w) → ⊥
+      not-left : before rule c (cellAt rule m) ≡ true → c ∈ drop m (visiting rule) → ⊥
       not-left b t =
-          let left = subst (Pairwise Earlier) (left-at m h) (pairwise-drop Earlier m (visiting w) (visiting-falling w)) in
-          ⊎-elim (differs (before w) (before-strict w) c (cellAt w m) b)
-          (λ k. opposite (before w) (before-strict w) c (cellAt w m) b (left .0 c k))
+          let left = subst (Pairwise Earlier) (left-at m h) (pairwise-drop Earlier m (visiting rule) (visiting-falling rule)) in
+          ⊎-elim (differs (before rule) (before-strict rule) c (cellAt rule m) b)
+          (λ k. opposite (before rule) (before-strict rule) c (cellAt rule m) b (left .0 c k))
           (List·Memᴰ·cases-cons (subst (λ l. c ∈ l) (left-at m h) t))
 
-      from : before w c (cellAt w m) ≡ true → c ∈ take m (visiting w)
+      from : before rule c (cellAt rule m) ≡ true → c ∈ take m (visiting rule)
       from b =
           ⊎-elim (λ t. t) (λ t. absurd (not-left b t))
-          (List·Memᴰ·append-cases (take m (visiting w)) (subst (λ l. c ∈ l) (sym (take-append-drop m (visiting w))) (visiting-in w c g)))
+          (List·Memᴰ·append-cases (take m (visiting rule)) (subst (λ l. c ∈ l) (sym (take-append-drop m (visiting rule))) (visiting-in rule c g)))

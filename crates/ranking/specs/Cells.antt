@@ -1,4 +1,4 @@
--- Scores, the grid's cells, and the order in which a search takes them.
+-- A question's rule, the scores that it gives, the grid's cells, and the order in which a search takes them.
 use mathlib.Core.Bool.{Bool, true, false, not, _&&_}
 use mathlib.Core.List.{List, [], _∷_}
 use Prim.Native.Nat.{ℕ, zero, suc, _+_, _*_, _/_, _%_}
@@ -7,37 +7,76 @@ use lib.ListN.{length, getD}
 use lib.IntN.{ℤ, pos, negsuc, _+ℤ_, _*ℤ_}
 use lib.Signed.{ltZ, leZ}
 use Rattle.laws.specs.Lists.{only}
+use Rattle.laws.specs.Whole.{equal}
 use Rattle.search.specs.Best.{rank}
+use Rattle.values.specs.declared.Values.{Values}
 use Rattle.ranking.specs.declared.Weights.{Weights}
+use Rattle.ranking.specs.declared.Rule.{Rule}
 use Rattle.ranking.specs.declared.Reach.{Reach}
 
+-- The grid: 16 columns by 16 rows of cells, each of 256 by 256 values.
+abbrev pub side : ℕ
+side = 256
+
+abbrev pub columns : ℕ
+columns = 16
+
+abbrev pub cellCount : ℕ
+cellCount = 256
+
+-- ---- the rule
+
+-- A question goes by its weights, and by nothing else.
+abbrev pub ruleOf : Weights → Rule
+ruleOf w = record { weights = w }
+
+-- The rule of an empty slot.
+abbrev pub noRule : Rule
+noRule = record { weights = record { loss = pos 0; shake = pos 0 } }
+
+-- All of it is 0.
+unfoldable pub isNone : Rule → Bool
+isNone rule = equal (rule .weights .loss) (pos 0) && equal (rule .weights .shake) (pos 0)
+
 -- "weights a for loss, b for shake, each -1,000 to 1,000"
-abbrev pub inRange : ℤ → Bool
-inRange weight = leZ (negsuc 999) weight && leZ weight (pos 1000)
+abbrev pub weightFits : ℤ → Bool
+weightFits weight = leZ (negsuc 999) weight && leZ weight (pos 1000)
+
+-- Every number of the rule is in its range.
+unfoldable pub fitRule : Rule → Bool
+fitRule rule = weightFits (rule .weights .loss) && weightFits (rule .weights .shake)
 
 -- "Score = a x loss + b x shake"
-abbrev pub score : Weights → ℕ → ℕ → ℤ
-score w loss shake = w .loss *ℤ pos loss +ℤ w .shake *ℤ pos shake
+unfoldable pub score : Rule → Values → ℤ
+score rule v = rule .weights .loss *ℤ pos (v .loss) +ℤ rule .weights .shake *ℤ pos (v .shake)
+
+-- ---- the grid
 
 -- "Column = loss / 256, row = shake / 256, both rounded down; cell = 16 x row + column"
-abbrev pub cell : ℕ → ℕ → ℕ
-cell loss shake = 16 * (shake / 256) + loss / 256
+unfoldable pub cell : Values → ℕ
+cell v = columns * (v .shake / side) + v .loss / side
 
 -- "for each weight, the highest whole value inside the cell when the weight is positive, otherwise the lowest. That highest value is 256 x index + 255"
 abbrev pub corner : ℤ → ℕ → ℕ
-corner weight index = elim (ltZ (pos 0) weight) [ true ↦ 256 * index + 255 | false ↦ 256 * index ]
+corner weight index = elim (ltZ (pos 0) weight) [ true ↦ side * index + 255 | false ↦ side * index ]
+
+-- the values of a cell that count for most
+abbrev pub cornerOf : Rule → ℕ → Values
+cornerOf rule c = record { loss = corner (rule .weights .loss) (c % columns); shake = corner (rule .weights .shake) (c / columns) }
 
 -- a cell's best possible score
-abbrev pub bestScore : Weights → ℕ → ℤ
-bestScore w c = score w (corner (w .loss) (c % 16)) (corner (w .shake) (c / 16))
+unfoldable pub bestScore : Rule → ℕ → ℤ
+bestScore rule c = score rule (cornerOf rule c)
+
+-- ---- the order
 
 -- a is greater than b, or they are equal and the tie holds
 abbrev pub greater : ℤ → ℤ → Bool → Bool
 greater a b tie = elim (ltZ b a) [ true ↦ true | false ↦ elim (ltZ a b) [ true ↦ false | false ↦ tie ] ]
 
 -- "Cells are taken by falling best possible score, equal ones by rising cell number"
-abbrev pub before : Weights → ℕ → ℕ → Bool
-before w c d = greater (bestScore w c) (bestScore w d) (ltb c d)
+unfoldable pub before : Rule → ℕ → ℕ → Bool
+before rule c d = greater (bestScore rule c) (bestScore rule d) (ltb c d)
 
 -- the numbers below n, and then the rest
 abbrev pub count : ℕ → List ℕ → List ℕ
@@ -46,24 +85,24 @@ count (suc n) rest = count n (n ∷ rest)
 
 -- the cells 0 to 255
 abbrev pub cells : List ℕ
-cells = count 256 []
+cells = count cellCount []
 
 -- all cells, in the order in which they are taken
-unfoldable pub visiting : Weights → List ℕ
-visiting w = rank (before w) cells
+unfoldable pub visiting : Rule → List ℕ
+visiting rule = rank (before rule) cells
 
 -- how many cells stand before c in that order
-abbrev pub placeOf : Weights → ℕ → ℕ
-placeOf w c = length (only (λ d. before w d c) cells)
+abbrev pub placeOf : Rule → ℕ → ℕ
+placeOf rule c = length (only (λ d. before rule d c) cells)
 
 -- the cell that is taken after n steps; 256, where none is left
-abbrev pub cellAt : Weights → ℕ → ℕ
-cellAt w n = getD (visiting w) n 256
+abbrev pub cellAt : Rule → ℕ → ℕ
+cellAt rule n = getD (visiting rule) n cellCount
 
 -- how many cells have a best possible score that is not below s
-unfoldable pub reaching : Weights → ℤ → ℕ
-reaching w s = length (only (λ c. not (ltZ (bestScore w c) s)) cells)
+unfoldable pub reaching : Rule → ℤ → ℕ
+reaching rule s = length (only (λ c. not (ltZ (bestScore rule c) s)) cells)
 
 -- that number, and the cell that is taken after as many
-unfoldable pub reachOf : Weights → ℤ → Reach
-reachOf w s = record { cells = reaching w s; next = cellAt w (reaching w s) }
+unfoldable pub reachOf : Rule → ℤ → Reach
+reachOf rule s = record { cells = reaching rule s; next = cellAt rule (reaching rule s) }

@@ -1,58 +1,95 @@
--- Reports, how they stand on a list, and the search of a question with given weights.
+-- Reports, how they stand on a list by a question's rule, and the search of a question.
 use mathlib.Core.Path.{_≡_}
-use mathlib.Core.Bool.{Bool, not}
-use mathlib.Core.List.{List, [], _∷_, map}
-use Prim.Native.Nat.{ℕ, _≤_, _<_}
-use lib.Dec.{ltb}
+use mathlib.Core.Bool.{Bool, true, not, _&&_, _||_}
+use mathlib.Core.List.{List, _∷_, map}
+use Prim.Native.Nat.{ℕ, _+_}
+use lib.Dec.{ltb, eqb}
 use lib.IntN.{ℤ}
-use lib.Signed.{ltZ}
-use Rattle.laws.specs.Lists.{_∈_}
+use lib.Signed.{ltZ, leZ}
+use Rattle.laws.specs.Lists.{_∈_, onLast}
 use Rattle.search.specs.Best.{best}
 use Rattle.search.specs.Search.{Search}
+use Rattle.values.specs.declared.Values.{Values}
+use Rattle.values.specs.Range.{inRange}
 use Rattle.ranking.specs.Cells.{score, cell, bestScore, greater, visiting}
-use Rattle.ranking.specs.declared.Weights.{Weights}
+use Rattle.ranking.specs.declared.Rule.{Rule}
 
 -- a report that a window holds
 pub record Held : Type 0 where
   pub number : ℕ
-  pub loss : ℕ
-  pub shake : ℕ
+  pub values : Values
 
 -- a line of a list
 pub record Entry : Type 0 where
   pub number : ℕ
   pub score : ℤ
 
--- "One report ranks above another when its score is greater, or equal with the greater report number"
-abbrev pub above : Entry → Entry → Bool
-above e f = greater (e .score) (f .score) (ltb (f .number) (e .number))
+-- ---- the rank order
 
-abbrev pub entry : Weights → Held → Entry
-entry w r = record { number = r .number; score = score w (r .loss) (r .shake) }
+-- Of two reports of equal scores the one of number m goes before the one of number n: "with the greater report number".
+unfoldable pub goesFirst : Rule → (m n : ℕ) → Bool
+goesFirst rule m n = ltb n m
+
+-- "One report ranks above another when its score is greater, or equal with the greater report number"
+unfoldable pub above : Rule → Entry → Entry → Bool
+above rule e f = greater (e .score) (f .score) (goesFirst rule (e .number) (f .number))
+
+-- how a report stands on a list
+abbrev pub entry : Rule → Held → Entry
+entry rule h = record { number = h .number; score = score rule (h .values) }
+
+-- what some reports bring to a list: each its entry
+unfoldable pub entries : Rule → List Held → List Entry
+entries rule hs = map (entry rule) hs
+
+-- "The list is the first min(k, reports held) in that ranking."
+abbrev pub top : Rule → ℕ → List Held → List Entry
+top rule k hs = best (above rule) k (entries rule hs)
+
+-- ---- entering
+
+-- A report that enters with the score s, after all others, ranks above one of that other score: "at least the last entry's".
+unfoldable pub passes : Rule → (s other : ℤ) → Bool
+passes rule s other = leZ other s
+
+-- "The list has fewer than k entries or its score is at least the last entry's": a list l of which len are counted.
+unfoldable pub hasPlace : Rule → (k len : ℕ) → List Entry → ℤ → Bool
+hasPlace rule k len l s = ltb len k || onLast (λ e. passes rule s (e .score)) l
+
+-- The same by the last entry's score, of a list of len entries.
+unfoldable pub placeBy : Rule → (k len : ℕ) → (last s : ℤ) → Bool
+placeBy rule k len last s = ltb len k || (not (eqb len 0) && passes rule s last)
+
+-- ---- the search
 
 -- the cell's best possible score is not below the entry's
-abbrev pub reaches : Weights → ℕ → Entry → Bool
-reaches w c e = not (ltZ (bestScore w c) (e .score))
+abbrev pub reaches : Rule → ℕ → Entry → Bool
+reaches rule c e = not (ltZ (bestScore rule c) (e .score))
 
-abbrev pub searchOf : Weights → Search Entry Held
-searchOf w =
+abbrev pub searchOf : Rule → Search Entry Held
+searchOf rule =
     record {
-      above = above;
-      entry = entry w;
-      cellOf = λ r. cell (r .loss) (r .shake);
-      reaches = reaches w;
-      order = visiting w;
+      above = above rule;
+      entry = entry rule;
+      cellOf = λ h. cell (h .values);
+      reaches = reaches rule;
+      order = visiting rule;
     }
 
--- "Loss and shake are 0 to 4095"
-pub record Permitted (r : Held) : Type 0 where
-  pub loss-fits : r .loss ≤ 4095
-  pub shake-fits : r .shake ≤ 4095
+-- ---- demand 3
 
--- demand 3: some permitted pair of values of the cell c, added to the window as its newest report, numbered `new`, with nothing dropped, stands on the best-k list of that larger window
-pub record Wanted (w : Weights) (k : ℕ) (hs : List Held) (new c : ℕ) : Type 0 where
+-- "Loss and shake are 0 to 4095"
+abbrev pub Permitted : Held → Type 0
+Permitted h = inRange (h .values) ≡ true
+
+-- The number of a report that is added to a window with that many entered, with nothing dropped, and goes before all others of its score: the newest.
+unfoldable pub foremost : Rule → ℕ → ℕ
+foremost rule entered = entered + 1
+
+-- demand 3: some permitted pair of values of the cell c, added to the window as that report, stands on the best-k list of that larger window
+pub record Wanted (rule : Rule) (k : ℕ) (hs : List Held) (entered c : ℕ) : Type 0 where
   pub pair : Held
-  pub numbered : pair .number ≡ new
+  pub numbered : pair .number ≡ foremost rule entered
   pub permitted : Permitted pair
-  pub in-cell : cell (pair .loss) (pair .shake) ≡ c
-  pub listed : entry w pair ∈ best above k (map (entry w) (pair ∷ hs))
+  pub in-cell : cell (pair .values) ≡ c
+  pub listed : entry rule pair ∈ top rule k (pair ∷ hs)

@@ -1,17 +1,30 @@
-// Scores, the rank order, the grid and the order in which a search takes its cells.
+// A question's rule: its scores, the rank order, the grid and the order in which a search takes its cells.
 
 ghost use mathlib.Core.Path.{_≡_};
-ghost use mathlib.Core.Bool.{_&&_};
 ghost use Prim.Native.Nat.{_+_, _*_, _%_, _<_, _≤_};
 ghost use lib.IntN.{pos, _*ℤ_};
-ghost use Rattle.ranking.specs.Cells.{score, cell, corner, bestScore, greater, before, inRange, placeOf, cellAt, reachOf};
+ghost use Rattle.laws.specs.Whole.{equal};
+ghost use Rattle.values.specs.Range.{low};
+ghost use Rattle.ranking.specs.Cells.{ruleOf, noRule, isNone, weightFits, fitRule, score, cell, corner, bestScore, greater, before, placeOf, cellAt, reachOf};
 ghost use Rattle.ranking.specs.Scan.{leads, nearer, placeAfter, met, metRow};
-ghost use Rattle.ranking.specs.Standing.{above};
+ghost use Rattle.ranking.specs.Standing.{above, passes, placeBy};
+use values::Values;
 
-// A question's weights: a for loss, b for shake.
+// What a score is made with: a for loss, b for shake.
 pub struct Weights {
     pub loss: i16,
     pub shake: i16,
+}
+
+impl Weights {
+    pub const SMALLEST: i16 = -1000;
+
+    pub const LARGEST: i16 = 1000;
+}
+
+// All that a question goes by.
+pub struct Rule {
+    pub weights: Weights,
 }
 
 // How many cells have a best possible score of at least some score, and which of the others a search takes first; CELLS,
@@ -28,23 +41,76 @@ struct Sought {
     best: i32,
 }
 
-impl Weights {
-    pub const SMALLEST: i16 = -1000;
-
-    pub const LARGEST: i16 = 1000;
-
-    // Both weights are in their range.
-    pub fn fit(self) -> bool
-        ensures { λ r. ⌜ r ≡ (inRange (self .loss) && inRange (self .shake)) ⌝ }
+impl Rule {
+    pub fn of(weights: Weights) -> Rule
+        ensures { λ r. ⌜ r ≡ ruleOf weights ⌝ }
     {
-        in_range(self.loss) && in_range(self.shake)
+        Rule { weights }
     }
 
-    // The score of a pair of values, of which the low 12 bits count.
-    pub fn score(self, loss: u16, shake: u16) -> i32
-        ensures { λ r. ⌜ r ≡ score self (loss % 4096) (shake % 4096) ⌝ }
+    // The rule of an empty slot: all 0.
+    pub fn none() -> Rule
+        ensures { λ r. ⌜ r ≡ noRule ⌝ }
     {
-        part(self.loss, loss) + part(self.shake, shake)
+        let weights = Weights { loss: 0, shake: 0 };
+        Rule { weights }
+    }
+
+    // All of it is 0.
+    pub fn is_none(self) -> bool
+        ensures { λ r. ⌜ r ≡ isNone self ⌝ }
+    {
+        let weights = self.weights;
+        if is_zero(weights.loss) {
+            return is_zero(weights.shake);
+        }
+        false
+    }
+
+    // Every number of it is in its range.
+    pub fn fit(self) -> bool
+        ensures { λ r. ⌜ r ≡ fitRule self ⌝ }
+    {
+        let weights = self.weights;
+        in_range(weights.loss) && in_range(weights.shake)
+    }
+
+    // The score of some values, of which the low 12 bits count.
+    pub fn score(self, values: Values) -> i32
+        ensures { λ r. ⌜ r ≡ score self (low values) ⌝ }
+    {
+        let weights = self.weights;
+        part(weights.loss, values.loss) + part(weights.shake, values.shake)
+    }
+
+    // A report ranks above another: its score is greater, or equal with the greater number.
+    pub fn above(self, number: u32, score: i32, other_number: u32, other_score: i32) -> bool
+        ensures { λ r. ⌜
+            r ≡ above self (record { number = number; score = score }) (record { number = «other_number»; score = «other_score» })
+            ⌝ }
+    {
+        greater(score, other_score, other_number < number)
+    }
+
+    // A report that enters now with this score ranks above one of that other score.
+    pub fn passes(self, score: i32, other: i32) -> bool
+        ensures { λ r. ⌜ r ≡ passes self score other ⌝ }
+    {
+        other <= score
+    }
+
+    // A list for k of that many entries, the last of that score, has a place for a report that enters now with this score.
+    // Of a list with no entry `last` counts for nothing.
+    pub fn has_place(self, k: u8, len: u8, last: i32, score: i32) -> bool
+        ensures { λ r. ⌜ r ≡ placeBy self k len last score ⌝ }
+    {
+        if len < k {
+            return true;
+        }
+        if len == 0 {
+            return false;
+        }
+        self.passes(score, last)
     }
 
     // A cell's best possible score.
@@ -52,9 +118,10 @@ impl Weights {
         ensures { λ r. ⌜ r ≡ bestScore self cell ⌝ }
     {
         let n = cell as u16;
-        let x = corner(self.loss, n % Grid::COLUMNS);
-        let y = corner(self.shake, n / Grid::COLUMNS);
-        self.score(x, y)
+        let weights = self.weights;
+        let loss = corner(weights.loss, n % Grid::COLUMNS);
+        let shake = corner(weights.shake, n / Grid::COLUMNS);
+        self.score(Values { loss, shake })
     }
 
     // A search takes the cell c before the cell d.
@@ -203,9 +270,15 @@ impl Sought {
 
 // The weight is SMALLEST to LARGEST.
 fn in_range(weight: i16) -> bool
-    ensures { λ r. ⌜ r ≡ inRange weight ⌝ }
+    ensures { λ r. ⌜ r ≡ weightFits weight ⌝ }
 {
     Weights::SMALLEST <= weight && weight <= Weights::LARGEST
+}
+
+fn is_zero(weight: i16) -> bool
+    ensures { λ r. ⌜ r ≡ equal weight (pos 0) ⌝ }
+{
+    weight == 0
 }
 
 // What a value counts for by its weight.
@@ -213,7 +286,7 @@ fn part(weight: i16, value: u16) -> i32
     ensures { λ r. ⌜ r ≡ weight *ℤ pos (value % 4096) ⌝ }
 {
     let a = weight as i32;
-    let v = (value % Grid::VALUES) as i32;
+    let v = (value % Values::COUNT) as i32;
     a * v
 }
 
@@ -242,15 +315,6 @@ fn greater(a: i32, b: i32, tie: bool) -> bool
     tie
 }
 
-// A report ranks above another: its score is greater, or equal with the greater number.
-pub fn ranks_above(score: i32, number: u32, other_score: i32, other_number: u32) -> bool
-    ensures { λ r. ⌜
-        r ≡ above (record { number = number; score = score }) (record { number = «other_number»; score = «other_score» })
-        ⌝ }
-{
-    greater(score, other_score, other_number < number)
-}
-
 // The grid over loss and shake: COLUMNS by ROWS cells of SIDE by SIDE values.
 pub struct Grid {}
 
@@ -263,15 +327,12 @@ impl Grid {
 
     pub const CELLS: u16 = 256;
 
-    // A loss or a shake is below SIDE x COLUMNS.
-    pub const VALUES: u16 = 4096;
-
-    // The cell of a pair of values, of which the low 12 bits count.
-    pub fn cell(loss: u16, shake: u16) -> u8
-        ensures { λ r. ⌜ r ≡ cell (loss % 4096) (shake % 4096) ⌝ }
+    // The cell of some values, of which the low 12 bits count.
+    pub fn cell(values: Values) -> u8
+        ensures { λ r. ⌜ r ≡ cell (low values) ⌝ }
     {
-        let column = loss % Grid::VALUES / Grid::SIDE;
-        let row = shake % Grid::VALUES / Grid::SIDE;
+        let column = values.loss % Values::COUNT / Grid::SIDE;
+        let row = values.shake % Values::COUNT / Grid::SIDE;
         (Grid::COLUMNS * row + column) as u8
     }
 }

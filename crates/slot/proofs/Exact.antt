@@ -8,7 +8,7 @@ use lib.ListN.{length}
 use Rattle.laws.specs.Lists.{only}
 use Rattle.ranking.specs.Cells.{cells}
 use Rattle.ranking.specs.Standing.{Held}
-use Rattle.ranking.specs.declared.Weights.{Weights}
+use Rattle.ranking.specs.declared.Rule.{Rule}
 use Rattle.window.specs.declared.Window.{Window}
 use Rattle.window.specs.Rows.{heldReports, fitWindow}
 use Rattle.question.specs.declared.Question.{Question}
@@ -23,17 +23,17 @@ use Rattle.slot.proofs.Setting.{set-asks, set-searched}
 use Rattle.slot.proofs.Turns.{among-held, listed-keeps, turn-searched, turn-when}
 
 -- A search over what a window holds left this question, with these steps.
-pub record Exactly (w : Window) (k : ℕ) (weights : Weights) (answered : ℕ) (p : Question) : Type 0 where
-  pub found : Found w (asked k weights [] 0) p
+pub record Exactly (w : Window) (k : ℕ) (rule : Rule) (answered : ℕ) (p : Question) : Type 0 where
+  pub found : Found w (asked k rule [] 0) p
   pub answered-is : answered ≡ length (only (isMarked p) cells)
 
-exactly : (w : Window) → fitWindow w ≡ true → (q : Question) → 1 ≤ q .k → q .k ≤ 16 → Exactly w (q .k) (q .weights) (searchedAmong q (inRows w) .steps) (searchedAmong q (inRows w) .question)
+exactly : (w : Window) → fitWindow w ≡ true → (q : Question) → 1 ≤ q .k → q .k ≤ 16 → Exactly w (q .k) (q .rule) (searchedAmong q (inRows w) .steps) (searchedAmong q (inRows w) .question)
 unfolding searched
 exactly w fit q some small =
-    let f = search-finds w fit (asked (q .k) (q .weights) [] 0) some small in
+    let f = search-finds w fit (asked (q .k) (q .rule) [] 0) some small in
     let same = among-held w fit q small in
     record {
-      found = subst (Found w (asked (q .k) (q .weights) [] 0)) (sym (ap (λ (r : Searched). r .question) same)) f;
+      found = subst (Found w (asked (q .k) (q .rule) [] 0)) (sym (ap (λ (r : Searched). r .question) same)) f;
       answered-is =
           ap (λ (r : Searched). r .steps) same
           ∙ sym (whole-search q small (heldReports w) .come-to .counted)
@@ -43,18 +43,18 @@ exactly w fit q some small =
 
 module _ (w : Window) (fit : fitWindow w ≡ true) (q : Question) where
   -- The search of a question that is set.
-  pub set-exact : (k : ℕ) (ws : Weights) → setIn q k ws (inRows w) .refusal ≡ 0 → Exactly w k ws (setIn q k ws (inRows w) .steps) (setIn q k ws (inRows w) .question)
-  set-exact k ws free =
-      let asks = set-asks q k ws (inRows w) free .0 in
-      subst (λ (s : Seated). Exactly w k ws (s .steps) (s .question)) (sym (set-searched q k ws (inRows w) free)) (exactly w fit (asked k ws [] 0) (asks .some) (asks .small))
+  pub set-exact : (k : ℕ) (rule : Rule) → setIn q k rule (inRows w) .refusal ≡ 0 → Exactly w k rule (setIn q k rule (inRows w) .steps) (setIn q k rule (inRows w) .question)
+  set-exact k rule free =
+      let asks = set-asks q k rule (inRows w) free .0 in
+      subst (λ (s : Seated). Exactly w k rule (s .steps) (s .question)) (sym (set-searched q k rule (inRows w) free)) (exactly w fit (asked k rule [] 0) (asks .some) (asks .small))
 
   -- The search that a turn runs, over the reports that are left.
   pub turn-exact : (h : Held) (gone : ℕ) → 1 ≤ q .k → q .k ≤ 16 → turn q h gone (inRows w) .searched ≡ true
-      → Exactly w (q .k) (q .weights) (turn q h gone (inRows w) .steps) (turn q h gone (inRows w) .question)
+      → Exactly w (q .k) (q .rule) (turn q h gone (inRows w) .steps) (turn q h gone (inRows w) .question)
   turn-exact h gone some small again =
       let p = listed q h in
       let keeps = listed-keeps q h in
       let e = exactly w fit p (subst (λ m. 1 ≤ m) (sym (keeps .same-k)) some) (subst (λ m. m ≤ 16) (sym (keeps .same-k)) small) in
-      subst (λ (r : Turned). Exactly w (q .k) (q .weights) (r .steps) (r .question)) (sym (turn-searched q h gone (inRows w) (sym (turn-when q h gone (inRows w)) ∙ again)))
-      (subst (λ m. Exactly w m (q .weights) (searchedAmong p (inRows w) .steps) (searchedAmong p (inRows w) .question)) (keeps .same-k)
-      (subst (λ ws. Exactly w (p .k) ws (searchedAmong p (inRows w) .steps) (searchedAmong p (inRows w) .question)) (keeps .same-weights) e))
+      subst (λ (r : Turned). Exactly w (q .k) (q .rule) (r .steps) (r .question)) (sym (turn-searched q h gone (inRows w) (sym (turn-when q h gone (inRows w)) ∙ again)))
+      (subst (λ m. Exactly w m (q .rule) (searchedAmong p (inRows w) .steps) (searchedAmong p (inRows w) .question)) (keeps .same-k)
+      (subst (λ rule. Exactly w (p .k) rule (searchedAmong p (inRows w) .steps) (searchedAmong p (inRows w) .question)) (keeps .same-rule) e))

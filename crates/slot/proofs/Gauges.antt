@@ -3,28 +3,31 @@
 use mathlib.Core.Path.{_≡_, refl, sym, ap, _∙_}
 use mathlib.Core.Bool.{Bool, true, false, not, _||_}
 use mathlib.Core.List.{List, [], _∷_, _++_, map}
-use Prim.Native.Nat.{ℕ, zero, suc, _+_, min, _≤_, _<_}
+use Prim.Native.Nat.{ℕ, zero, suc, _+_, _-_, min, _≤_, _<_}
 use native.Mathlib.Nat.{not-suc-le-zero, le-of-suc-le-suc}
 use mathlib.Core.Logic.{⊎-elim}
 use native.Mathlib.Omega.{arith}
-use borrow.Author.Tests.{lt-ltb, le-ltb, ltb-true, eqb-true, not-true}
+use borrow.Author.Tests.{lt-ltb, le-ltb, ltb-true, eqb-true, eqb-false, not-true}
 use lib.Dec.{ltb, eqb}
 use lib.IntN.{ℤ, pos}
 use lib.ListN.{length, getD, take, drop}
-use lib.Signed.{leZ}
-use Rattle.ranking.specs.Cells.{score}
 use Rattle.laws.specs.Lists.{onLast}
-use Rattle.ranking.specs.Standing.{Entry}
+use Rattle.values.specs.declared.Values.{Values}
+use Rattle.ranking.specs.Cells.{score}
+use Rattle.ranking.specs.Standing.{Entry, passes, hasPlace, placeBy}
+use Rattle.ranking.specs.declared.Rule.{Rule}
+use Rattle.ranking.proofs.Entries.{no-place, place-none, place-last}
 use Rattle.laws.proofs.Lists.{lt-or-eq}
-use Rattle.laws.proofs.Tests.{Tested, passed, failed, tested, and-both, and-true}
+use Rattle.laws.proofs.Tests.{Tested, passed, failed, tested, and-both, and-true, if-so, if-not}
 use Rattle.question.specs.declared.Question.{Question}
-use Rattle.question.specs.Lines.{linesOf, lines}
-use Rattle.question.specs.Calls.{allOf}
+use Rattle.list.specs.Lines.{linesOf, allOf}
+use Rattle.question.specs.Lines.{lines}
 use Rattle.question.specs.Inner.{shown}
-use Rattle.question.proofs.Stored.{Roomy, lineAt, all-lines, take-line, no-lines}
-use Rattle.slot.specs.Turn.{hasPlace, takes, lists}
+use Rattle.list.proofs.Stored.{Roomy, lineAt, take-line}
+use Rattle.question.proofs.Stored.{all-lines, last-line, no-lines}
+use Rattle.slot.specs.Turn.{placeOn, takes, lists}
 use Rattle.slot.specs.Gauges.{lastScore, leastOf, lowest, lowOf, gaugeOf, isQuiet, isIdle, upToLast}
-use Rattle.slot.proofs.Listing.{place-none, takes-no-place, front-numbers, later-numbers, line-left}
+use Rattle.slot.proofs.Listing.{takes-no-place, front-numbers, later-numbers, line-left}
 
 -- ---- what the gauge is read off
 
@@ -32,6 +35,10 @@ last-score : (l : List Entry) (x : Entry) → lastScore (l ++ x ∷ []) ≡ x .s
 last-score [] x = refl
 last-score (y ∷ []) x = refl
 last-score (y ∷ z ∷ l) x = last-score (z ∷ l) x
+
+nonzero : (n : ℕ) → (n ≡ 0 → ⊥) → 1 ≤ n
+nonzero zero h = absurd (h refl)
+nonzero (suc n) h = omega arith
 
 module _ (q : Question) where
   pub least-none : shown q ≡ 0 → leastOf q ≡ pos 2147483647
@@ -43,6 +50,22 @@ module _ (q : Question) where
   least-last r i e =
       ap lastScore (sym (all-lines q r (shown q) refl (i + 1) e) ∙ take-line (q .numbers) (q .scores) r (shown q) (omega arith) i (omega arith))
       ∙ last-score (take i (take (shown q) (linesOf (q .numbers) (q .scores)))) (lineAt (q .numbers) (q .scores) i)
+
+  -- A place on the list, by its last score.
+  pub place-by : Roomy (q .numbers) (q .scores) → (s : ℤ) → placeBy (q .rule) (q .k) (q .len) (leastOf q) s ≡ placeOn q s
+  place-by r s = go (tested (eqb (q .len) 0))
+    where
+      go : Tested (eqb (q .len) 0) → placeBy (q .rule) (q .k) (q .len) (leastOf q) s ≡ placeOn q s
+      go (passed t) =
+          let none = eqb-true (q .len) 0 t in
+          let empty : shown q ≡ 0 = omega arith in
+          sym (ap (λ l. hasPlace (q .rule) (q .k) (q .len) l s) (no-lines q empty) ∙ place-none (q .rule) (q .k) (q .len) s (leastOf q) none)
+      go (failed t) =
+          let some = eqb-false (q .len) 0 t in
+          let last : shown q - 1 + 1 ≡ shown q = omega (arith, nonzero (q .len) some) in
+          sym
+          (place-last (q .rule) (q .k) (q .len) s (lines q) (lineAt (q .numbers) (q .scores) (shown q - 1)) (nonzero (q .len) some) (last-line q r (shown q - 1) last)
+          ∙ ap (λ z. placeBy (q .rule) (q .k) (q .len) z s) (sym (least-last r (shown q - 1) last)))
 
   pub low-room : q .len < q .k → lowOf q ≡ 0
   unfolding lowOf
@@ -58,10 +81,10 @@ low-more ns n i fits below = ap lowest (line-left ns n i fits below)
 
 -- ---- what it tells
 
-no-last : (l : List Entry) (s : ℤ) → leZ (lastScore l) s ≡ false → onLast (λ e. leZ (e .score) s) l ≡ false
-no-last [] s h = refl
-no-last (x ∷ []) s h = h
-no-last (x ∷ y ∷ l) s h = no-last (y ∷ l) s h
+no-last : (rule : Rule) (l : List Entry) (s : ℤ) → passes rule s (lastScore l) ≡ false → onLast (λ e. passes rule s (e .score)) l ≡ false
+no-last rule [] s h = refl
+no-last rule (x ∷ []) s h = h
+no-last rule (x ∷ y ∷ l) s h = no-last rule (y ∷ l) s h
 
 below-all : (n : ℕ) (l : List ℕ) → n < lowest l → allOf (ltb n) l ≡ true
 below-all n [] h = refl
@@ -76,23 +99,25 @@ full-there q n h = go (tested (ltb (q .len) (q .k)))
     go (failed t) = (t, rw t at h)
 
 -- A question whose gauge a report doesn't pass neither takes it nor lists one that has gone.
-pub quiet-untouched : (q : Question) (gone loss shake : ℕ) → isQuiet (gaugeOf q) gone loss shake ≡ true → takes q loss shake || lists q gone ≡ false
-unfolding isQuiet leastOf hasPlace lists
-quiet-untouched q gone loss shake e =
-    let s = score (q .weights) loss shake in
-    let both = and-both (not (leZ (leastOf q) s)) (ltb gone (lowOf q)) e in
+pub quiet-untouched : (q : Question) (gone : ℕ) (v : Values) → isQuiet (gaugeOf q) gone v ≡ true → takes q v || lists q gone ≡ false
+unfolding isQuiet leastOf lists
+quiet-untouched q gone v e =
+    let s = score (q .rule) v in
+    let both = and-both (not (passes (q .rule) s (leastOf q))) (ltb gone (lowOf q)) e in
     let there = full-there q gone (ltb-true gone (lowOf q) (both .1)) in
-    let none = no-last (lines q) s (not-true _ (both .0)) in
-    rw (takes-no-place q loss shake (rw (there .0, none)), later-numbers gone (lines q) ∙ below-all gone (map (λ x. x .number) (lines q)) (there .1))
+    let none = no-place (q .rule) (q .k) (q .len) s (lines q) (there .0) (no-last (q .rule) (lines q) s (not-true _ (both .0))) in
+    rw (takes-no-place q v none, later-numbers gone (lines q) ∙ below-all gone (map (λ x. x .number) (lines q)) (there .1))
 
 -- A slot with no k and no lines takes no report, and lists none.
-pub idle-untouched : (q : Question) (gone loss shake : ℕ) → isIdle q ≡ true → takes q loss shake || lists q gone ≡ false
+pub idle-untouched : (q : Question) (gone : ℕ) (v : Values) → isIdle q ≡ true → takes q v || lists q gone ≡ false
 unfolding lists
-idle-untouched q gone loss shake e =
+idle-untouched q gone v e =
     let both = and-both (eqb (q .k) 0) (eqb (q .len) 0) e in
     let k = eqb-true (q .k) 0 (both .0) in
     let empty : shown q ≡ 0 = omega (arith, eqb-true (q .len) 0 (both .1)) in
-    rw (takes-no-place q loss shake (place-none q (score (q .weights) loss shake) (omega arith) empty), no-lines q empty)
+    let s = score (q .rule) v in
+    let none = no-place (q .rule) (q .k) (q .len) s (lines q) (le-ltb (q .len) (q .k) (omega arith)) (ap (onLast (λ e. passes (q .rule) s (e .score))) (no-lines q empty)) in
+    rw (takes-no-place q v none, no-lines q empty)
 
 -- ---- the places in use
 

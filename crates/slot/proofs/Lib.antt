@@ -3,6 +3,7 @@ pub mod Refusals
 pub mod Filling
 pub mod Listing
 pub mod Gauges
+pub mod Guards
 pub mod Standing
 pub mod Turns
 pub mod Setting

@@ -8,64 +8,50 @@ use native.Mathlib.Numerals.{add-one}
 use native.Mathlib.Omega.{arith}
 use borrow.Author.Tests.{lt-ltb, le-ltb}
 use lib.Dec.{ltb}
-use lib.IntN.{ℤ, pos}
+use lib.IntN.{ℤ}
 use lib.ListN.{length, take, drop, getD, length-take}
 use lib.Seq.{drop-cons, getD-take}
-use lib.Signed.{leZ}
+use Rattle.values.specs.declared.Values.{Values}
 use Rattle.ranking.specs.Cells.{cell, score}
 use Rattle.ranking.specs.Standing.{Held, Entry, entry}
 use Rattle.question.specs.declared.Question.{Question}
-use Rattle.question.specs.Lines.{linesOf, lines, withEntry, cutToK, isMarked}
-use Rattle.question.specs.Calls.{allOf}
+use Rattle.list.specs.Lines.{linesOf, allOf}
+use Rattle.question.specs.Lines.{lines, withEntry, cutToK, isMarked}
 use Rattle.question.specs.Inner.{shown}
-use Rattle.question.proofs.Stored.{Roomy, last-line, no-lines, take-min}
-use Rattle.slot.specs.Turn.{hasPlace, takes, listed, later, lists}
+use Rattle.list.proofs.Stored.{Roomy, take-min}
+use Rattle.slot.specs.Turn.{placeOn, takes, listed, later, lists}
 
-module _ (q : Question) (s : ℤ) where
-  pub place-short : q .len < q .k → hasPlace q s ≡ true
-  unfolding hasPlace
-  place-short h = rw (lt-ltb (q .len) (q .k) h)
-
-  module _ (full : q .k ≤ q .len) where
-    pub place-none : shown q ≡ 0 → hasPlace q s ≡ false
-    unfolding hasPlace
-    place-none e = rw (le-ltb (q .len) (q .k) full, no-lines q e)
-
-    pub place-last : Roomy (q .numbers) (q .scores) → (i : ℕ) → i + 1 ≡ shown q → hasPlace q s ≡ leZ (getD (q .scores) i (pos 0)) s
-    unfolding hasPlace
-    place-last r i e = rw (le-ltb (q .len) (q .k) full) (last-line q r i e (λ x. leZ (x .score) s))
-
-module _ (q : Question) (loss shake : ℕ) where
-  pub takes-both : hasPlace q (score (q .weights) loss shake) ≡ true → isMarked q (cell loss shake) ≡ takes q loss shake
+module _ (q : Question) (v : Values) where
+  pub takes-both : placeOn q (score (q .rule) v) ≡ true → isMarked q (cell v) ≡ takes q v
   unfolding takes
-  takes-both p = sym (rw p (and-true (isMarked q (cell loss shake))))
+  takes-both p = sym (rw p (and-true (isMarked q (cell v))))
 
-  pub takes-unmarked : isMarked q (cell loss shake) ≡ false → takes q loss shake ≡ false
+  pub takes-unmarked : isMarked q (cell v) ≡ false → takes q v ≡ false
   unfolding takes
   takes-unmarked m = rw m
 
-  pub takes-no-place : hasPlace q (score (q .weights) loss shake) ≡ false → takes q loss shake ≡ false
+  pub takes-no-place : placeOn q (score (q .rule) v) ≡ false → takes q v ≡ false
   unfolding takes
-  takes-no-place p = rw p (and-false (isMarked q (cell loss shake)))
+  takes-no-place p = rw p (and-false (isMarked q (cell v)))
 
 module _ (q : Question) (h : Held) where
-  pub listed-taken : isMarked q (cell (h .loss) (h .shake)) ≡ true → hasPlace q (score (q .weights) (h .loss) (h .shake)) ≡ true → listed q h ≡ cutToK (withEntry q (entry (q .weights) h))
+  pub listed-taken : isMarked q (cell (h .values)) ≡ true → placeOn q (score (q .rule) (h .values)) ≡ true → listed q h ≡ cutToK (withEntry q (entry (q .rule) h))
   unfolding listed takes
   listed-taken m p = rw (m, p)
 
-  pub listed-unmarked : isMarked q (cell (h .loss) (h .shake)) ≡ false → listed q h ≡ q
+  pub listed-unmarked : isMarked q (cell (h .values)) ≡ false → listed q h ≡ q
   unfolding listed takes
   listed-unmarked m = rw m
 
-  pub listed-no-place : isMarked q (cell (h .loss) (h .shake)) ≡ true → hasPlace q (score (q .weights) (h .loss) (h .shake)) ≡ false → listed q h ≡ q
+  pub listed-no-place : isMarked q (cell (h .values)) ≡ true → placeOn q (score (q .rule) (h .values)) ≡ false → listed q h ≡ q
   unfolding listed takes
   listed-no-place m p = rw (m, p)
 
-  pub listed-taking : takes q (h .loss) (h .shake) ≡ true → listed q h ≡ cutToK (withEntry q (entry (q .weights) h))
+  pub listed-taking : takes q (h .values) ≡ true → listed q h ≡ cutToK (withEntry q (entry (q .rule) h))
   unfolding listed
   listed-taking t = rw t
 
-  pub listed-not : takes q (h .loss) (h .shake) ≡ false → listed q h ≡ q
+  pub listed-not : takes q (h .values) ≡ false → listed q h ≡ q
   unfolding listed
   listed-not t = rw t
 

@@ -7,9 +7,9 @@ use Prim.Native.Nat.{ℕ, _≤_}
 use native.Mathlib.Omega.{arith}
 use borrow.Author.Tests.{leb-true, eqb-true, eqb-false, eq-eqb, ne-eqb}
 use lib.Dec.{leb, eqb}
-use Rattle.ranking.specs.Cells.{inRange}
+use Rattle.ranking.specs.Cells.{fitRule}
 use Rattle.ranking.specs.Standing.{Held}
-use Rattle.ranking.specs.declared.Weights.{Weights}
+use Rattle.ranking.specs.declared.Rule.{Rule}
 use Rattle.laws.proofs.Tests.{Tested, passed, failed, tested, clash, and-both}
 use Rattle.window.specs.declared.Window.{Window}
 use Rattle.window.specs.Rows.{heldReports, fitWindow}
@@ -23,58 +23,56 @@ use Rattle.slot.proofs.Refusals.{no-refusal}
 use Rattle.slot.proofs.Standing.{Asks, Stands, search-stands}
 use Rattle.slot.proofs.Turns.{among-held, among-few}
 
-module _ (q : Question) (k : ℕ) (ws : Weights) (reports : List Held) where
-  set-taken : eqb (askRefusal (q .k) k ws) 0 ≡ true
-      → setIn q k ws reports ≡ record { refusal = 0; steps = searchedAmong (asked k ws [] 0) reports .steps; question = searchedAmong (asked k ws [] 0) reports .question }
+module _ (q : Question) (k : ℕ) (rule : Rule) (reports : List Held) where
+  set-taken : eqb (askRefusal (q .k) k rule) 0 ≡ true
+      → setIn q k rule reports ≡ record { refusal = 0; steps = searchedAmong (asked k rule [] 0) reports .steps; question = searchedAmong (asked k rule [] 0) reports .question }
   unfolding setIn
   set-taken e = if-so _ _ e
 
-  set-refused : eqb (askRefusal (q .k) k ws) 0 ≡ false → setIn q k ws reports ≡ record { refusal = askRefusal (q .k) k ws; steps = 0; question = q }
+  set-refused : eqb (askRefusal (q .k) k rule) 0 ≡ false → setIn q k rule reports ≡ record { refusal = askRefusal (q .k) k rule; steps = 0; question = q }
   unfolding setIn
   set-refused e = if-not _ _ e
 
   -- The refusal is that of the table.
-  pub set-refusal : setIn q k ws reports .refusal ≡ askRefusal (q .k) k ws
-  set-refusal = go (tested (eqb (askRefusal (q .k) k ws) 0))
+  pub set-refusal : setIn q k rule reports .refusal ≡ askRefusal (q .k) k rule
+  set-refusal = go (tested (eqb (askRefusal (q .k) k rule) 0))
     where
-      go : Tested (eqb (askRefusal (q .k) k ws) 0) → setIn q k ws reports .refusal ≡ askRefusal (q .k) k ws
-      go (passed t) = ap (λ (s : Seated). s .refusal) (set-taken t) ∙ sym (eqb-true (askRefusal (q .k) k ws) 0 t)
+      go : Tested (eqb (askRefusal (q .k) k rule) 0) → setIn q k rule reports .refusal ≡ askRefusal (q .k) k rule
+      go (passed t) = ap (λ (s : Seated). s .refusal) (set-taken t) ∙ sym (eqb-true (askRefusal (q .k) k rule) 0 t)
       go (failed t) = ap (λ (s : Seated). s .refusal) (set-refused t)
 
-  pub set-few : setIn q k ws reports .steps ≤ 256
-  set-few = go (tested (eqb (askRefusal (q .k) k ws) 0))
+  pub set-few : setIn q k rule reports .steps ≤ 256
+  set-few = go (tested (eqb (askRefusal (q .k) k rule) 0))
     where
-      go : Tested (eqb (askRefusal (q .k) k ws) 0) → setIn q k ws reports .steps ≤ 256
-      go (passed t) = subst (λ (s : Seated). s .steps ≤ 256) (sym (set-taken t)) (among-few (asked k ws [] 0) reports)
+      go : Tested (eqb (askRefusal (q .k) k rule) 0) → setIn q k rule reports .steps ≤ 256
+      go (passed t) = subst (λ (s : Seated). s .steps ≤ 256) (sym (set-taken t)) (among-few (asked k rule [] 0) reports)
       go (failed t) = subst (λ (s : Seated). s .steps ≤ 256) (sym (set-refused t)) (omega arith)
 
   -- A refused question leaves the slot.
-  pub set-kept : (setIn q k ws reports .refusal ≡ 0 → ⊥) → setIn q k ws reports .question ≡ q
-  set-kept n = ap (λ (s : Seated). s .question) (set-refused (ne-eqb (askRefusal (q .k) k ws) 0 (λ e. n (set-refusal ∙ e))))
+  pub set-kept : (setIn q k rule reports .refusal ≡ 0 → ⊥) → setIn q k rule reports .question ≡ q
+  set-kept n = ap (λ (s : Seated). s .question) (set-refused (ne-eqb (askRefusal (q .k) k rule) 0 (λ e. n (set-refusal ∙ e))))
 
-  module _ (free : setIn q k ws reports .refusal ≡ 0) where
+  module _ (free : setIn q k rule reports .refusal ≡ 0) where
     -- What can be set, and where.
-    pub set-asks : Asks k ws × (q .k ≡ 0)
+    pub set-asks : Asks k rule × (q .k ≡ 0)
     set-asks =
         let used : ℕ = cond (eqb (q .k) 0) 0 16 in
-        let t3 = inRange (ws .loss) && inRange (ws .shake) in
-        let r2 = no-refusal (leb 1 k && leb k 16) (cond t3 used 15) 13 (sym set-refusal ∙ free) in
-        let r3 = no-refusal t3 used 14 (r2 .1) in
+        let r2 = no-refusal (leb 1 k && leb k 16) (cond (fitRule rule) used 15) 13 (sym set-refusal ∙ free) in
+        let r3 = no-refusal (fitRule rule) used 14 (r2 .1) in
         let ks = and-both (leb 1 k) (leb k 16) (r2 .0) in
-        let both = and-both (inRange (ws .loss)) (inRange (ws .shake)) (r3 .0) in
-        (record { some = leb-true 1 k (ks .0); small = leb-true k 16 (ks .1); loss-range = both .0; shake-range = both .1 }, eqb-true (q .k) 0 (no-refusal (eqb (q .k) 0) 0 15 (r3 .1) .0))
+        (record { some = leb-true 1 k (ks .0); small = leb-true k 16 (ks .1); rule-fits = r3 .0 }, eqb-true (q .k) 0 (no-refusal (eqb (q .k) 0) 0 15 (r3 .1) .0))
 
     -- "A question is searched when it is set."
-    pub set-searched : setIn q k ws reports ≡ record { refusal = 0; steps = searchedAmong (asked k ws [] 0) reports .steps; question = searchedAmong (asked k ws [] 0) reports .question }
-    set-searched = set-taken (eq-eqb (askRefusal (q .k) k ws) 0 (sym set-refusal ∙ free))
+    pub set-searched : setIn q k rule reports ≡ record { refusal = 0; steps = searchedAmong (asked k rule [] 0) reports .steps; question = searchedAmong (asked k rule [] 0) reports .question }
+    set-searched = set-taken (eq-eqb (askRefusal (q .k) k rule) 0 (sym set-refusal ∙ free))
 
 -- Over the rows of a fit window.
-pub set-stands : (w : Window) → fitWindow w ≡ true → (q : Question) (k : ℕ) (ws : Weights) → setIn q k ws (inRows w) .refusal ≡ 0 → Stands (heldReports w) (setIn q k ws (inRows w) .question)
-set-stands w fit q k ws free =
-    let asks = set-asks q k ws (inRows w) free .0 in
+pub set-stands : (w : Window) → fitWindow w ≡ true → (q : Question) (k : ℕ) (rule : Rule) → setIn q k rule (inRows w) .refusal ≡ 0 → Stands (heldReports w) (setIn q k rule (inRows w) .question)
+set-stands w fit q k rule free =
+    let asks = set-asks q k rule (inRows w) free .0 in
     subst (Stands (heldReports w))
-    (sym (ap (λ (s : Seated). s .question) (set-searched q k ws (inRows w) free) ∙ ap (λ (r : Searched). r .question) (among-held w fit (asked k ws [] 0) (asks .small))))
-    (search-stands w fit (asked k ws [] 0) asks)
+    (sym (ap (λ (s : Seated). s .question) (set-searched q k rule (inRows w) free) ∙ ap (λ (r : Searched). r .question) (among-held w fit (asked k rule [] 0) (asks .small))))
+    (search-stands w fit (asked k rule [] 0) asks)
 
 module _ (q : Question) where
   -- An empty slot that is to be removed stays.

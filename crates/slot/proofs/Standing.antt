@@ -3,36 +3,35 @@
 -- Assumes nothing.
 use mathlib.Core.Path.{_≡_, refl, sym, ap, _∙_, subst}
 use mathlib.Core.Logic.{_⊎_, inl, inr, ⊎-elim}
-use mathlib.Core.Bool.{Bool, true, false, not, _&&_, _||_, and-false}
-use mathlib.Core.List.{List, [], _∷_, map, Memᴰ·of-map}
-use Prim.Native.Nat.{ℕ, suc, min, _≤_, _<_}
+use mathlib.Core.Bool.{true, false, not, _&&_, and-false}
+use mathlib.Core.List.{List, [], _∷_}
+use Prim.Native.Nat.{ℕ, suc, _≤_, _<_}
 use native.Mathlib.Omega.{arith}
-use borrow.Author.Tests.{ltb-true, ltb-false, eqb-true, eq-eqb, le-leb, lt-leb}
+use borrow.Author.Tests.{ltb-true, ltb-false, eqb-true, eq-eqb}
 use lib.Dec.{leb, ltb, eqb}
-use lib.IntN.{ℤ, pos, negsuc}
 use lib.ListN.{length}
-use lib.Signed.{ltZ, leZ}
 use Rattle.laws.specs.Lists.{_∈_, onLast}
-use Rattle.search.specs.Best.{best}
-use Rattle.ranking.specs.Cells.{inRange, cell, score, cellAt}
+use Rattle.ranking.specs.Cells.{isNone, fitRule, cell, score, cellAt}
 use Rattle.search.specs.Search.{steps}
-use Rattle.ranking.specs.Standing.{Held, Entry, Permitted, above, entry, reaches, searchOf}
-use Rattle.ranking.specs.declared.Weights.{Weights}
-use Rattle.laws.proofs.Tests.{Tested, passed, failed, tested, clash, and-both, and-true, or-either, or-right}
+use Rattle.ranking.specs.Standing.{Held, Entry, Permitted, above, entry, entries, top, hasPlace, reaches, searchOf}
+use Rattle.ranking.specs.declared.Rule.{Rule}
+use Rattle.laws.proofs.Tests.{Tested, passed, failed, tested, clash, and-both, and-true, or-either, or-right, if-so, if-not}
 use Rattle.ranking.proofs.Cells.{before-strict, visiting-in}
 use Rattle.ranking.proofs.Scan.{cell-at}
-use Rattle.laws.proofs.Lists.{last-not, lt-or-eq, last-same}
-use Rattle.search.proofs.Best.{best-cons, best-rule, best-of, best-falling, length-best-le}
+use Rattle.laws.proofs.Lists.{last-not, lt-or-eq}
+use Rattle.search.proofs.Best.{best-of, best-falling, length-best-le}
 use Rattle.search.proofs.Search.{in-has, goes-on}
-use Rattle.ranking.proofs.Standing.{above-strict, sound, steps-bounded, newest-above, reach-rises, length-list}
-use Rattle.search.proofs.Guard.{Guarded, guard-search, guard-unmarked, guard-enter}
+use Rattle.ranking.proofs.Entries.{above-strict, top-short, top-cons, top-enters, is-none}
+use Rattle.ranking.proofs.Standing.{steps-bounded}
+use Rattle.search.proofs.Guard.{Guarded}
 use Rattle.window.specs.declared.Window.{Window}
 use Rattle.window.specs.Rows.{heldReports, fitWindow, added}
 use Rattle.window.proofs.Reports.{held-distinct, length-held}
 use Rattle.window.proofs.Standing.{held-permitted}
 use Rattle.question.specs.declared.Question.{Question}
-use Rattle.question.specs.Lines.{asked, linesOf, lines, marked, stepsTaken, isMarked, finished, emptySlot, searched, begun, stepped}
-use Rattle.question.specs.Calls.{allOf, equal, blank, fitQuestion, rangesFit, stepCall, beginCall}
+use Rattle.list.specs.Lines.{linesOf, allOf, blank}
+use Rattle.question.specs.Lines.{asked, lines, marked, stepsTaken, isMarked, finished, emptySlot, searched, begun, stepped}
+use Rattle.question.specs.Calls.{fitQuestion, rangesFit, stepCall, beginCall}
 use Rattle.question.proofs.Stored.{lines-asked}
 use Rattle.question.proofs.Steps.{reached, reached-more, reached-none, reached-end, goes-further}
 use Rattle.question.proofs.Taking.{joined-asked}
@@ -41,43 +40,39 @@ use Rattle.question.proofs.Ending.{finished-none, finished-other}
 use Rattle.question.proofs.Marking.{marked-left}
 use Rattle.question.proofs.Listed.{fit-asked}
 use Rattle.question.proofs.Searches.{search-finds, whole-search, searched-is, reached-fit}
-use Rattle.slot.specs.Turn.{hasPlace, listed}
+use Rattle.slot.specs.Turn.{placeOn, listed}
 use Rattle.slot.specs.Fitness.{isEmpty, slotFit}
+use Rattle.slot.proofs.Guards.{marks-guard, unmarked-same, guard-kept}
 use Rattle.slot.proofs.Listing.{listed-taken, listed-unmarked, listed-no-place}
 
--- "The list is the first min(k, reports held) in that ranking."
-abbrev pub top : ℕ → Weights → List Held → List Entry
-top k ws hs = best above k (map (entry ws) hs)
-
 -- The cells before the next one.
-abbrev pub taken : Weights → ℕ → List ℕ
-taken ws next = marked (asked 0 ws [] next)
+abbrev pub taken : Rule → ℕ → List ℕ
+taken rule next = marked (asked 0 rule [] next)
 
 -- What can be asked.
-pub record Asks (k : ℕ) (ws : Weights) : Type 0 where
+pub record Asks (k : ℕ) (rule : Rule) : Type 0 where
   pub some : 1 ≤ k
   pub small : k ≤ 16
-  pub loss-range : inRange (ws .loss) ≡ true
-  pub shake-range : inRange (ws .shake) ≡ true
+  pub rule-fits : fitRule rule ≡ true
 
 -- A question whose search has ended: its list is the true one of these reports, and no cell without a mark can change it.
 pub record Stands (hs : List Held) (q : Question) : Type 0 where
   pub k : ℕ
-  pub ws : Weights
+  pub rule : Rule
   pub next : ℕ
-  pub asks : Asks k ws
+  pub asks : Asks k rule
   pub cell-range : next ≤ 256
-  pub is : q ≡ asked k ws (top k ws hs) next
-  pub guarded : Guarded (searchOf ws) k (taken ws next) (top k ws hs)
+  pub is : q ≡ asked k rule (top rule k hs) next
+  pub guarded : Guarded (searchOf rule) k (taken rule next) (top rule k hs)
 
 -- A question in the middle of its search, after n steps.
 pub record Searches (w : Window) (q : Question) : Type 0 where
   pub k : ℕ
-  pub ws : Weights
+  pub rule : Rule
   pub n : ℕ
-  pub asks : Asks k ws
-  pub before-end : n < steps (searchOf ws) k (heldReports w)
-  pub is : q ≡ reached k ws (heldReports w) n
+  pub asks : Asks k rule
+  pub before-end : n < steps (searchOf rule) k (heldReports w)
+  pub is : q ≡ reached k rule (heldReports w) n
 
 pub data Slot (w : Window) (q : Question) : Type 0 where
   empty : q ≡ emptySlot → Slot w q
@@ -86,83 +81,58 @@ pub data Slot (w : Window) (q : Question) : Type 0 where
 
 -- ---- a search
 
-pub search-stands : (w : Window) → fitWindow w ≡ true → (q : Question) → Asks (q .k) (q .weights) → Stands (heldReports w) (searched q (heldReports w))
+pub search-stands : (w : Window) → fitWindow w ≡ true → (q : Question) → Asks (q .k) (q .rule) → Stands (heldReports w) (searched q (heldReports w))
 unfolding searched reached marked stepsTaken
 search-stands w fit q asks =
     let hs = heldReports w in
-    let n = steps (searchOf (q .weights)) (q .k) hs in
+    let n = steps (searchOf (q .rule)) (q .k) hs in
     let come = whole-search q (asks .small) hs .come-to in
     record {
       k = q .k;
-      ws = q .weights;
-      next = cellAt (q .weights) n;
+      rule = q .rule;
+      next = cellAt (q .rule) n;
       asks = asks;
-      cell-range = fit-facts w (reached (q .k) (q .weights) hs n) (reached-fit w fit q (asks .some) (asks .small) (asks .loss-range) (asks .shake-range) n (steps-bounded (q .weights) (q .k) hs)) .numbers .cell-range;
-      is = come .stored ∙ ap (λ l. asked (q .k) (q .weights) l (cellAt (q .weights) n)) (search-finds w fit q (asks .some) (asks .small) .list);
-      guarded = subst (λ m. Guarded (searchOf (q .weights)) (q .k) m (top (q .k) (q .weights) hs)) (sym (come .marks-are)) (guard-search (searchOf (q .weights)) (sound (q .weights)) (q .k) (asks .some) hs (held-permitted w fit));
+      cell-range = fit-facts w (reached (q .k) (q .rule) hs n) (reached-fit w fit q (asks .some) (asks .small) (asks .rule-fits) n (steps-bounded (q .rule) (q .k) hs)) .numbers .cell-range;
+      is = come .stored ∙ ap (λ l. asked (q .k) (q .rule) l (cellAt (q .rule) n)) (search-finds w fit q (asks .some) (asks .small) .list);
+      guarded = subst (λ m. Guarded (searchOf (q .rule)) (q .k) m (top (q .rule) (q .k) hs)) (sym (come .marks-are)) (marks-guard (q .rule) (q .k) (asks .some) hs (held-permitted w fit));
     }
 
 -- ---- a report is added
 
-le-is : (a b : ℤ) → not (ltZ a b) ≡ leZ b a
-le-is (pos a) (pos b) = go (tested (ltb a b))
-  where
-    go : Tested (ltb a b) → not (ltb a b) ≡ leb b a
-    go (passed t) = ap not t ∙ sym (lt-leb b a (ltb-true a b t))
-    go (failed t) = ap not t ∙ sym (le-leb b a (ltb-false a b t))
-le-is (pos a) (negsuc b) = refl
-le-is (negsuc a) (pos b) = refl
-le-is (negsuc a) (negsuc b) = go (tested (ltb b a))
-  where
-    go : Tested (ltb b a) → not (ltb b a) ≡ leb a b
-    go (passed t) = ap not t ∙ sym (lt-leb a b (ltb-true b a t))
-    go (failed t) = ap not t ∙ sym (le-leb a b (ltb-false b a t))
-
-module _ (hs : List Held) (k : ℕ) (ws : Weights) (next : ℕ) (asks : Asks k ws) (guarded : Guarded (searchOf ws) k (taken ws next) (top k ws hs))
+module _ (hs : List Held) (k : ℕ) (rule : Rule) (next : ℕ) (asks : Asks k rule) (guarded : Guarded (searchOf rule) k (taken rule next) (top rule k hs))
     (h : Held) (permitted : Permitted h) (newest : (r : Held) → r ∈ hs → r .number < h .number) where
-  room : length (top k ws hs) ≤ 16
-  room = omega (arith, length-best-le above above-strict k (map (entry ws) hs), asks .small)
+  room : length (top rule k hs) ≤ 16
+  room = omega (arith, length-best-le (above rule) (above-strict rule) k (entries rule hs), asks .small)
 
-  older : (e : Entry) → e ∈ map (entry ws) hs → e .number < h .number
-  older e m = let r = Memᴰ·of-map (entry ws) hs m in subst (λ z. z .number < h .number) (r .2) (newest (r .0) (r .1))
-
-  place-rule : hasPlace (asked k ws (top k ws hs) next) (score ws (h .loss) (h .shake)) ≡ (ltb (length (top k ws hs)) k || onLast (above (entry ws h)) (top k ws hs))
-  unfolding hasPlace
-  place-rule =
-      ap (λ l. ltb (length (top k ws hs)) k || onLast (λ e. leZ (e .score) (score ws (h .loss) (h .shake))) l) (lines-asked k ws (top k ws hs) next room)
-      ∙ ap (λ b. ltb (length (top k ws hs)) k || b)
-      (last-same (λ e. leZ (e .score) (score ws (h .loss) (h .shake))) (above (entry ws h)) (top k ws hs)
-      (λ e m. sym (newest-above (entry ws h) e (older e (best-of above above-strict k (map (entry ws) hs) e m)) ∙ le-is (score ws (h .loss) (h .shake)) (e .score))))
-
-  new-one : entry ws h ∈ map (entry ws) hs → ⊥
-  new-one m = let less = older (entry ws h) m in omega arith
+  place-list : placeOn (asked k rule (top rule k hs) next) (score rule (h .values)) ≡ hasPlace rule k (length (top rule k hs)) (top rule k hs) (score rule (h .values))
+  place-list = ap (λ l. hasPlace rule k (length (top rule k hs)) l (score rule (h .values))) (lines-asked k rule (top rule k hs) next room)
 
   -- Whether its cell is marked, and whether it has a place on the list, comes to the best k of one report more.
-  pub listed-is : listed (asked k ws (top k ws hs) next) h ≡ asked k ws (top k ws (h ∷ hs)) next
+  pub listed-is : listed (asked k rule (top rule k hs) next) h ≡ asked k rule (top rule k (h ∷ hs)) next
   unfolding marked stepsTaken isMarked
-  listed-is = go (tested (isMarked q (cell (h .loss) (h .shake)))) (tested (hasPlace q (score ws (h .loss) (h .shake))))
+  listed-is = go (tested (isMarked q (cell (h .values)))) (tested (placeOn q (score rule (h .values))))
     where
       q : Question
-      q = asked k ws (top k ws hs) next
+      q = asked k rule (top rule k hs) next
 
-      same : top k ws hs ≡ top k ws (h ∷ hs) → q ≡ asked k ws (top k ws (h ∷ hs)) next
-      same e = ap (λ l. asked k ws l next) e
+      same : top rule k hs ≡ top rule k (h ∷ hs) → q ≡ asked k rule (top rule k (h ∷ hs)) next
+      same e = ap (λ l. asked k rule l next) e
 
-      go : Tested (isMarked q (cell (h .loss) (h .shake))) → Tested (hasPlace q (score ws (h .loss) (h .shake))) → listed q h ≡ asked k ws (top k ws (h ∷ hs)) next
+      go : Tested (isMarked q (cell (h .values))) → Tested (placeOn q (score rule (h .values))) → listed q h ≡ asked k rule (top rule k (h ∷ hs)) next
       go (failed off) t =
           listed-unmarked q h off
-          ∙ same (sym (guard-unmarked (searchOf ws) (sound ws) k (asks .some) (taken ws next) (map (entry ws) hs) guarded h permitted (λ m. clash (in-has (cell (h .loss) (h .shake)) (marked q) m) off)))
+          ∙ same (sym (unmarked-same rule k (asks .some) (taken rule next) hs guarded h permitted (λ m. clash (in-has (cell (h .values)) (marked q) m) off)))
       go (passed on) (passed p) =
           listed-taken q h on p
-          ∙ joined-asked k ws (top k ws hs) next (entry ws h) (asks .small) room
-          ∙ ap (λ l. asked k ws l next) (sym (best-cons above above-strict k (entry ws h) (map (entry ws) hs)))
+          ∙ joined-asked k rule (top rule k hs) next (entry rule h) (asks .small) room
+          ∙ ap (λ l. asked k rule l next) (sym (top-cons rule k h hs))
       go (passed on) (failed p) =
           listed-no-place q h on p
-          ∙ same (sym (best-rule above above-strict k (entry ws h) (map (entry ws) hs) new-one ∙ if-not _ _ (sym place-rule ∙ p)))
+          ∙ same (sym (top-enters rule k h hs newest ∙ if-not _ _ (sym place-list ∙ p)))
 
   -- The marks go on guarding the list.
-  pub guard-more : Guarded (searchOf ws) k (taken ws next) (top k ws (h ∷ hs))
-  guard-more = guard-enter (searchOf ws) (sound ws) k (asks .some) (reach-rises ws) (taken ws next) (entry ws h) (map (entry ws) hs) guarded
+  pub guard-more : Guarded (searchOf rule) k (taken rule next) (top rule k (h ∷ hs))
+  guard-more = guard-kept rule k (asks .some) (taken rule next) hs guarded h
 
 -- ---- fitness
 
@@ -170,17 +140,16 @@ module _ (w : Window) (fit : fitWindow w ≡ true) where
   pub stands-fit : (q : Question) → Stands (heldReports w) q → fitQuestion w q ≡ true
   stands-fit q s =
       subst (λ p. fitQuestion w p ≡ true) (sym (s .is))
-      (fit-asked w fit (s .k) (s .ws) (top (s .k) (s .ws) (heldReports w)) (s .next)
+      (fit-asked w fit (s .k) (s .rule) (top (s .rule) (s .k) (heldReports w)) (s .next)
       (record {
         some = s .asks .some;
         small = s .asks .small;
-        loss-range = s .asks .loss-range;
-        shake-range = s .asks .shake-range;
+        rule-fits = s .asks .rule-fits;
         cell-range = s .cell-range;
-        short = omega (arith, length-list (s .ws) (s .k) (heldReports w) (held-distinct w), length-held w);
+        short = omega (arith, top-short (s .rule) (s .k) (heldReports w) (held-distinct w), length-held w);
       })
-      (best-of above above-strict (s .k) (map (entry (s .ws)) (heldReports w)))
-      (best-falling above above-strict (s .k) (map (entry (s .ws)) (heldReports w))))
+      (best-of (above (s .rule)) (above-strict (s .rule)) (s .k) (entries (s .rule) (heldReports w)))
+      (best-falling (above (s .rule)) (above-strict (s .rule)) (s .k) (entries (s .rule) (heldReports w))))
 
   -- Its search has ended: the next cell has no mark, so it can't change the list.
   pub stands-ended : (q : Question) → Stands (heldReports w) q → finished q ≡ true
@@ -188,23 +157,23 @@ module _ (w : Window) (fit : fitWindow w ≡ true) where
   stands-ended q s = ap finished (s .is) ∙ go (tested (ltb (s .next) 256))
     where
       p : Question
-      p = asked (s .k) (s .ws) (top (s .k) (s .ws) (heldReports w)) (s .next)
+      p = asked (s .k) (s .rule) (top (s .rule) (s .k) (heldReports w)) (s .next)
 
-      off : (h : s .next < 256) → s .next ∈ taken (s .ws) (s .next) → ⊥
-      off h m = clash (in-has (s .next) (taken (s .ws) (s .next)) m) (marked-left p h (s .next) h ∙ before-strict (s .ws) .irreflexive (s .next))
+      off : (h : s .next < 256) → s .next ∈ taken (s .rule) (s .next) → ⊥
+      off h m = clash (in-has (s .next) (taken (s .rule) (s .next)) m) (marked-left p h (s .next) h ∙ before-strict (s .rule) .irreflexive (s .next))
 
-      last : (m : List Entry) → 1 ≤ length m → onLast (reaches (s .ws) (s .next)) m ≡ false → onLast (λ e. not (reaches (s .ws) (s .next) e)) m ≡ true
+      last : (m : List Entry) → 1 ≤ length m → onLast (reaches (s .rule) (s .next)) m ≡ false → onLast (λ e. not (reaches (s .rule) (s .next) e)) m ≡ true
       last [] h e = absurd (omega arith)
-      last (y ∷ m) h e = last-not (reaches (s .ws) (s .next)) y m ∙ ap not e
+      last (y ∷ m) h e = last-not (reaches (s .rule) (s .next)) y m ∙ ap not e
 
       ended : (h : s .next < 256) → finished p ≡ true
       ended h =
-          let g = s .guarded (s .next) (visiting-in (s .ws) (s .next) h) (off h) in
-          let room : length (top (s .k) (s .ws) (heldReports w)) ≤ 16 = omega (arith, g .0, s .asks .small) in
-          or-right (leb 256 (s .next)) (eqb (p .len) (p .k) && onLast (λ e. not (reaches (s .ws) (s .next) e)) (lines p))
+          let g = s .guarded (s .next) (visiting-in (s .rule) (s .next) h) (off h) in
+          let room : length (top (s .rule) (s .k) (heldReports w)) ≤ 16 = omega (arith, g .0, s .asks .small) in
+          or-right (leb 256 (s .next)) (eqb (p .len) (p .k) && onLast (λ e. not (reaches (s .rule) (s .next) e)) (lines p))
           (and-true (eq-eqb (p .len) (p .k) (g .0))
-          (ap (onLast (λ e. not (reaches (s .ws) (s .next) e))) (lines-asked (s .k) (s .ws) (top (s .k) (s .ws) (heldReports w)) (s .next) room)
-          ∙ last (top (s .k) (s .ws) (heldReports w)) (omega (arith, g .0, s .asks .some)) (g .1)))
+          (ap (onLast (λ e. not (reaches (s .rule) (s .next) e))) (lines-asked (s .k) (s .rule) (top (s .rule) (s .k) (heldReports w)) (s .next) room)
+          ∙ last (top (s .rule) (s .k) (heldReports w)) (omega (arith, g .0, s .asks .some)) (g .1)))
 
       go : Tested (ltb (s .next) 256) → finished p ≡ true
       go (passed t) = ended (ltb-true (s .next) 256 t)
@@ -213,13 +182,13 @@ module _ (w : Window) (fit : fitWindow w ≡ true) where
   pub searches-fit : (q : Question) → Searches w q → fitQuestion w q ≡ true
   searches-fit q s =
       ap (fitQuestion w) (s .is)
-      ∙ reached-fit w fit (asked (s .k) (s .ws) [] 0) (s .asks .some) (s .asks .small) (s .asks .loss-range) (s .asks .shake-range) (s .n) (omega (arith, s .before-end, steps-bounded (s .ws) (s .k) (heldReports w)))
+      ∙ reached-fit w fit (asked (s .k) (s .rule) [] 0) (s .asks .some) (s .asks .small) (s .asks .rule-fits) (s .n) (omega (arith, s .before-end, steps-bounded (s .rule) (s .k) (heldReports w)))
 
   pub searches-on : (q : Question) → Searches w q → finished q ≡ false
   searches-on q s =
       ap finished (s .is)
-      ∙ reached-end (s .k) (s .asks .small) (s .ws) (heldReports w) (s .n) (omega (arith, s .before-end, steps-bounded (s .ws) (s .k) (heldReports w)))
-      ∙ goes-on (searchOf (s .ws)) (s .k) (heldReports w) (s .n) (s .before-end)
+      ∙ reached-end (s .k) (s .asks .small) (s .rule) (heldReports w) (s .n) (omega (arith, s .before-end, steps-bounded (s .rule) (s .k) (heldReports w)))
+      ∙ goes-on (searchOf (s .rule)) (s .k) (heldReports w) (s .n) (s .before-end)
 
 -- ---- a step and a beginning
 
@@ -234,31 +203,31 @@ module _ (w : Window) (fit : fitWindow w ≡ true) where
   step-slot q (searches s) = subst (Slot w) (sym same) (go (lt-or-eq (s .before-end)))
     where
       few : s .n < 256
-      few = omega (arith, s .before-end, steps-bounded (s .ws) (s .k) (heldReports w))
+      few = omega (arith, s .before-end, steps-bounded (s .rule) (s .k) (heldReports w))
 
-      same : stepCall w q .question ≡ reached (s .k) (s .ws) (heldReports w) (suc (s .n))
+      same : stepCall w q .question ≡ reached (s .k) (s .rule) (heldReports w) (suc (s .n))
       same =
           ap (λ r. r .question) (step-goes w q fit (searches-fit w fit q s) (searches-on w fit q s))
           ∙ step-held w q fit (searches-fit w fit q s) (searches-on w fit q s)
           ∙ ap (λ p. stepped p (heldReports w)) (s .is)
-          ∙ reached-more (s .k) (s .asks .small) (s .ws) (heldReports w) (s .n) few
+          ∙ reached-more (s .k) (s .asks .small) (s .rule) (heldReports w) (s .n) few
 
-      go : (suc (s .n) < steps (searchOf (s .ws)) (s .k) (heldReports w)) ⊎ (suc (s .n) ≡ steps (searchOf (s .ws)) (s .k) (heldReports w)) → Slot w (reached (s .k) (s .ws) (heldReports w) (suc (s .n)))
-      go (inl l) = searches (record { k = s .k; ws = s .ws; n = suc (s .n); asks = s .asks; before-end = l; is = refl })
+      go : (suc (s .n) < steps (searchOf (s .rule)) (s .k) (heldReports w)) ⊎ (suc (s .n) ≡ steps (searchOf (s .rule)) (s .k) (heldReports w)) → Slot w (reached (s .k) (s .rule) (heldReports w) (suc (s .n)))
+      go (inl l) = searches (record { k = s .k; rule = s .rule; n = suc (s .n); asks = s .asks; before-end = l; is = refl })
       go (inr e) =
           subst (Slot w)
-          (searched-is (asked (s .k) (s .ws) [] 0) (s .asks .small) (heldReports w) ∙ ap (reached (s .k) (s .ws) (heldReports w)) (sym e))
-          (stands (search-stands w fit (asked (s .k) (s .ws) [] 0) (s .asks)))
+          (searched-is (asked (s .k) (s .rule) [] 0) (s .asks .small) (heldReports w) ∙ ap (reached (s .k) (s .rule) (heldReports w)) (sym e))
+          (stands (search-stands w fit (asked (s .k) (s .rule) [] 0) (s .asks)))
 
   pub begin-slot : (q : Question) → Slot w q → Slot w (beginCall w q .question)
   begin-slot q (empty e) = empty (ap (λ p. beginCall w p .question) e ∙ ap (λ r. r .question) (begin-unfit w emptySlot (ap (λ b. fitWindow w && b && finished emptySlot) empty-unfit ∙ ap (λ b. b && finished emptySlot) (and-false (fitWindow w)))))
   begin-slot q (searches s) = subst (Slot w) (sym (ap (λ r. r .question) (begin-unfit w q (ap (λ b. fitWindow w && fitQuestion w q && b) (searches-on w fit q s) ∙ and-false (fitWindow w && fitQuestion w q))))) (searches s)
   begin-slot q (stands s) =
-      subst (Slot w) (sym (ap (λ r. r .question) (begin-goes w q fit (stands-fit w fit q s) (stands-ended w fit q s)) ∙ ap begun (s .is) ∙ reached-none (s .k) (s .asks .small) (s .ws) (heldReports w)))
-      (searches (record { k = s .k; ws = s .ws; n = 0; asks = s .asks; before-end = goes-further (s .k) (s .asks .small) (s .ws) (heldReports w) 0 (omega arith) unfinished; is = refl }))
+      subst (Slot w) (sym (ap (λ r. r .question) (begin-goes w q fit (stands-fit w fit q s) (stands-ended w fit q s)) ∙ ap begun (s .is) ∙ reached-none (s .k) (s .asks .small) (s .rule) (heldReports w)))
+      (searches (record { k = s .k; rule = s .rule; n = 0; asks = s .asks; before-end = goes-further (s .k) (s .asks .small) (s .rule) (heldReports w) 0 (omega arith) unfinished; is = refl }))
     where
-      unfinished : finished (reached (s .k) (s .ws) (heldReports w) 0) ≡ false
-      unfinished = ap finished (sym (reached-none (s .k) (s .asks .small) (s .ws) (heldReports w))) ∙ finished-other (asked (s .k) (s .ws) [] (cellAt (s .ws) 0)) (cell-at (s .ws) 0 (omega arith)) (λ e. none e)
+      unfinished : finished (reached (s .k) (s .rule) (heldReports w) 0) ≡ false
+      unfinished = ap finished (sym (reached-none (s .k) (s .asks .small) (s .rule) (heldReports w))) ∙ finished-other (asked (s .k) (s .rule) [] (cellAt (s .rule) 0)) (cell-at (s .rule) 0 (omega arith)) (λ e. none e)
         where
           none : 0 ≡ s .k → ⊥
           none e = omega (arith, s .asks .some)
@@ -266,8 +235,8 @@ module _ (w : Window) (fit : fitWindow w ≡ true) where
 -- ---- a fit slot
 
 pub empty-is : isEmpty emptySlot ≡ true
-unfolding isEmpty equal
-empty-is = refl
+unfolding isEmpty
+empty-is = rw is-none
 
 pub empty-waits : finished emptySlot ≡ false
 unfolding finished
@@ -277,7 +246,7 @@ empty-k : (q : Question) → isEmpty q ≡ true → q .k ≡ 0
 unfolding isEmpty
 empty-k q e =
     let a = eqb (q .k) 0 in
-    let b = equal (q .weights .loss) (pos 0) && equal (q .weights .shake) (pos 0) in
+    let b = isNone (q .rule) in
     let c = eqb (q .len) 0 in
     let d = eqb (q .next) 0 in
     let r = and-both (a && b && c && d) (allOf blank (linesOf (q .numbers) (q .scores))) e .0 in

@@ -4,30 +4,30 @@
 use mathlib.Core.Path.{_≡_, refl, sym, ap, _∙_, subst}
 use mathlib.Core.Logic.{_↔_}
 use mathlib.Core.Bool.{Bool, true, false, not, cond, _&&_, _||_}
-use mathlib.Core.List.{List, [], _∷_, map, Memᴰ·map, Memᴰ·of-map}
+use mathlib.Core.List.{List, [], _∷_}
 use Prim.Native.Nat.{ℕ, zero, suc, _≤_, _<_}
 use native.Mathlib.Omega.{arith}
 use borrow.Author.Tests.{ltb-true, ltb-false, le-ltb, not-true, not-false}
 use lib.Dec.{eqb, ltb, leb}
 use lib.ListN.{getD, take}
 use Rattle.laws.specs.Lists.{_∈_}
-use Rattle.search.specs.Best.{best}
 use Rattle.ranking.specs.Cells.{cell, visiting, placeOf}
-use Rattle.ranking.specs.Standing.{Held, Entry, Permitted, above, entry, searchOf}
-use Rattle.ranking.specs.declared.Weights.{Weights}
-use Rattle.laws.proofs.Tests.{Tested, passed, failed, tested, clash}
+use Rattle.ranking.specs.Standing.{Held, Entry, Permitted, above, entry, entries, top, searchOf}
+use Rattle.ranking.specs.declared.Rule.{Rule}
+use Rattle.laws.proofs.Tests.{Tested, passed, failed, tested, clash, or-neither, if-so, if-not}
 use Rattle.laws.proofs.Lists.{_⊆_, here, there, moved}
-use Rattle.search.proofs.Best.{best-of, best-part, length-best-le}
-use Rattle.ranking.proofs.Standing.{above-strict, steps-bounded}
+use Rattle.search.proofs.Best.{best-part, length-best-le}
+use Rattle.ranking.proofs.Entries.{above-strict, entries-in, entries-of, top-of}
+use Rattle.ranking.proofs.Standing.{steps-bounded}
 use Rattle.search.proofs.Guard.{Guarded}
 use Rattle.window.specs.declared.Window.{Window}
 use Rattle.window.specs.Rows.{heldReports, fitWindow, reportIn, standing}
 use Rattle.question.specs.declared.Question.{Question}
 use Rattle.question.specs.declared.Searched.{Searched}
-use Rattle.question.specs.Lines.{asked, lines, marked, stepsTaken, isMarked, emptySlot, searchedIn, inRows, searchedOn, searchedFirst, rowsOf}
-use Rattle.question.specs.Calls.{allOf}
+use Rattle.list.specs.Rows.{rowsOf}
+use Rattle.question.specs.Lines.{asked, lines, marked, stepsTaken, isMarked, emptySlot, searchedIn, inRows, searchedOn, searchedFirst}
+use Rattle.list.specs.Lines.{allOf}
 use Rattle.question.proofs.Stored.{lines-asked}
-use Rattle.laws.proofs.Tests.{if-so, if-not}
 use Rattle.question.proofs.Listed.{all-in}
 use Rattle.question.proofs.Searches.{searched-held}
 use Rattle.slot.specs.Asking.{searchedAmong}
@@ -35,7 +35,7 @@ use Rattle.slot.specs.Turn.{takes, listed, later, lists, turn}
 use Rattle.slot.specs.declared.Turned.{Turned}
 use Rattle.slot.proofs.Listing.{listed-not, takes-unmarked}
 use Rattle.slot.proofs.Gauges.{idle-untouched}
-use Rattle.slot.proofs.Standing.{top, taken, Stands, search-stands, listed-is, guard-more}
+use Rattle.slot.proofs.Standing.{taken, Stands, search-stands, listed-is, guard-more}
 
 -- ---- a search of some reports
 
@@ -56,7 +56,7 @@ pub among-few : (q : Question) (reports : List Held) → searchedAmong q reports
 among-few q reports = go (tested (leb (q .k) 16))
   where
     go : Tested (leb (q .k) 16) → searchedAmong q reports .steps ≤ 256
-    go (passed t) = rw t (steps-bounded (q .weights) (q .k) reports)
+    go (passed t) = rw t (steps-bounded (q .rule) (q .k) reports)
     go (failed t) = rw t (omega arith)
 
 -- ---- whether a list has one that has gone
@@ -95,22 +95,18 @@ none-gone q gone t e m = ltb-true gone (e .number) (all-in (later gone) (lines q
 module _ (q : Question) (h : Held) where
   pub record Same-but-list (p : Question) : Type 0 where
     pub same-k : p .k ≡ q .k
-    pub same-weights : p .weights ≡ q .weights
+    pub same-rule : p .rule ≡ q .rule
     pub same-next : p .next ≡ q .next
 
   pub listed-keeps : Same-but-list (listed q h)
   unfolding listed
-  listed-keeps = go (tested (takes q (h .loss) (h .shake)))
+  listed-keeps = go (tested (takes q (h .values)))
     where
-      go : Tested (takes q (h .loss) (h .shake)) → Same-but-list (listed q h)
-      go (passed t) = subst Same-but-list (sym (if-so _ _ t)) (record { same-k = refl; same-weights = refl; same-next = refl })
-      go (failed t) = subst Same-but-list (sym (if-not _ _ t)) (record { same-k = refl; same-weights = refl; same-next = refl })
+      go : Tested (takes q (h .values)) → Same-but-list (listed q h)
+      go (passed t) = subst Same-but-list (sym (if-so _ _ t)) (record { same-k = refl; same-rule = refl; same-next = refl })
+      go (failed t) = subst Same-but-list (sym (if-not _ _ t)) (record { same-k = refl; same-rule = refl; same-next = refl })
 
 -- ---- what a turn answers
-
-or-neither : (a b : Bool) → a || b ≡ false → (a ≡ false) × (b ≡ false)
-or-neither true b h = clash {b = true} refl h
-or-neither false b h = (refl, h)
 
 module _ (q : Question) (h : Held) (gone : ℕ) (reports : List Held) where
   pub turn-searched : lists (listed q h) gone ≡ true
@@ -138,15 +134,15 @@ module _ (q : Question) (h : Held) (gone : ℕ) (reports : List Held) where
       go (failed t) = subst (λ (r : Turned). r .steps ≤ 256) (sym (turn-kept t)) (omega arith)
 
   -- A question that takes no report and loses none stays.
-  pub turn-still : takes q (h .loss) (h .shake) || lists q gone ≡ false → turn q h gone reports ≡ record { searched = false; steps = 0; question = q }
+  pub turn-still : takes q (h .values) || lists q gone ≡ false → turn q h gone reports ≡ record { searched = false; steps = 0; question = q }
   turn-still e =
-      let both = or-neither (takes q (h .loss) (h .shake)) (lists q gone) e in
+      let both = or-neither (takes q (h .values)) (lists q gone) e in
       let same = listed-not q h (both .0) in
       turn-kept (ap (λ p. lists p gone) same ∙ both .1) ∙ ap (λ p. record { searched = false; steps = 0; question = p }) same
 
   -- An entry changes no question without a mark on its cell, unless it lists one that has gone.
-  pub turn-untouched : isMarked q (cell (h .loss) (h .shake)) ≡ false → lists q gone ≡ false → turn q h gone reports ≡ record { searched = false; steps = 0; question = q }
-  turn-untouched off un = turn-still (rw (takes-unmarked q (h .loss) (h .shake) off, un))
+  pub turn-untouched : isMarked q (cell (h .values)) ≡ false → lists q gone ≡ false → turn q h gone reports ≡ record { searched = false; steps = 0; question = q }
+  turn-untouched off un = turn-still (rw (takes-unmarked q (h .values) off, un))
 
   module _ (e : turn q h gone reports .searched ≡ false) where
     left-kept : turn q h gone reports ≡ record { searched = false; steps = 0; question = listed q h }
@@ -162,10 +158,10 @@ module _ (q : Question) (h : Held) (gone : ℕ) (reports : List Held) where
     marks-stay =
         let s = listed-keeps q h in
         ap (λ (r : Turned). marked (r .question)) left-kept
-        ∙ (λ i. take (cond (ltb (s .same-next i) 256) (placeOf (s .same-weights i) (s .same-next i)) 256) (visiting (s .same-weights i)))
+        ∙ (λ i. take (cond (ltb (s .same-next i) 256) (placeOf (s .same-rule i) (s .same-next i)) 256) (visiting (s .same-rule i)))
 
 pub empty-stays : (h : Held) (gone : ℕ) (reports : List Held) → turn emptySlot h gone reports ≡ record { searched = false; steps = 0; question = emptySlot }
-empty-stays h gone reports = turn-still emptySlot h gone reports (idle-untouched emptySlot gone (h .loss) (h .shake) refl)
+empty-stays h gone reports = turn-still emptySlot h gone reports (idle-untouched emptySlot gone (h .values) refl)
 
 -- ---- the law
 
@@ -174,32 +170,32 @@ pub record Leaves (hs : List Held) (h : Held) (gone : ℕ) (left : List Held) : 
   pub among : left ⊆ h ∷ hs
   pub stays : (r : Held) → r ∈ h ∷ hs → gone < r .number → r ∈ left
 
-map-⊆ : {A B : Type 0} (f : A → B) (l m : List A) → l ⊆ m → map f l ⊆ map f m
-map-⊆ f l m h y k = let r = Memᴰ·of-map f l k in moved (r .2) (Memᴰ·map f (h (r .0) (r .1)))
+entries-⊆ : (rule : Rule) (l m : List Held) → l ⊆ m → entries rule l ⊆ entries rule m
+entries-⊆ rule l m h e k = let r = entries-of rule l k in moved (r .2) (entries-in rule (h (r .0) (r .1)))
 
 -- A report enters where these stood, and some leave; a window holds what is left.
 module _ (hs : List Held) (h : Held) (permitted : Permitted h) (newest : (r : Held) → r ∈ hs → r .number < h .number) (q : Question) (s : Stands hs q) where
   -- The question with the report added.
-  pub added-is : listed q h ≡ asked (s .k) (s .ws) (top (s .k) (s .ws) (h ∷ hs)) (s .next)
-  added-is = ap (λ p. listed p h) (s .is) ∙ listed-is hs (s .k) (s .ws) (s .next) (s .asks) (s .guarded) h permitted newest
+  pub added-is : listed q h ≡ asked (s .k) (s .rule) (top (s .rule) (s .k) (h ∷ hs)) (s .next)
+  added-is = ap (λ p. listed p h) (s .is) ∙ listed-is hs (s .k) (s .rule) (s .next) (s .asks) (s .guarded) h permitted newest
 
   -- Its list.
-  pub added-lines : lines (listed q h) ≡ top (s .k) (s .ws) (h ∷ hs)
+  pub added-lines : lines (listed q h) ≡ top (s .rule) (s .k) (h ∷ hs)
   added-lines =
       ap lines added-is
-      ∙ lines-asked (s .k) (s .ws) (top (s .k) (s .ws) (h ∷ hs)) (s .next) (omega (arith, s .asks .small, length-best-le above above-strict (s .k) (map (entry (s .ws)) (h ∷ hs))))
+      ∙ lines-asked (s .k) (s .rule) (top (s .rule) (s .k) (h ∷ hs)) (s .next) (omega (arith, s .asks .small, length-best-le (above (s .rule)) (above-strict (s .rule)) (s .k) (entries (s .rule) (h ∷ hs))))
 
   module _ (gone : ℕ) (left : List Held) (leaves : Leaves hs h gone left) where
     -- A list without one that has gone is the true list of those left.
-    pub kept-list : lists (listed q h) gone ≡ false → top (s .k) (s .ws) (h ∷ hs) ≡ top (s .k) (s .ws) left
+    pub kept-list : lists (listed q h) gone ≡ false → top (s .rule) (s .k) (h ∷ hs) ≡ top (s .rule) (s .k) left
     kept-list none =
         sym
-        (best-part above above-strict (s .k) (map (entry (s .ws)) left) (map (entry (s .ws)) (h ∷ hs)) (map-⊆ (entry (s .ws)) left (h ∷ hs) (leaves .among))
+        (best-part (above (s .rule)) (above-strict (s .rule)) (s .k) (entries (s .rule) left) (entries (s .rule) (h ∷ hs)) (entries-⊆ (s .rule) left (h ∷ hs) (leaves .among))
         (λ e m.
-        let r = Memᴰ·of-map (entry (s .ws)) (h ∷ hs) (best-of above above-strict (s .k) (map (entry (s .ws)) (h ∷ hs)) e m) in
+        let r = top-of (s .rule) (s .k) (h ∷ hs) m in
         let after : gone < e .number = none-gone (listed q h) gone none e (subst (λ l. e ∈ l) (sym added-lines) m) in
         let stays = leaves .stays (r .0) (r .1) (subst (λ (x : Entry). gone < x .number) (sym (r .2)) after) in
-        moved (r .2) (Memᴰ·map (entry (s .ws)) stays)))
+        moved (r .2) (entries-in (s .rule) stays)))
 
   module _ (w : Window) (fit : fitWindow w ≡ true) (gone : ℕ) (leaves : Leaves hs h gone (heldReports w)) where
     -- What a turn leaves has the true list of the reports that the window holds, and marks that guard it.
@@ -207,7 +203,7 @@ module _ (hs : List Held) (h : Held) (permitted : Permitted h) (newest : (r : He
     turn-stands = go (tested (lists (listed q h) gone))
       where
         p : Question
-        p = asked (s .k) (s .ws) (top (s .k) (s .ws) (h ∷ hs)) (s .next)
+        p = asked (s .k) (s .rule) (top (s .rule) (s .k) (h ∷ hs)) (s .next)
 
         go : Tested (lists (listed q h) gone) → Stands (heldReports w) (turn q h gone (inRows w) .question)
         go (passed t) =
@@ -219,10 +215,10 @@ module _ (hs : List Held) (h : Held) (permitted : Permitted h) (newest : (r : He
             subst (Stands (heldReports w)) (sym (ap (λ (r : Turned). r .question) (turn-kept q h gone (inRows w) t) ∙ added-is))
             (record {
               k = s .k;
-              ws = s .ws;
+              rule = s .rule;
               next = s .next;
               asks = s .asks;
               cell-range = s .cell-range;
-              is = ap (λ l. asked (s .k) (s .ws) l (s .next)) same;
-              guarded = subst (Guarded (searchOf (s .ws)) (s .k) (taken (s .ws) (s .next))) same (guard-more hs (s .k) (s .ws) (s .next) (s .asks) (s .guarded) h permitted newest);
+              is = ap (λ l. asked (s .k) (s .rule) l (s .next)) same;
+              guarded = subst (Guarded (searchOf (s .rule)) (s .k) (taken (s .rule) (s .next))) same (guard-more hs (s .k) (s .rule) (s .next) (s .asks) (s .guarded) h permitted newest);
             })

@@ -5,9 +5,10 @@ use mathlib.Core.List.{List, []}
 use lib.ListN.{replicate}
 use lib.Dec.{leb, eqb}
 use lib.IntN.{pos}
-use Rattle.ranking.specs.declared.Weights.{Weights}
-use Rattle.ranking.specs.Cells.{inRange}
+use Rattle.ranking.specs.declared.Rule.{Rule}
+use Rattle.ranking.specs.Cells.{fitRule}
 use Rattle.ranking.specs.Standing.{Held}
+use Rattle.list.specs.Lines.{room}
 use Rattle.question.specs.declared.Question.{Question}
 use Rattle.question.specs.declared.Searched.{Searched}
 use Rattle.question.specs.Lines.{asked, emptySlot, searchedIn}
@@ -16,20 +17,19 @@ use Rattle.slot.specs.declared.Shown.{Shown}
 
 -- A search of these reports from its beginning to its end, and its steps; none, where k is over 16.
 abbrev pub searchedAmong : Question → List Held → Searched
-searchedAmong q reports = cond (leb (q .k) 16) (searchedIn q reports) (record { steps = 0; question = q })
+searchedAmong q reports = cond (leb (q .k) room) (searchedIn q reports) (record { steps = 0; question = q })
 
 -- "14: k not 1 to 16. 15: weight out of range. 16: slot in use", of a slot that holds a question with that k, or 0.
-abbrev pub askRefusal : (held k : ℕ) → Weights → ℕ
-askRefusal held k weights =
-    cond (leb 1 k && leb k 16) (cond (inRange (weights .loss) && inRange (weights .shake)) (cond (eqb held 0) 0 16) 15) 14
+abbrev pub askRefusal : (held k : ℕ) → Rule → ℕ
+askRefusal held k rule = cond (leb 1 k && leb k room) (cond (fitRule rule) (cond (eqb held 0) 0 16) 15) 14
 
 -- "A question is searched when it is set"; "setting answers the steps".
-unfoldable pub setIn : Question → ℕ → Weights → List Held → Seated
-setIn q k weights reports =
-    cond (eqb (askRefusal (q .k) k weights) 0)
-    (let found = searchedAmong (asked k weights [] 0) reports in
+unfoldable pub setIn : Question → ℕ → Rule → List Held → Seated
+setIn q k rule reports =
+    cond (eqb (askRefusal (q .k) k rule) 0)
+    (let found = searchedAmong (asked k rule [] 0) reports in
     record { refusal = 0; steps = found .steps; question = found .question })
-    (record { refusal = askRefusal (q .k) k weights; steps = 0; question = q })
+    (record { refusal = askRefusal (q .k) k rule; steps = 0; question = q })
 
 -- "17: slot empty (remove, read)", of a slot that holds a question with that k, or 0.
 abbrev pub emptyRefusal : ℕ → ℕ
@@ -41,7 +41,7 @@ emptied q = cond (eqb (q .k) 0) q emptySlot
 
 -- "A refusal answers its number, every other field 0."
 abbrev pub notShown : ℕ → Shown
-notShown refusal = record { refusal = refusal; len = 0; numbers = replicate 16 0; scores = replicate 16 (pos 0) }
+notShown refusal = record { refusal = refusal; len = 0; numbers = replicate room 0; scores = replicate room (pos 0) }
 
 -- The list as it is stored.
 unfoldable pub readIn : Question → Shown

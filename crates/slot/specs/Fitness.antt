@@ -1,17 +1,18 @@
 -- Which slots are fit (document 01, "Refusal numbers").
 use mathlib.Core.Bool.{Bool, _&&_, _||_}
 use lib.Dec.{eqb}
-use lib.IntN.{pos}
+use Rattle.ranking.specs.Cells.{isNone}
 use Rattle.window.specs.declared.Window.{Window}
 use Rattle.question.specs.declared.Question.{Question}
-use Rattle.question.specs.Lines.{linesOf, finished}
-use Rattle.question.specs.Calls.{allOf, equal, blank, fitQuestion}
+use Rattle.list.specs.Lines.{linesOf, allOf, blank}
+use Rattle.question.specs.Lines.{finished}
+use Rattle.question.specs.Calls.{fitQuestion}
 
 -- "An empty slot is k = 0 and everything else 0."
 unfoldable pub isEmpty : Question → Bool
 isEmpty q =
     eqb (q .k) 0
-    && (equal (q .weights .loss) (pos 0) && equal (q .weights .shake) (pos 0))
+    && isNone (q .rule)
     && eqb (q .len) 0
     && eqb (q .next) 0
     && allOf blank (linesOf (q .numbers) (q .scores))

@@ -5,9 +5,9 @@ use mathlib.Core.List.{List, [], _∷_, map}
 use lib.ListN.{getD}
 use lib.Dec.{ltb, eqb}
 use lib.IntN.{ℤ, pos}
-use lib.Signed.{leZ}
-use Rattle.ranking.specs.Cells.{score}
-use Rattle.ranking.specs.Standing.{Entry}
+use Rattle.values.specs.declared.Values.{Values}
+use Rattle.ranking.specs.Cells.{noRule, score}
+use Rattle.ranking.specs.Standing.{Entry, passes}
 use Rattle.question.specs.declared.Question.{Question}
 use Rattle.question.specs.Lines.{lines}
 use Rattle.slot.specs.declared.gauge.Gauge.{Gauge}
@@ -31,15 +31,15 @@ unfoldable pub lowOf : Question → ℕ
 lowOf q = cond (ltb (q .len) (q .k)) 0 (lowest (map (λ e. e .number) (lines q)))
 
 abbrev pub gaugeOf : Question → Gauge
-gaugeOf q = record { weights = q .weights; least = leastOf q; low = lowOf q }
+gaugeOf q = record { rule = q .rule; least = leastOf q; low = lowOf q }
 
 -- The list is full, a report of these values has no place on it, and none of a number up to `gone` is on it.
-unfoldable pub isQuiet : Gauge → (gone loss shake : ℕ) → Bool
-isQuiet g gone loss shake = not (leZ (g .least) (score (g .weights) loss shake)) && ltb gone (g .low)
+unfoldable pub isQuiet : Gauge → ℕ → Values → Bool
+isQuiet g gone v = not (passes (g .rule) (score (g .rule) v) (g .least)) && ltb gone (g .low)
 
 -- What stands past the last slot.
 abbrev pub noQuestion : Question
-noQuestion = record { k = 0; weights = record { loss = pos 0; shake = pos 0 }; numbers = []; scores = []; len = 0; next = 0 }
+noQuestion = record { k = 0; rule = noRule; numbers = []; scores = []; len = 0; next = 0 }
 
 -- "A question has a slot 0 to 31."
 abbrev pub slotCount : ℕ

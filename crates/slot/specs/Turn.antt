@@ -1,30 +1,29 @@
 -- What a report's entry does to one question (document 01, "Entering a report").
 use Prim.Native.Nat.{ℕ}
-use mathlib.Core.Bool.{Bool, true, false, not, cond, _&&_, _||_}
+use mathlib.Core.Bool.{Bool, true, false, not, cond, _&&_}
 use mathlib.Core.List.{List}
 use lib.Dec.{ltb}
 use lib.IntN.{ℤ}
-use lib.Signed.{leZ}
-use Rattle.laws.specs.Lists.{onLast}
+use Rattle.values.specs.declared.Values.{Values}
 use Rattle.ranking.specs.Cells.{cell, score}
-use Rattle.ranking.specs.Standing.{Held, Entry, entry}
+use Rattle.ranking.specs.Standing.{Held, Entry, entry, hasPlace}
 use Rattle.question.specs.declared.Question.{Question}
 use Rattle.question.specs.Lines.{lines, withEntry, cutToK, isMarked}
-use Rattle.question.specs.Calls.{allOf}
+use Rattle.list.specs.Lines.{allOf}
 use Rattle.slot.specs.declared.Turned.{Turned}
 use Rattle.slot.specs.Asking.{searchedAmong}
 
--- "The list has fewer than k entries or its score is at least the last entry's."
-unfoldable pub hasPlace : Question → ℤ → Bool
-hasPlace q s = ltb (q .len) (q .k) || onLast (λ e. leZ (e .score) s) (lines q)
+-- The question's list has a place for a report that enters now with this score.
+abbrev pub placeOn : Question → ℤ → Bool
+placeOn q s = hasPlace (q .rule) (q .k) (q .len) (lines q) s
 
 -- "Each question with a mark on its cell", whose list has a place for these values.
-unfoldable pub takes : Question → (loss shake : ℕ) → Bool
-takes q loss shake = isMarked q (cell loss shake) && hasPlace q (score (q .weights) loss shake)
+unfoldable pub takes : Question → Values → Bool
+takes q v = isMarked q (cell v) && placeOn q (score (q .rule) v)
 
 -- "It is put on the list if" the question takes it; "the list is cut to k."
 unfoldable pub listed : Question → Held → Question
-listed q h = cond (takes q (h .loss) (h .shake)) (cutToK (withEntry q (entry (q .weights) h))) q
+listed q h = cond (takes q (h .values)) (cutToK (withEntry q (entry (q .rule) h))) q
 
 -- A line's report came after that number.
 abbrev pub later : ℕ → Entry → Bool

@@ -3,17 +3,20 @@
 ghost use mathlib.Core.Path.{_≡_};
 ghost use mathlib.Core.Bool.{_&&_};
 ghost use mathlib.Core.List.{map};
-ghost use Prim.Native.Nat.{_%_, min};
+ghost use Prim.Native.Nat.{min};
 ghost use lib.Dec.{eqb};
-ghost use Rattle.slot.specs.Gauges.{leastOf, lowOf, gaugeOf, isQuiet, inUse};
+ghost use Rattle.values.specs.Range.{low};
+ghost use Rattle.slot.specs.Gauges.{lowOf, gaugeOf, isQuiet, slotCount, inUse};
+use crate::least;
 use crate::lines_in;
 use question::Question;
-use ranking::Weights;
+use ranking::Rule;
+use values::Values;
 
-// The weights, the last score of the list, and the lowest number on it; 0 for that while the list has room, which no number is
+// The rule, the last score of the list, and the lowest number on it; 0 for that while the list has room, which no number is
 // below.
 pub struct Gauge {
-    pub weights: Weights,
+    pub rule: Rule,
     pub least: i32,
     pub low: u32,
 }
@@ -25,20 +28,20 @@ impl Gauge {
     pub fn of(question: Question) -> Gauge
         ensures { λ r. ⌜ r ≡ gaugeOf question ⌝ }
     {
-        let weights = question.weights;
+        let rule = question.rule;
         Gauge {
-            weights,
+            rule,
             least: least(question),
             low: low(question),
         }
     }
 
     // A report of these values has no place on the list, and none of a number up to `gone` is on it.
-    pub fn quiet(self, gone: u32, loss: u16, shake: u16) -> bool
-        ensures { λ r. ⌜ r ≡ isQuiet self gone (loss % 4096) (shake % 4096) ⌝ }
+    pub fn quiet(self, gone: u32, values: Values) -> bool
+        ensures { λ r. ⌜ r ≡ isQuiet self gone (low values) ⌝ }
     {
-        let weights = self.weights;
-        if self.least <= weights.score(loss, shake) {
+        let rule = self.rule;
+        if rule.passes(rule.score(values), self.least) {
             return false;
         }
         gone < self.low
@@ -48,9 +51,9 @@ impl Gauge {
     pub fn all(slots: [Question; Gauge::SLOTS]) -> [Gauge; Gauge::SLOTS]
         ensures { λ r. ⌜ r ≡ map gaugeOf slots ⌝ }
     {
-        let weights = Weights { loss: 0, shake: 0 };
+        let rule = Rule::none();
         let none = Gauge {
-            weights,
+            rule,
             least: 0,
             low: 0,
         };
@@ -66,7 +69,7 @@ impl Gauge {
 
     // How many slots there are up to the last one that has a k or a line.
     pub fn in_use(slots: [Question; Gauge::SLOTS]) -> usize
-        ensures { λ r. ⌜ r ≡ inUse 32 slots ⌝ }
+        ensures { λ r. ⌜ r ≡ inUse slotCount slots ⌝ }
     {
         let mut used: usize = Gauge::SLOTS;
         while 0 < used {
@@ -78,19 +81,6 @@ impl Gauge {
         }
         0
     }
-}
-
-// The list's last score; the largest there is, where it has no line.
-fn least(question: Question) -> i32
-    ensures { λ r. ⌜ r ≡ leastOf question ⌝ }
-{
-    let n = lines_in(question.len);
-    if n == 0 {
-        return 2147483647;
-    }
-    let scores = question.scores;
-    let last = n - 1;
-    scores[last]
 }
 
 // The lowest number on the list, or 0 while it has room.

@@ -1,22 +1,23 @@
 // What setting, removing, reading and entering do to one slot: a standing question with its list, or none.
 ghost use mathlib.Core.Path.{_≡_};
-ghost use mathlib.Core.Bool.{_&&_, _||_};
-ghost use Prim.Native.Nat.{min, _%_};
-ghost use lib.IntN.{pos};
-ghost use lib.ListN.{replicate};
-ghost use Rattle.window.specs.Rows.{standing};
-ghost use Rattle.question.specs.Lines.{finished, rowsOf};
-ghost use Rattle.question.specs.Calls.{equal, fitQuestion};
+ghost use Prim.Native.Nat.{min};
+ghost use Rattle.values.specs.Range.{low};
+ghost use Rattle.window.specs.Rows.{rowCount, standing};
+ghost use Rattle.list.specs.Lines.{room};
+ghost use Rattle.list.specs.Rows.{rowsOf};
 ghost use Rattle.slot.specs.Asking.{askRefusal, setIn, emptyRefusal, emptied, notShown, readIn};
-ghost use Rattle.slot.specs.Turn.{hasPlace, takes, listed, lists, turn};
+ghost use Rattle.slot.specs.Turn.{placeOn, takes, listed, lists, turn};
+ghost use Rattle.slot.specs.Gauges.{leastOf};
 ghost use Rattle.slot.specs.Fitness.{isEmpty, slotFit};
 
 mod gauge;
 
 pub use gauge::Gauge;
+use list::Lines;
 use question::Question;
 use ranking::Grid;
-use ranking::Weights;
+use ranking::Rule;
+use values::Values;
 use window::Window;
 
 // What setting a question answers: the steps of its search, and what the slot holds then.
@@ -30,8 +31,8 @@ pub struct Seated {
 pub struct Shown {
     pub refusal: u8,
     pub len: u8,
-    pub numbers: [u32; 16],
-    pub scores: [i32; 16],
+    pub numbers: [u32; Lines::ROOM],
+    pub scores: [i32; Lines::ROOM],
 }
 
 // What a report's entry leaves of a question: whether it was searched, the steps of that, and what the slot holds then.
@@ -56,8 +57,8 @@ impl Shown {
     pub fn refused(refusal: u8) -> Shown
         ensures { λ r. ⌜ r ≡ notShown refusal ⌝ }
     {
-        let numbers = [0u32; 16];
-        let scores = [0i32; 16];
+        let numbers = [0u32; Lines::ROOM];
+        let scores = [0i32; Lines::ROOM];
         Shown {
             refusal,
             len: 0,
@@ -71,14 +72,14 @@ impl Shown {
 pub fn set_in<'a>(
     question: Question,
     k: u8,
-    weights: Weights,
+    rule: Rule,
     losses: &'a [u16; Window::ROWS],
     shakes: &'a [u16; Window::ROWS],
     numbers: &'a [u32; Window::ROWS],
 ) -> Seated
-    ensures { λ r. ⌜ r ≡ setIn question k weights (standing (rowsOf (now (losses .entry)) (now (shakes .entry)) (now (numbers .entry))) 1024) ⌝ }
+    ensures { λ r. ⌜ r ≡ setIn question k rule (standing (rowsOf (now (losses .entry)) (now (shakes .entry)) (now (numbers .entry))) rowCount) ⌝ }
 {
-    let refusal = ask_refusal(question.k, k, weights);
+    let refusal = ask_refusal(question.k, k, rule);
     if refusal != 0 {
         return Seated {
             refusal,
@@ -88,7 +89,7 @@ pub fn set_in<'a>(
     }
     let mut fresh = Question::fresh();
     fresh.k = k;
-    fresh.weights = weights;
+    fresh.rule = rule;
     let found = fresh.searched_in(losses, shakes, numbers, Window::ROWS);
     let placed = found.question;
     Seated {
@@ -99,8 +100,8 @@ pub fn set_in<'a>(
 }
 
 // Why a question is not set in a slot that holds one of that k, or 0; 0 for no reason.
-fn ask_refusal(held: u8, k: u8, weights: Weights) -> u8
-    ensures { λ r. ⌜ r ≡ askRefusal held k weights ⌝ }
+fn ask_refusal(held: u8, k: u8, rule: Rule) -> u8
+    ensures { λ r. ⌜ r ≡ askRefusal held k rule ⌝ }
 {
     if k < 1 {
         return Seated::LINES_OUT_OF_RANGE;
@@ -108,7 +109,7 @@ fn ask_refusal(held: u8, k: u8, weights: Weights) -> u8
     if Question::LINES < k {
         return Seated::LINES_OUT_OF_RANGE;
     }
-    if !weights.fit() {
+    if !rule.fit() {
         return Seated::WEIGHT_OUT_OF_RANGE;
     }
     if held == 0 { 0 } else { Seated::IN_USE }
@@ -153,8 +154,7 @@ pub fn read_in(question: Question) -> Shown
 pub fn turn<'a>(
     question: Question,
     number: u32,
-    loss: u16,
-    shake: u16,
+    values: Values,
     gone: u32,
     losses: &'a [u16; Window::ROWS],
     shakes: &'a [u16; Window::ROWS],
@@ -162,11 +162,11 @@ pub fn turn<'a>(
     rows: usize,
 ) -> Turned
     ensures { λ r. ⌜
-        r ≡ turn question (record { number = number; loss = loss % 4096; shake = shake % 4096 }) gone
-        (standing (rowsOf (now (losses .entry)) (now (shakes .entry)) (now (numbers .entry))) (min rows 1024))
+        r ≡ turn question (record { number = number; values = low values }) gone
+        (standing (rowsOf (now (losses .entry)) (now (shakes .entry)) (now (numbers .entry))) (min rows rowCount))
         ⌝ }
 {
-    let with = listed(question, number, loss, shake);
+    let with = listed(question, number, values);
     if !lists(with, gone) {
         return Turned {
             searched: false,
@@ -184,45 +184,49 @@ pub fn turn<'a>(
 }
 
 // The question with a report more, if its list takes it. Of the values the low 12 bits count.
-fn listed(question: Question, number: u32, loss: u16, shake: u16) -> Question
-    ensures { λ r. ⌜ r ≡ listed question (record { number = number; loss = loss % 4096; shake = shake % 4096 }) ⌝ }
+fn listed(question: Question, number: u32, values: Values) -> Question
+    ensures { λ r. ⌜ r ≡ listed question (record { number = number; values = low values }) ⌝ }
 {
-    if takes(question, loss, shake) {
-        return question.joined(number, question.weights.score(loss, shake));
+    if takes(question, values) {
+        return question.joined(number, question.rule.score(values));
     }
     question
 }
 
 // The question has a mark on the report's cell, and its list a place for the score.
-fn takes(question: Question, loss: u16, shake: u16) -> bool
-    ensures { λ r. ⌜ r ≡ takes question (loss % 4096) (shake % 4096) ⌝ }
+fn takes(question: Question, values: Values) -> bool
+    ensures { λ r. ⌜ r ≡ takes question (low values) ⌝ }
 {
-    if has_place(question, question.weights.score(loss, shake)) {
-        return question.marked(Grid::cell(loss, shake));
+    if has_place(question, question.rule.score(values)) {
+        return question.marked(Grid::cell(values));
     }
     false
 }
 
-// The list has fewer than k entries, or the score is at least its last entry's.
+// The list has a place for a report that enters now with this score.
 fn has_place(question: Question, score: i32) -> bool
-    ensures { λ r. ⌜ r ≡ hasPlace question score ⌝ }
+    ensures { λ r. ⌜ r ≡ placeOn question score ⌝ }
 {
-    let len = question.len;
-    if len < question.k {
-        return true;
-    }
-    let n = lines_in(len);
+    let rule = question.rule;
+    rule.has_place(question.k, question.len, least(question), score)
+}
+
+// The list's last score; the largest there is, where it has no line.
+fn least(question: Question) -> i32
+    ensures { λ r. ⌜ r ≡ leastOf question ⌝ }
+{
+    let n = lines_in(question.len);
     if n == 0 {
-        return false;
+        return 2147483647;
     }
     let scores = question.scores;
     let last = n - 1;
-    scores[last] <= score
+    scores[last]
 }
 
 // How many lines a list of that length has.
 fn lines_in(len: u8) -> usize
-    ensures { λ r. ⌜ r ≡ min len 16 ⌝ }
+    ensures { λ r. ⌜ r ≡ min len room ⌝ }
 {
     if len < Question::LINES {
         len as usize
@@ -264,11 +268,11 @@ pub fn fit(question: Question, window: Window) -> bool
 fn is_empty(question: Question) -> bool
     ensures { λ r. ⌜ r ≡ isEmpty question ⌝ }
 {
-    let weights = question.weights;
+    let rule = question.rule;
     if question.k != 0 {
         return false;
     }
-    if !no_weights(weights) {
+    if !rule.is_none() {
         return false;
     }
     if question.len != 0 {
@@ -278,19 +282,4 @@ fn is_empty(question: Question) -> bool
         return false;
     }
     question.rest_blank()
-}
-
-fn no_weights(weights: Weights) -> bool
-    ensures { λ r. ⌜ r ≡ (equal (weights .loss) (pos 0) && equal (weights .shake) (pos 0)) ⌝ }
-{
-    if is_zero(weights.loss) {
-        return is_zero(weights.shake);
-    }
-    false
-}
-
-fn is_zero(weight: i16) -> bool
-    ensures { λ r. ⌜ r ≡ equal weight (pos 0) ⌝ }
-{
-    weight == 0
 }

@@ -12,9 +12,13 @@ use lib.ListN.{length, getD, set, length-set, replicate, length-replicate, getD-
 use lib.Seq.{getD-set-same, getD-set-other}
 use Rattle.laws.proofs.Tests.{Tested, passed, failed, tested, clash, and-both, and-true}
 use Rattle.laws.proofs.Lists.{lt-or-eq}
-use Rattle.window.specs.Rows.{sized, empty, freshWindow, rowOf, age, due, holds, rowFit, rowsFit, countsFit, fitWindow, grown, added}
+use Rattle.values.specs.declared.Values.{Values}
+use Rattle.values.specs.Range.{inRange}
+use Rattle.values.proofs.Facts.{range-is}
+use Rattle.window.specs.Rows.{sized, empty, freshWindow, rowOf, age, due, noValues, holds, rowFit, rowsFit, countsFit, fitWindow, grown, added}
+use Rattle.window.specs.declared.Counts.{Counts}
 use Rattle.window.specs.declared.Window.{Window}
-use Rattle.window.proofs.Ring.{Ring, next-ring, due-new, due-later}
+use Rattle.window.proofs.Ring.{Ring, counting, next-ring, due-new, due-later}
 
 -- ---- each test as a fact
 
@@ -24,53 +28,49 @@ size-range n h = let both = and-both (leb 1 n) (leb n 1024) h in (leb-true 1 n (
 pub is-sized : (n : ℕ) → 1 ≤ n → n ≤ 1024 → sized n ≡ true
 is-sized n some within = and-true (le-leb 1 n some) (le-leb n 1024 within)
 
--- The three counts are in their ranges.
-pub record Counts (w : Window) : Type 0 where
-  pub ring : Ring (w .size) (w .entered) (w .held)
-  pub within : w .size ≤ 1024
-  pub at-most : w .entered ≤ 1000000
+-- The counts are in their ranges.
+pub record Ranges (c : Counts) : Type 0 where
+  pub ring : Ring (c .size) (c .entered) (c .held)
+  pub within : c .size ≤ 1024
+  pub at-most : c .entered ≤ 1000000
 
-pub counts : (w : Window) → countsFit (w .size) (w .entered) (w .held) ≡ true → Counts w
-counts w h =
-    let a = and-both (sized (w .size) && leb (w .entered) 1000000 && leb (w .held) (w .size)) (leb (w .held) (w .entered)) h in
-    let b = and-both (sized (w .size) && leb (w .entered) 1000000) (leb (w .held) (w .size)) (a .0) in
-    let c = and-both (sized (w .size)) (leb (w .entered) 1000000) (b .0) in
+pub ranges-of : (c : Counts) → countsFit c ≡ true → Ranges c
+ranges-of c h =
+    let x = and-both (sized (c .size) && leb (c .entered) 1000000 && leb (c .held) (c .size)) (leb (c .held) (c .entered)) h in
+    let y = and-both (sized (c .size) && leb (c .entered) 1000000) (leb (c .held) (c .size)) (x .0) in
+    let z = and-both (sized (c .size)) (leb (c .entered) 1000000) (y .0) in
     record {
       ring = record {
-        some = size-range (w .size) (c .0) .0;
-        has-rows = leb-true (w .held) (w .size) (b .1);
-        were-entered = leb-true (w .held) (w .entered) (a .1);
+        some = size-range (c .size) (z .0) .0;
+        has-rows = leb-true (c .held) (c .size) (y .1);
+        were-entered = leb-true (c .held) (c .entered) (x .1);
       };
-      within = size-range (w .size) (c .0) .1;
-      at-most = leb-true (w .entered) 1000000 (c .1);
+      within = size-range (c .size) (z .0) .1;
+      at-most = leb-true (c .entered) 1000000 (z .1);
     }
 
-counted : (w : Window) → Counts w → countsFit (w .size) (w .entered) (w .held) ≡ true
-counted w k =
+in-ranges : (c : Counts) → Ranges c → countsFit c ≡ true
+in-ranges c k =
     and-true
-    (and-true (and-true (is-sized (w .size) (k .ring .some) (k .within)) (le-leb (w .entered) 1000000 (k .at-most))) (le-leb (w .held) (w .size) (k .ring .has-rows)))
-    (le-leb (w .held) (w .entered) (k .ring .were-entered))
+    (and-true (and-true (is-sized (c .size) (k .ring .some) (k .within)) (le-leb (c .entered) 1000000 (k .at-most))) (le-leb (c .held) (c .size) (k .ring .has-rows)))
+    (le-leb (c .held) (c .entered) (k .ring .were-entered))
 
 -- What a row holds that passes its test.
-pub record Held-in (due number loss shake : ℕ) : Type 0 where
+pub record Held-in (due number : ℕ) (v : Values) : Type 0 where
   pub as-due : number ≡ due
-  pub loss-fits : loss ≤ 4095
-  pub shake-fits : shake ≤ 4095
+  pub permitted : inRange v ≡ true
 
-pub row-holds : (due number loss shake : ℕ) → holds due number loss shake ≡ true → Held-in due number loss shake
-row-holds due number loss shake h = go (tested (eqb due 0))
+pub row-holds : (due number : ℕ) (v : Values) → holds due number v ≡ true → Held-in due number v
+row-holds due number v h = record { as-due = eqb-true number due (both .0); permitted = go (tested (eqb due 0)) }
   where
-    both : (eqb number due ≡ true) × (cond (eqb due 0) (eqb loss 0 && eqb shake 0) (leb loss 4095 && leb shake 4095) ≡ true)
-    both = and-both (eqb number due) (cond (eqb due 0) (eqb loss 0 && eqb shake 0) (leb loss 4095 && leb shake 4095)) h
+    both : (eqb number due ≡ true) × (cond (eqb due 0) (noValues v) (inRange v) ≡ true)
+    both = and-both (eqb number due) (cond (eqb due 0) (noValues v) (inRange v)) h
 
-    go : Tested (eqb due 0) → Held-in due number loss shake
+    go : Tested (eqb due 0) → inRange v ≡ true
     go (passed t) =
-        let values = and-both (eqb loss 0) (eqb shake 0) (rw t at (both .1)) in
-        let none : (loss ≡ 0) × (shake ≡ 0) = (eqb-true loss 0 (values .0), eqb-true shake 0 (values .1)) in
-        record { as-due = eqb-true number due (both .0); loss-fits = omega arith; shake-fits = omega arith }
-    go (failed f) =
-        let values = and-both (leb loss 4095) (leb shake 4095) (rw f at (both .1)) in
-        record { as-due = eqb-true number due (both .0); loss-fits = leb-true loss 4095 (values .0); shake-fits = leb-true shake 4095 (values .1) }
+        let none = and-both (eqb (v .loss) 0) (eqb (v .shake) 0) (rw t at (both .1)) in
+        range-is v (omega (arith, eqb-true (v .loss) 0 (none .0))) (omega (arith, eqb-true (v .shake) 0 (none .1)))
+    go (failed f) = rw f at (both .1)
 
 module _ (w : Window) where
   pub every-row : (n : ℕ) → rowsFit w n ≡ true → (r : ℕ) → r < n → rowFit w r ≡ true
@@ -94,18 +94,18 @@ module _ (w : Window) where
 
   -- A fit window, by its facts.
   pub record Fit : Type 0 where
-    pub ranges : Counts w
+    pub ranges : Ranges (w .counts)
     pub rows : (r : ℕ) → r < 1024 → rowFit w r ≡ true
 
   pub fit-facts : fitWindow w ≡ true → Fit
   unfolding fitWindow
   fit-facts h =
-      let both = and-both (countsFit (w .size) (w .entered) (w .held)) (rowsFit w 1024) h in
-      record { ranges = counts w (both .0); rows = every-row 1024 (both .1) }
+      let both = and-both (countsFit (w .counts)) (rowsFit w 1024) h in
+      record { ranges = ranges-of (w .counts) (both .0); rows = every-row 1024 (both .1) }
 
   pub fit-is : Fit → fitWindow w ≡ true
   unfolding fitWindow
-  fit-is f = and-true (counted w (f .ranges)) (rows-fit 1024 (f .rows))
+  fit-is f = and-true (in-ranges (w .counts) (f .ranges)) (rows-fit 1024 (f .rows))
 
   -- The arrays have their 1,024 places, as those of every stored window do.
   pub record Whole : Type 0 where
@@ -140,7 +140,7 @@ empty-fit n h =
     no-and true = refl
     no-and false = refl
 
-    none : (r : ℕ) → due n 0 0 r ≡ 0
+    none : (r : ℕ) → due (counting n 0 0) r ≡ 0
     none r = rw (le-ltb (age n 0 r) 0 zero-le, no-and)
 
     unused : (r : ℕ) → _≡_ {A = ℕ} (getD (replicate 1024 0) r 0) 0 → rowFit (empty n) r ≡ true
@@ -148,65 +148,65 @@ empty-fit n h =
 
 -- ---- a report more
 
-module _ (w : Window) (loss shake : ℕ) where
-  pub added-taken : sized (w .size) ≡ true → w .entered < 1000000 → added w loss shake ≡ grown w loss shake
+module _ (w : Window) (v : Values) where
+  pub added-taken : sized (w .counts .size) ≡ true → w .counts .entered < 1000000 → added w v ≡ grown w v
   unfolding added
-  added-taken h l = rw (h, lt-ltb (w .entered) 1000000 l)
+  added-taken h l = rw (h, lt-ltb (w .counts .entered) 1000000 l)
 
-  grown-whole : Whole w → Whole (grown w loss shake)
+  grown-whole : Whole w → Whole (grown w v)
   grown-whole k =
       record {
-        losses-whole = length-set (w .losses) _ loss ∙ k .losses-whole;
-        shakes-whole = length-set (w .shakes) _ shake ∙ k .shakes-whole;
-        numbers-whole = length-set (w .numbers) _ (w .entered + 1) ∙ k .numbers-whole;
+        losses-whole = length-set (w .losses) _ (v .loss) ∙ k .losses-whole;
+        shakes-whole = length-set (w .shakes) _ (v .shake) ∙ k .shakes-whole;
+        numbers-whole = length-set (w .numbers) _ (w .counts .entered + 1) ∙ k .numbers-whole;
       }
 
-  pub added-whole : Whole w → Whole (added w loss shake)
+  pub added-whole : Whole w → Whole (added w v)
   unfolding added
-  added-whole k = go (tested (sized (w .size) && ltb (w .entered) 1000000))
+  added-whole k = go (tested (sized (w .counts .size) && ltb (w .counts .entered) 1000000))
     where
-      go : Tested (sized (w .size) && ltb (w .entered) 1000000) → Whole (added w loss shake)
+      go : Tested (sized (w .counts .size) && ltb (w .counts .entered) 1000000) → Whole (added w v)
       go (passed t) = rw t (grown-whole k)
       go (failed f) = rw f k
 
-  module _ (ranges : Counts w) (whole : Whole w) where
+  module _ (ranges : Ranges (w .counts)) (whole : Whole w) where
     -- the row that the report takes
     abbrev pub place : ℕ
-    place = rowOf (w .size) (w .entered + 1)
+    place = rowOf (w .counts .size) (w .counts .entered + 1)
 
     pub placed : place < 1024
-    placed = omega (arith, mod-lt (w .entered + 1 - 1) (ranges .ring .some))
+    placed = omega (arith, mod-lt (w .counts .entered + 1 - 1) (ranges .ring .some))
 
-    pub loss-there : getD (set (w .losses) place loss) place 0 ≡ loss
-    loss-there = getD-set-same (w .losses) place loss 0 (rw (whole .losses-whole) placed)
+    pub loss-there : getD (set (w .losses) place (v .loss)) place 0 ≡ v .loss
+    loss-there = getD-set-same (w .losses) place (v .loss) 0 (rw (whole .losses-whole) placed)
 
-    pub shake-there : getD (set (w .shakes) place shake) place 0 ≡ shake
-    shake-there = getD-set-same (w .shakes) place shake 0 (rw (whole .shakes-whole) placed)
+    pub shake-there : getD (set (w .shakes) place (v .shake)) place 0 ≡ v .shake
+    shake-there = getD-set-same (w .shakes) place (v .shake) 0 (rw (whole .shakes-whole) placed)
 
-    number-there : getD (set (w .numbers) place (w .entered + 1)) place 0 ≡ w .entered + 1
-    number-there = getD-set-same (w .numbers) place (w .entered + 1) 0 (rw (whole .numbers-whole) placed)
+    number-there : getD (set (w .numbers) place (w .counts .entered + 1)) place 0 ≡ w .counts .entered + 1
+    number-there = getD-set-same (w .numbers) place (w .counts .entered + 1) 0 (rw (whole .numbers-whole) placed)
 
-    new-row : loss ≤ 4095 → shake ≤ 4095 → rowFit (grown w loss shake) place ≡ true
-    new-row l s =
+    new-row : inRange v ≡ true → rowFit (grown w v) place ≡ true
+    new-row may =
         let now-due = due-new (ranges .ring) in
-        let some : w .entered + 1 ≡ 0 → ⊥ = λ e. omega arith in
-        rw (now-due, number-there, loss-there, shake-there, eq-eqb (w .entered + 1) (w .entered + 1) refl, ne-eqb (w .entered + 1) 0 some, le-leb loss 4095 l, le-leb shake 4095 s)
+        let some : w .counts .entered + 1 ≡ 0 → ⊥ = λ e. omega arith in
+        rw (now-due, number-there, loss-there, shake-there, eq-eqb (w .counts .entered + 1) (w .counts .entered + 1) refl, ne-eqb (w .counts .entered + 1) 0 some) may
 
-    old-row : (r : ℕ) → (r ≡ place → ⊥) → rowFit (grown w loss shake) r ≡ rowFit w r
+    old-row : (r : ℕ) → (r ≡ place → ⊥) → rowFit (grown w v) r ≡ rowFit w r
     old-row r other =
         let still = due-later (ranges .ring) r other in
         rw (
           still,
-          getD-set-other (w .numbers) place r (w .entered + 1) 0 other,
-          getD-set-other (w .losses) place r loss 0 other,
-          getD-set-other (w .shakes) place r shake 0 other,
+          getD-set-other (w .numbers) place r (w .counts .entered + 1) 0 other,
+          getD-set-other (w .losses) place r (v .loss) 0 other,
+          getD-set-other (w .shakes) place r (v .shake) 0 other,
         )
 
   -- A fit window stays fit with a report of permitted values more.
-  pub added-fit : fitWindow w ≡ true → Whole w → w .entered < 1000000 → loss ≤ 4095 → shake ≤ 4095 → fitWindow (added w loss shake) ≡ true
-  added-fit fit whole room l s =
-      subst (λ v. fitWindow v ≡ true) (sym (added-taken (is-sized (w .size) (k .ring .some) (k .within)) room))
-      (fit-is (grown w loss shake) (record {
+  pub added-fit : fitWindow w ≡ true → Whole w → w .counts .entered < 1000000 → inRange v ≡ true → fitWindow (added w v) ≡ true
+  added-fit fit whole room may =
+      subst (λ u. fitWindow u ≡ true) (sym (added-taken (is-sized (w .counts .size) (k .ring .some) (k .within)) room))
+      (fit-is (grown w v) (record {
         ranges = record { ring = next-ring (k .ring); within = k .within; at-most = omega arith };
         rows = λ r below. go r below (tested (eqb r (place k whole)));
       }))
@@ -214,9 +214,9 @@ module _ (w : Window) (loss shake : ℕ) where
       f : Fit w
       f = fit-facts w fit
 
-      k : Counts w
+      k : Ranges (w .counts)
       k = f .ranges
 
-      go : (r : ℕ) → r < 1024 → Tested (eqb r (place k whole)) → rowFit (grown w loss shake) r ≡ true
-      go r below (passed t) = subst (λ n. rowFit (grown w loss shake) n ≡ true) (sym (eqb-true r (place k whole) t)) (new-row k whole l s)
+      go : (r : ℕ) → r < 1024 → Tested (eqb r (place k whole)) → rowFit (grown w v) r ≡ true
+      go r below (passed t) = subst (λ n. rowFit (grown w v) n ≡ true) (sym (eqb-true r (place k whole) t)) (new-row k whole may)
       go r below (failed e) = old-row k whole r (eqb-false r (place k whole) e) ∙ f .rows r below

@@ -9,12 +9,13 @@ use native.Mathlib.Omega.{arith}
 use lib.ListN.{length, drop}
 use lib.Seq.{getD-set-other}
 use Rattle.laws.specs.Lists.{_∈_}
+use Rattle.values.specs.declared.Values.{Values}
 use Rattle.ranking.specs.Standing.{Held}
 use Rattle.laws.proofs.Lists.{Pairwise, pairwise-map, there}
 use Rattle.window.specs.Rows.{empty, rowOf, reportOf, reportsFrom, oldest, heldReports, grown, added}
 use Rattle.window.specs.declared.Window.{Window}
 use Rattle.window.proofs.Ring.{rows-differ}
-use Rattle.window.proofs.Fitness.{Counts, Whole, added-taken, is-sized, place, loss-there, shake-there}
+use Rattle.window.proofs.Fitness.{Ranges, Whole, added-taken, is-sized, place, loss-there, shake-there}
 
 -- of a smaller number
 abbrev pub Older : Held → Held → Type 0
@@ -26,9 +27,9 @@ module _ (w : Window) where
   length-reports m (suc n) = ap suc (length-reports (m + 1) n)
 
   -- as many as are held
-  pub length-held : length (heldReports w) ≡ w .held
+  pub length-held : length (heldReports w) ≡ w .counts .held
   unfolding heldReports
-  length-held = length-reports (oldest w) (w .held)
+  length-held = length-reports (oldest (w .counts)) (w .counts .held)
 
   reports-snoc : (m n : ℕ) → reportsFrom w m (suc n) ≡ reportsFrom w m n ++ (reportOf w (m + n) ∷ [])
   reports-snoc m zero = ap (λ j. reportOf w j ∷ []) (sym (add-zero m))
@@ -84,26 +85,26 @@ module _ (w : Window) where
           omega arith
 
 -- numbers between the first and the last held
-module _ (w : Window) (ranges : Counts w) where
-  pub held-in : (m : ℕ) → w .entered < m + w .held → m ≤ w .entered → reportOf w m ∈ heldReports w
+module _ (w : Window) (ranges : Ranges (w .counts)) where
+  pub held-in : (m : ℕ) → w .counts .entered < m + w .counts .held → m ≤ w .counts .entered → reportOf w m ∈ heldReports w
   unfolding heldReports
   held-in m late entered =
-      reports-in w (oldest w) (w .held) m (omega (arith, ranges .ring .were-entered)) (omega (arith, ranges .ring .were-entered))
+      reports-in w (oldest (w .counts)) (w .counts .held) m (omega (arith, ranges .ring .were-entered)) (omega (arith, ranges .ring .were-entered))
 
-  pub held-of : {x : Held} → x ∈ heldReports w → (m : ℕ) × (w .entered < m + w .held) × (m ≤ w .entered) × (x ≡ reportOf w m)
+  pub held-of : {x : Held} → x ∈ heldReports w → (m : ℕ) × (w .counts .entered < m + w .counts .held) × (m ≤ w .counts .entered) × (x ≡ reportOf w m)
   unfolding heldReports
   held-of {x} k =
-      let r = reports-of w (oldest w) (w .held) k in
-      let from : oldest w ≤ r .0 = r .1 in
-      let below : r .0 < oldest w + w .held = r .2 in
+      let r = reports-of w (oldest (w .counts)) (w .counts .held) k in
+      let from : oldest (w .counts) ≤ r .0 = r .1 in
+      let below : r .0 < oldest (w .counts) + w .counts .held = r .2 in
       (r .0, omega (arith, ranges .ring .were-entered), omega (arith, ranges .ring .were-entered), r .3)
 
   -- The held numbers are the latest ones: above `entered` less `held`, and up to `entered`.
-  pub held-latest : (x : Held) → x ∈ heldReports w → (w .entered < x .number + w .held) × (x .number ≤ w .entered)
+  pub held-latest : (x : Held) → x ∈ heldReports w → (w .counts .entered < x .number + w .counts .held) × (x .number ≤ w .counts .entered)
   held-latest x k =
       let r = held-of k in
-      let late : w .entered < r .0 + w .held = r .1 in
-      let entered : r .0 ≤ w .entered = r .2 in
+      let late : w .counts .entered < r .0 + w .counts .held = r .1 in
+      let entered : r .0 ≤ w .counts .entered = r .2 in
       let numbered : x .number ≡ r .0 = ap (λ (z : Held). z .number) (r .3) in
       (omega arith, omega arith)
 
@@ -114,9 +115,9 @@ module _ (w : Window) (ranges : Counts w) where
       r .3 ∙ ap (reportOf w) (sym (ap (λ (z : Held). z .number) (r .3)))
 
 -- The oldest stands first: the one that leaves a full window.
-pub oldest-first : (w : Window) → 1 ≤ w .held → heldReports w ≡ reportOf w (oldest w) ∷ drop 1 (heldReports w)
+pub oldest-first : (w : Window) → 1 ≤ w .counts .held → heldReports w ≡ reportOf w (oldest (w .counts)) ∷ drop 1 (heldReports w)
 unfolding heldReports
-oldest-first w some = first (oldest w) (w .held) some
+oldest-first w some = first (oldest (w .counts)) (w .counts .held) some
   where
     first : (m n : ℕ) → 1 ≤ n → reportsFrom w m n ≡ reportOf w m ∷ drop 1 (reportsFrom w m n)
     first m zero h = absurd (not-suc-le-zero h)
@@ -125,7 +126,7 @@ oldest-first w some = first (oldest w) (w .held) some
 -- The held reports are strictly rising in number, oldest first.
 pub held-rising : (w : Window) → Pairwise Older (heldReports w)
 unfolding heldReports
-held-rising w = reports-rising w (oldest w) (w .held)
+held-rising w = reports-rising w (oldest (w .counts)) (w .counts .held)
 
 -- No two have one number.
 pub held-distinct : (w : Window) → Pairwise (λ (q r : Held). q .number ≡ r .number → ⊥) (heldReports w)
@@ -142,53 +143,53 @@ empty-holds n = refl
 -- ---- a report more
 
 -- two windows with the same reports of a run's numbers
-reports-same : (v w : Window) (m n : ℕ) → ((j : ℕ) → m ≤ j → j < m + n → reportOf v j ≡ reportOf w j) → reportsFrom v m n ≡ reportsFrom w m n
-reports-same v w m zero h = refl
-reports-same v w m (suc n) h =
-    ap (λ r. r ∷ reportsFrom v (m + 1) n) (h m (omega arith) (omega arith))
-    ∙ ap (λ l. reportOf w m ∷ l) (reports-same v w (m + 1) n (λ j a b. h j (omega arith) (omega arith)))
+reports-same : (u w : Window) (m n : ℕ) → ((j : ℕ) → m ≤ j → j < m + n → reportOf u j ≡ reportOf w j) → reportsFrom u m n ≡ reportsFrom w m n
+reports-same u w m zero h = refl
+reports-same u w m (suc n) h =
+    ap (λ r. r ∷ reportsFrom u (m + 1) n) (h m (omega arith) (omega arith))
+    ∙ ap (λ l. reportOf w m ∷ l) (reports-same u w (m + 1) n (λ j a b. h j (omega arith) (omega arith)))
 
 -- The report that enters: the next in number.
-abbrev pub entering : Window → ℕ → ℕ → Held
-entering w loss shake = record { number = w .entered + 1; loss = loss; shake = shake }
+abbrev pub entering : Window → Values → Held
+entering w v = record { number = w .counts .entered + 1; values = v }
 
-module _ (w : Window) (loss shake : ℕ) (ranges : Counts w) (whole : Whole w) where
-  new-report : reportOf (grown w loss shake) (w .entered + 1) ≡ entering w loss shake
-  new-report = rw (loss-there w loss shake ranges whole, shake-there w loss shake ranges whole)
+module _ (w : Window) (v : Values) (ranges : Ranges (w .counts)) (whole : Whole w) where
+  new-report : reportOf (grown w v) (w .counts .entered + 1) ≡ entering w v
+  new-report = rw (loss-there w v ranges whole, shake-there w v ranges whole)
 
-  old-report : (m : ℕ) → 1 ≤ m → m ≤ w .entered → w .entered + 1 < m + w .size → reportOf (grown w loss shake) m ≡ reportOf w m
+  old-report : (m : ℕ) → 1 ≤ m → m ≤ w .counts .entered → w .counts .entered + 1 < m + w .counts .size → reportOf (grown w v) m ≡ reportOf w m
   old-report m first entered near =
-      let other = rows-differ (w .size) (ranges .ring .some) m (w .entered + 1) first (omega arith) near in
+      let other = rows-differ (w .counts .size) (ranges .ring .some) m (w .counts .entered + 1) first (omega arith) near in
       rw (
-        getD-set-other (w .losses) (place w loss shake ranges whole) (rowOf (w .size) m) loss 0 other,
-        getD-set-other (w .shakes) (place w loss shake ranges whole) (rowOf (w .size) m) shake 0 other,
+        getD-set-other (w .losses) (place w v ranges whole) (rowOf (w .counts .size) m) (v .loss) 0 other,
+        getD-set-other (w .shakes) (place w v ranges whole) (rowOf (w .counts .size) m) (v .shake) 0 other,
       )
 
   -- The held reports of a window with one report more: those that were held, without the oldest where N were, and then the new one.
-  pub held-added : w .entered < 1000000 → heldReports (added w loss shake) ≡ drop (w .held + 1 - w .size) (heldReports w) ++ (entering w loss shake ∷ [])
+  pub held-added : w .counts .entered < 1000000 → heldReports (added w v) ≡ drop (w .counts .held + 1 - w .counts .size) (heldReports w) ++ (entering w v ∷ [])
   unfolding heldReports
   held-added room =
-      ap heldReports (added-taken w loss shake (is-sized (w .size) (ranges .ring .some) (ranges .within)) room)
+      ap heldReports (added-taken w v (is-sized (w .counts .size) (ranges .ring .some) (ranges .within)) room)
       ∙ ap (λ n. reportsFrom g (e + 1 - n + 1) n) next
       ∙ ap (λ m. reportsFrom g m (suc n)) from
       ∙ reports-snoc g (e - n + 1) n
       ∙ ap (λ m. reportsFrom g (e - n + 1) n ++ (reportOf g m ∷ [])) last
       ∙ ap (λ r. reportsFrom g (e - n + 1) n ++ (r ∷ [])) new-report
-      ∙ ap (λ l. l ++ (entering w loss shake ∷ [])) (kept ∙ sym dropped)
+      ∙ ap (λ l. l ++ (entering w v ∷ [])) (kept ∙ sym dropped)
     where
       g : Window
-      g = grown w loss shake
+      g = grown w v
 
       e : ℕ
-      e = w .entered
+      e = w .counts .entered
 
       n : ℕ
-      n = min (w .size) (w .held + 1) - 1
+      n = min (w .counts .size) (w .counts .held + 1) - 1
 
-      next : min (w .size) (w .held + 1) ≡ suc n
+      next : min (w .counts .size) (w .counts .held + 1) ≡ suc n
       next = omega (arith, ranges .ring .some)
 
-      bound : (n ≤ e) × (n < w .size)
+      bound : (n ≤ e) × (n < w .counts .size)
       bound = (omega (arith, ranges .ring .some, ranges .ring .were-entered), omega (arith, ranges .ring .some))
 
       from : e + 1 - suc n + 1 ≡ e - n + 1
@@ -200,14 +201,14 @@ module _ (w : Window) (loss shake : ℕ) (ranges : Counts w) (whole : Whole w) w
       kept : reportsFrom g (e - n + 1) n ≡ reportsFrom w (e - n + 1) n
       kept = reports-same g w (e - n + 1) n (λ j a b. old-report j (omega arith) (omega (arith, bound)) (omega (arith, bound)))
 
-      gone : oldest w + (w .held + 1 - w .size) ≡ e - n + 1
+      gone : oldest (w .counts) + (w .counts .held + 1 - w .counts .size) ≡ e - n + 1
       gone = omega (arith, ranges .ring .some, ranges .ring .has-rows, ranges .ring .were-entered)
 
-      left : w .held - (w .held + 1 - w .size) ≡ n
+      left : w .counts .held - (w .counts .held + 1 - w .counts .size) ≡ n
       left = omega (arith, ranges .ring .some, ranges .ring .has-rows)
 
-      dropped : drop (w .held + 1 - w .size) (reportsFrom w (oldest w) (w .held)) ≡ reportsFrom w (e - n + 1) n
+      dropped : drop (w .counts .held + 1 - w .counts .size) (reportsFrom w (oldest (w .counts)) (w .counts .held)) ≡ reportsFrom w (e - n + 1) n
       dropped =
-          reports-drop w (w .held + 1 - w .size) (oldest w) (w .held)
-          ∙ ap (λ m. reportsFrom w m (w .held - (w .held + 1 - w .size))) gone
+          reports-drop w (w .counts .held + 1 - w .counts .size) (oldest (w .counts)) (w .counts .held)
+          ∙ ap (λ m. reportsFrom w m (w .counts .held - (w .counts .held + 1 - w .counts .size))) gone
           ∙ ap (reportsFrom w (e - n + 1)) left

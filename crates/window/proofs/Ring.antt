@@ -9,10 +9,14 @@ use borrow.Author.Tests.{lt-ltb, ltb-true, ltb-false, eqb-true, eqb-false}
 use lib.Dec.{ltb, eqb}
 use Rattle.laws.proofs.Tests.{Tested, passed, failed, tested, and-both}
 use Rattle.window.specs.Rows.{rowOf, age, due}
+use Rattle.window.specs.declared.Counts.{Counts}
 
 -- Two numbers that differ by a multiple of N lie in one row.
 turns : (N x y q : ℕ) → x ≡ y + N * q → x % N ≡ y % N
 turns N x y q e = ap (λ z. z % N) e ∙ add-mul-mod-self-left y N q
+
+abbrev pub counting : (N e h : ℕ) → Counts
+counting N e h = record { size = N; entered = e; held = h }
 
 module _ (N : ℕ) (some : 1 ≤ N) where
   -- the way back from y to the row of x is the way back to x
@@ -53,7 +57,7 @@ module _ (N : ℕ) (some : 1 ≤ N) where
       omega (arith, ap (age N m) same)
 
   -- the rows may be counted back from that of the latest report
-  pub due-from : (e h r last steps : ℕ) → r < N → last ≡ rowOf N (e + N) → steps ≡ (last + N - r) % N → due N e h r ≡ cond (ltb steps h) (e - steps) 0
+  pub due-from : (e h r last steps : ℕ) → r < N → last ≡ rowOf N (e + N) → steps ≡ (last + N - r) % N → due (counting N e h) r ≡ cond (ltb steps h) (e - steps) 0
   due-from e h r last steps in-ring at counted =
       let x = e + N - 1 in
       let whole = div-add-mod x N in
@@ -79,23 +83,23 @@ pub record Kept (N e h r m : ℕ) : Type 0 where
 
 module _ {N e h : ℕ} (ring : Ring N e h) where
   -- the row of a held number must hold it
-  pub due-held : (m : ℕ) → e < m + h → m ≤ e → due N e h (rowOf N m) ≡ m
+  pub due-held : (m : ℕ) → e < m + h → m ≤ e → due (counting N e h) (rowOf N m) ≡ m
   due-held m late entered =
       let old : age N e (rowOf N m) ≡ e - m = age-of-row N (ring .some) e m (omega arith) entered (omega arith) in
       let young : age N e (rowOf N m) < h = omega arith in
       rw (lt-ltb _ _ (mod-lt (m - 1) (ring .some)), lt-ltb _ _ young) (omega arith)
 
   -- and where a row must hold a number, it is a held one whose row it is
-  pub due-kept : (r : ℕ) → (due N e h r ≡ 0 → ⊥) → Kept N e h r (due N e h r)
+  pub due-kept : (r : ℕ) → (due (counting N e h) r ≡ 0 → ⊥) → Kept N e h r (due (counting N e h) r)
   due-kept r given = go (tested (ltb r N && ltb (age N e r) h))
     where
-      go : Tested (ltb r N && ltb (age N e r) h) → Kept N e h r (due N e h r)
+      go : Tested (ltb r N && ltb (age N e r) h) → Kept N e h r (due (counting N e h) r)
       go (failed f) = absurd (given (rw f))
       go (passed t) =
           let both = and-both (ltb r N) (ltb (age N e r) h) t in
           let in-ring = ltb-true r N (both .0) in
           let young = ltb-true (age N e r) h (both .1) in
-          let is : due N e h r ≡ e - age N e r = rw t in
+          let is : due (counting N e h) r ≡ e - age N e r = rw t in
           record {
             in-ring = in-ring;
             late = omega arith;
@@ -109,7 +113,7 @@ module _ {N e h : ℕ} (ring : Ring N e h) where
   next-ring = record { some = ring .some; has-rows = omega arith; were-entered = omega arith }
 
   -- the new number's row
-  pub due-new : due N (e + 1) (min N (h + 1)) (rowOf N (e + 1)) ≡ e + 1
+  pub due-new : due (counting N (e + 1) (min N (h + 1))) (rowOf N (e + 1)) ≡ e + 1
   due-new = due-held next-ring (e + 1) (omega arith) (omega arith)
 
   module _ (r : ℕ) (other : r ≡ rowOf N (e + 1) → ⊥) where
@@ -125,22 +129,22 @@ module _ {N e h : ℕ} (ring : Ring N e h) where
         go (failed f) =
             absurd (other (sym own ∙ sym (add-mod-right (m - 1) N) ∙ ap (λ n. n % N) (sym (oldest (ltb-false _ _ f)))))
 
-    stays : Kept N e h r (due N e h r) → due N (e + 1) (min N (h + 1)) r ≡ due N e h r
+    stays : Kept N e h r (due (counting N e h) r) → due (counting N (e + 1) (min N (h + 1))) r ≡ due (counting N e h) r
     stays k =
-        ap (due N (e + 1) (min N (h + 1))) (sym (k .its-row))
-        ∙ due-held next-ring (due N e h r) (still (due N e h r) (k .late) (k .entered) (k .its-row)) (omega arith)
+        ap (due (counting N (e + 1) (min N (h + 1)))) (sym (k .its-row))
+        ∙ due-held next-ring (due (counting N e h) r) (still (due (counting N e h) r) (k .late) (k .entered) (k .its-row)) (omega arith)
 
-    was : (m : ℕ) → Kept N (e + 1) (min N (h + 1)) r m → m ≡ due N e h r
-    was m k = sym (ap (due N e h) (sym (k .its-row)) ∙ due-held ring m (omega arith) (before (tested (eqb m (e + 1)))))
+    was : (m : ℕ) → Kept N (e + 1) (min N (h + 1)) r m → m ≡ due (counting N e h) r
+    was m k = sym (ap (due (counting N e h)) (sym (k .its-row)) ∙ due-held ring m (omega arith) (before (tested (eqb m (e + 1)))))
       where
         before : Tested (eqb m (e + 1)) → m ≤ e
         before (passed t) = absurd (other (sym (k .its-row) ∙ ap (rowOf N) (eqb-true m (e + 1) t)))
         before (failed f) = let new = eqb-false m (e + 1) f in omega (arith, k .entered)
 
-    pub due-later : due N (e + 1) (min N (h + 1)) r ≡ due N e h r
-    due-later = go (tested (eqb (due N e h r) 0)) (tested (eqb (due N (e + 1) (min N (h + 1)) r) 0))
+    pub due-later : due (counting N (e + 1) (min N (h + 1))) r ≡ due (counting N e h) r
+    due-later = go (tested (eqb (due (counting N e h) r) 0)) (tested (eqb (due (counting N (e + 1) (min N (h + 1))) r) 0))
       where
-        go : Tested (eqb (due N e h r) 0) → Tested (eqb (due N (e + 1) (min N (h + 1)) r) 0) → due N (e + 1) (min N (h + 1)) r ≡ due N e h r
+        go : Tested (eqb (due (counting N e h) r) 0) → Tested (eqb (due (counting N (e + 1) (min N (h + 1))) r) 0) → due (counting N (e + 1) (min N (h + 1))) r ≡ due (counting N e h) r
         go (failed f) t = stays (due-kept ring r (eqb-false _ _ f))
-        go (passed t) (failed f) = was (due N (e + 1) (min N (h + 1)) r) (due-kept next-ring r (eqb-false _ _ f))
+        go (passed t) (failed f) = was (due (counting N (e + 1) (min N (h + 1))) r) (due-kept next-ring r (eqb-false _ _ f))
         go (passed t) (passed u) = eqb-true _ _ u ∙ sym (eqb-true _ _ t)

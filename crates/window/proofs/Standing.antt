@@ -3,26 +3,25 @@
 use mathlib.Core.Path.{_≡_, sym, ap, _∙_, subst}
 use mathlib.Core.Logic.{_⊎_, inl, inr, ⊎-elim}
 use mathlib.Core.Bool.{true, false}
-use mathlib.Core.List.{List, map, List·Memᴰ·head, List·Memᴰ·not-nil, List·Memᴰ·cases-cons, Memᴰ·map, Memᴰ·of-map}
-use Prim.Native.Nat.{ℕ, zero, suc, _+_, _-_, _%_, _≤_, _<_}
+use mathlib.Core.List.{List·Memᴰ·head, List·Memᴰ·not-nil, List·Memᴰ·cases-cons}
+use Prim.Native.Nat.{ℕ, zero, suc, _+_, _-_, _≤_, _<_}
 use native.Mathlib.Nat.{add-zero, add-suc, mod-lt, not-suc-le-zero, le-of-suc-le-suc}
 use native.Mathlib.Omega.{arith}
 use borrow.Author.Tests.{eq-eqb, eqb-true, eqb-false, le-ltb}
 use lib.Dec.{eqb, ltb}
 use lib.ListN.{getD}
 use Rattle.laws.specs.Lists.{_∈_}
-use Rattle.search.specs.Best.{best}
-use Rattle.ranking.specs.Standing.{Held, Entry, above, entry, Permitted}
-use Rattle.ranking.specs.declared.Weights.{Weights}
+use Rattle.values.proofs.Facts.{low-same}
+use Rattle.ranking.specs.Standing.{Held, top, Permitted}
+use Rattle.ranking.specs.declared.Rule.{Rule}
 use Rattle.laws.proofs.Tests.{Tested, passed, failed, tested}
 use Rattle.laws.proofs.Lists.{Same, lt-or-eq, moved, there}
-use Rattle.search.proofs.Best.{best-same}
 use Rattle.search.proofs.Search.{All}
-use Rattle.ranking.proofs.Standing.{above-strict}
-use Rattle.window.specs.Rows.{rowOf, reportOf, heldReports, due, fitWindow, reportIn, standing}
+use Rattle.ranking.proofs.Entries.{top-same}
+use Rattle.window.specs.Rows.{rowOf, valuesIn, reportOf, heldReports, due, fitWindow, reportIn, standing}
 use Rattle.window.specs.declared.Window.{Window}
 use Rattle.window.proofs.Ring.{due-held, due-kept, Kept}
-use Rattle.window.proofs.Fitness.{Counts, Fit, fit-facts, Held-in, row-holds}
+use Rattle.window.proofs.Fitness.{Ranges, Fit, fit-facts, Held-in, row-holds}
 use Rattle.window.proofs.Reports.{held-in, held-of}
 
 -- what stands in the rows of any window
@@ -66,63 +65,58 @@ module _ (w : Window) (fit : fitWindow w ≡ true) where
   facts : Fit w
   facts = fit-facts w fit
 
-  ranges : Counts w
+  ranges : Ranges (w .counts)
   ranges = facts .ranges
 
-  row : (r : ℕ) → r < 1024 → Held-in (due (w .size) (w .entered) (w .held) r) (getD (w .numbers) r 0) (getD (w .losses) r 0) (getD (w .shakes) r 0)
-  row r below = row-holds _ _ _ _ (facts .rows r below)
+  row : (r : ℕ) → r < 1024 → Held-in (due (w .counts) r) (getD (w .numbers) r 0) (valuesIn w r)
+  row r below = row-holds _ _ _ (facts .rows r below)
 
-  in-ring : (m : ℕ) → rowOf (w .size) m < 1024
+  in-ring : (m : ℕ) → rowOf (w .counts .size) m < 1024
   in-ring m = omega (arith, mod-lt (m - 1) (ranges .ring .some), ranges .within)
 
   -- From row N on a fit window holds nothing.
-  pub standing-size : standing w (w .size) ≡ standing w 1024
-  standing-size = standing-end w (w .size) (1024 - w .size) (λ r h l. empty r h (all r l)) ∙ ap (standing w) whole-ring
+  pub standing-size : standing w (w .counts .size) ≡ standing w 1024
+  standing-size = standing-end w (w .counts .size) (1024 - w .counts .size) (λ r h l. empty r h (all r l)) ∙ ap (standing w) whole-ring
     where
-      whole-ring : w .size + (1024 - w .size) ≡ 1024
+      whole-ring : w .counts .size + (1024 - w .counts .size) ≡ 1024
       whole-ring = omega (arith, ranges .within)
 
-      all : (r : ℕ) → r < w .size + (1024 - w .size) → r < 1024
+      all : (r : ℕ) → r < w .counts .size + (1024 - w .counts .size) → r < 1024
       all r l = omega (arith, ranges .within)
 
-      empty : (r : ℕ) → w .size ≤ r → r < 1024 → getD (w .numbers) r 0 ≡ 0
+      empty : (r : ℕ) → w .counts .size ≤ r → r < 1024 → getD (w .numbers) r 0 ≡ 0
       empty r h l =
-          let past : ltb r (w .size) ≡ false = le-ltb r (w .size) h in
+          let past : ltb r (w .counts .size) ≡ false = le-ltb r (w .counts .size) h in
           row r l .as-due ∙ rw (past, due)
 
   -- the values that stand in a row are whole
-  whole : (r : ℕ) → r < 1024 → reportIn w r ≡ record { number = getD (w .numbers) r 0; loss = getD (w .losses) r 0; shake = getD (w .shakes) r 0 }
-  whole r below =
-      let h = row r below in
-      rw (low (getD (w .losses) r 0) (h .loss-fits), low (getD (w .shakes) r 0) (h .shake-fits))
-    where
-      low : (n : ℕ) → n ≤ 4095 → n % 4096 ≡ n
-      low n l = omega arith
+  whole : (r : ℕ) → r < 1024 → reportIn w r ≡ record { number = getD (w .numbers) r 0; values = valuesIn w r }
+  whole r below = ap (λ v. record { number = getD (w .numbers) r 0; values = v }) (low-same (valuesIn w r) (row r below .permitted))
 
   -- Every held report has permitted values.
   pub held-permitted : All Permitted (heldReports w)
   held-permitted x k =
       let r = held-of w ranges k in
-      let h = row (rowOf (w .size) (r .0)) (in-ring (r .0)) in
-      subst Permitted (sym (r .3)) (record { loss-fits = h .loss-fits; shake-fits = h .shake-fits })
+      let h = row (rowOf (w .counts .size) (r .0)) (in-ring (r .0)) in
+      subst Permitted (sym (r .3)) (h .permitted)
 
   -- A number is held exactly where its row has it.
-  pub number-there : (m : ℕ) → w .entered < m + w .held → m ≤ w .entered → getD (w .numbers) (rowOf (w .size) m) 0 ≡ m
+  pub number-there : (m : ℕ) → w .counts .entered < m + w .counts .held → m ≤ w .counts .entered → getD (w .numbers) (rowOf (w .counts .size) m) 0 ≡ m
   number-there m late entered =
-      row (rowOf (w .size) m) (in-ring m) .as-due
+      row (rowOf (w .counts .size) m) (in-ring m) .as-due
       ∙ due-held (ranges .ring) m late entered
 
-  pub there-held : (m : ℕ) → 1 ≤ m → getD (w .numbers) (rowOf (w .size) m) 0 ≡ m → (w .entered < m + w .held) × (m ≤ w .entered)
+  pub there-held : (m : ℕ) → 1 ≤ m → getD (w .numbers) (rowOf (w .counts .size) m) 0 ≡ m → (w .counts .entered < m + w .counts .held) × (m ≤ w .counts .entered)
   there-held m first there =
-      let is : due (w .size) (w .entered) (w .held) (rowOf (w .size) m) ≡ m = sym (row (rowOf (w .size) m) (in-ring m) .as-due) ∙ there in
-      let k = due-kept (ranges .ring) (rowOf (w .size) m) (λ e. omega (arith, is)) in
-      subst (λ n. (w .entered < n + w .held) × (n ≤ w .entered)) is (k .late, k .entered)
+      let is : due (w .counts) (rowOf (w .counts .size) m) ≡ m = sym (row (rowOf (w .counts .size) m) (in-ring m) .as-due) ∙ there in
+      let k = due-kept (ranges .ring) (rowOf (w .counts .size) m) (λ e. omega (arith, is)) in
+      subst (λ n. (w .counts .entered < n + w .counts .held) × (n ≤ w .counts .entered)) is (k .late, k .entered)
 
-  stands : (m : ℕ) → w .entered < m + w .held → m ≤ w .entered → reportOf w m ∈ standing w 1024
+  stands : (m : ℕ) → w .counts .entered < m + w .counts .held → m ≤ w .counts .entered → reportOf w m ∈ standing w 1024
   stands m late entered = moved (whole r (in-ring m) ∙ rw number) (standing-in w 1024 r (in-ring m) used)
     where
       r : ℕ
-      r = rowOf (w .size) m
+      r = rowOf (w .counts .size) m
 
       number : getD (w .numbers) r 0 ≡ m
       number = number-there m late entered
@@ -134,12 +128,12 @@ module _ (w : Window) (fit : fitWindow w ≡ true) where
   held-there r below used = moved (sym same) (held-in w ranges m (k .late) (k .entered))
     where
       m : ℕ
-      m = due (w .size) (w .entered) (w .held) r
+      m = due (w .counts) r
 
       number : getD (w .numbers) r 0 ≡ m
       number = row r below .as-due
 
-      k : Kept (w .size) (w .entered) (w .held) r m
+      k : Kept (w .counts .size) (w .counts .entered) (w .counts .held) r m
       k = due-kept (ranges .ring) r (λ e. used (number ∙ e))
 
       same : reportIn w r ≡ reportOf w m
@@ -153,14 +147,5 @@ module _ (w : Window) (fit : fitWindow w ≡ true) where
   )
 
   -- So the best k of either is the same.
-  pub best-standing : (q : Weights) (k : ℕ) → best above k (map (entry q) (standing w 1024)) ≡ best above k (map (entry q) (heldReports w))
-  best-standing q k =
-      best-same above above-strict k (map (entry q) (standing w 1024)) (map (entry q) (heldReports w)) (
-        mapped (standing w 1024) (heldReports w) (standing-held .0),
-        mapped (heldReports w) (standing w 1024) (standing-held .1),
-      )
-    where
-      mapped : (xs ys : List Held) → ((x : Held) → x ∈ xs → x ∈ ys) → (e : Entry) → e ∈ map (entry q) xs → e ∈ map (entry q) ys
-      mapped xs ys h e k =
-          let r = Memᴰ·of-map (entry q) xs k in
-          moved (r .2) (Memᴰ·map (entry q) (h (r .0) (r .1)))
+  pub top-standing : (rule : Rule) (k : ℕ) → top rule k (standing w 1024) ≡ top rule k (heldReports w)
+  top-standing rule k = top-same rule k (standing w 1024) (heldReports w) standing-held

@@ -2,19 +2,15 @@
 use Prim.Native.Nat.{ℕ, _+_, _-_}
 use mathlib.Core.List.{List, [], _∷_}
 use lib.ListN.{length, drop}
+use Rattle.values.specs.declared.Values.{Values}
 use Rattle.ranking.specs.Standing.{Held}
 use Rattle.window.specs.Rows.{added}
 use Rattle.window.specs.declared.Window.{Window}
 
--- What a report brings.
-pub record Values : Type 0 where
-  pub loss : ℕ
-  pub shake : ℕ
-
 -- "Reports are numbered 1, 2, 3 in the order they enter": here from n on.
 abbrev pub numbered : ℕ → List Values → List Held
 numbered n [] = []
-numbered n (v ∷ vs) = record { number = n; loss = v .loss; shake = v .shake } ∷ numbered (n + 1) vs
+numbered n (v ∷ vs) = record { number = n; values = v } ∷ numbered (n + 1) vs
 
 -- The last min(n, length) of a list.
 abbrev pub latest : {A : Type 0} → ℕ → List A → List A
@@ -23,4 +19,4 @@ latest n l = drop (length l - n) l
 -- The window after all of them entered, in their order.
 abbrev pub after : Window → List Values → Window
 after w [] = w
-after w (v ∷ vs) = after (added w (v .loss) (v .shake)) vs
+after w (v ∷ vs) = after (added w v) vs

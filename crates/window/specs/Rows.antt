@@ -4,31 +4,53 @@ use mathlib.Core.Bool.{Bool, true, cond, _&&_}
 use mathlib.Core.List.{List, [], _∷_}
 use lib.ListN.{getD, set, replicate}
 use lib.Dec.{leb, ltb, eqb}
+use Rattle.values.specs.declared.Values.{Values}
+use Rattle.values.specs.Range.{inRange, low}
 use Rattle.ranking.specs.Standing.{Held}
+use Rattle.window.specs.declared.Counts.{Counts}
 use Rattle.window.specs.declared.Window.{Window}
 use Rattle.window.specs.declared.Fresh.{Fresh}
 use Rattle.window.specs.declared.Place.{Place}
 
+-- The rows of each array: the largest N.
+abbrev pub rowCount : ℕ
+rowCount = 1024
+
+-- "at most 1,000,000" reports are entered.
+abbrev pub reportLimit : ℕ
+reportLimit = 1000000
+
 -- "A window has a size N, 1 to 1,024."
 abbrev pub sized : ℕ → Bool
-sized size = leb 1 size && leb size 1024
+sized size = leb 1 size && leb size rowCount
 
 -- A window of that size with nothing entered: every row is 0.
 abbrev pub empty : ℕ → Window
 empty size =
-    record { losses = replicate 1024 0; shakes = replicate 1024 0; numbers = replicate 1024 0; size = size; entered = 0; held = 0 }
+    record {
+      losses = replicate rowCount 0;
+      shakes = replicate rowCount 0;
+      numbers = replicate rowCount 0;
+      counts = record { size = size; entered = 0; held = 0 };
+    }
 
 -- "18: N out of range: no window"; "a refusal answers its number, every other field 0".
 unfoldable pub freshWindow : ℕ → Fresh
 freshWindow size = cond (sized size) (record { refusal = 0; window = empty size }) (record { refusal = 18; window = empty 0 })
 
+-- ---- what a window holds
+
 -- Report m lies in row (m - 1) mod N.
 abbrev pub rowOf : ℕ → ℕ → ℕ
 rowOf size m = (m - 1) % size
 
+-- The values in a row.
+abbrev pub valuesIn : Window → ℕ → Values
+valuesIn w row = record { loss = getD (w .losses) row 0; shake = getD (w .shakes) row 0 }
+
 -- The report of number m, as its row has it.
 abbrev pub reportOf : Window → ℕ → Held
-reportOf w m = record { number = m; loss = getD (w .losses) (rowOf (w .size) m) 0; shake = getD (w .shakes) (rowOf (w .size) m) 0 }
+reportOf w m = record { number = m; values = valuesIn w (rowOf (w .counts .size) m) }
 
 -- The `n` reports from number m on.
 abbrev pub reportsFrom : Window → ℕ → ℕ → List Held
@@ -36,70 +58,79 @@ reportsFrom w m zero = []
 reportsFrom w m (suc n) = reportOf w m ∷ reportsFrom w (m + 1) n
 
 -- The oldest number that is held: "the held numbers are the latest ones without a gap".
-abbrev pub oldest : Window → ℕ
-oldest w = w .entered - w .held + 1
+abbrev pub oldest : Counts → ℕ
+oldest c = c .entered - c .held + 1
 
 -- The held reports, oldest first.
 unfoldable pub heldReports : Window → List Held
-heldReports w = reportsFrom w (oldest w) (w .held)
+heldReports w = reportsFrom w (oldest (w .counts)) (w .counts .held)
+
+-- ---- fitness
 
 -- How many reports came after the latest one that lies in a row of the ring.
 abbrev pub age : (size entered row : ℕ) → ℕ
 age size entered row = (entered + size - 1 - row) % size
 
 -- The number that a row must hold: that of the latest report that lies there, if it is still held; 0 for none.
-abbrev pub due : (size entered held row : ℕ) → ℕ
-due size entered held row = cond (ltb row size && ltb (age size entered row) held) (entered - age size entered row) 0
+abbrev pub due : Counts → ℕ → ℕ
+due c row = cond (ltb row (c .size) && ltb (age (c .size) (c .entered) row) (c .held)) (c .entered - age (c .size) (c .entered) row) 0
 
--- A row holds the number that is due, with loss and shake 0 to 4095; a row that holds nothing is 0.
-abbrev pub holds : (due number loss shake : ℕ) → Bool
-holds due number loss shake =
-    eqb number due && cond (eqb due 0) (eqb loss 0 && eqb shake 0) (leb loss 4095 && leb shake 4095)
+-- A row that holds nothing is 0.
+abbrev pub noValues : Values → Bool
+noValues v = eqb (v .loss) 0 && eqb (v .shake) 0
+
+-- A row holds the number that is due, with permitted values.
+abbrev pub holds : (due number : ℕ) → Values → Bool
+holds due number v = eqb number due && cond (eqb due 0) (noValues v) (inRange v)
 
 -- A row of the window holds what is due there.
 abbrev pub rowFit : Window → ℕ → Bool
-rowFit w row =
-    holds (due (w .size) (w .entered) (w .held) row) (getD (w .numbers) row 0) (getD (w .losses) row 0) (getD (w .shakes) row 0)
+rowFit w row = holds (due (w .counts) row) (getD (w .numbers) row 0) (valuesIn w row)
 
 -- The first `n` rows are fit.
 unfoldable pub rowsFit : Window → ℕ → Bool
 rowsFit w zero = true
 rowsFit w (suc n) = rowsFit w n && rowFit w n
 
--- The three counts are in their ranges: N, "at most 1,000,000", and no more held than there are rows or were entered.
-abbrev pub countsFit : (size entered held : ℕ) → Bool
-countsFit size entered held = sized size && leb entered 1000000 && leb held size && leb held entered
+-- The counts are in their ranges: N, "at most 1,000,000", and no more held than there are rows or were entered.
+abbrev pub countsFit : Counts → Bool
+countsFit c = sized (c .size) && leb (c .entered) reportLimit && leb (c .held) (c .size) && leb (c .held) (c .entered)
 
 -- Fit: every stored number is in its range, and "the held numbers are the latest ones without a gap".
 unfoldable pub fitWindow : Window → Bool
-fitWindow w = countsFit (w .size) (w .entered) (w .held) && rowsFit w 1024
+fitWindow w = countsFit (w .counts) && rowsFit w rowCount
+
+-- ---- entering
+
+-- The counts with one report more.
+abbrev pub counted : Counts → Counts
+counted c = record { size = c .size; entered = c .entered + 1; held = min (c .size) (c .held + 1) }
 
 -- Where the next report goes: its row, and how many are held with it.
-unfoldable pub placeFor : (size entered held : ℕ) → Place
-placeFor size entered held = cond (sized size) (record { row = rowOf size (entered + 1); held = min size (held + 1) }) (record { row = 0; held = 0 })
+unfoldable pub placeFor : Counts → Place
+placeFor c = cond (sized (c .size)) (record { row = rowOf (c .size) (c .entered + 1); held = counted c .held }) (record { row = 0; held = 0 })
 
 -- The window with the next report in its row; where N are held, that row was the oldest's.
-abbrev pub grown : Window → ℕ → ℕ → Window
-grown w loss shake =
+abbrev pub grown : Window → Values → Window
+grown w v =
     record {
-      losses = set (w .losses) (rowOf (w .size) (w .entered + 1)) loss;
-      shakes = set (w .shakes) (rowOf (w .size) (w .entered + 1)) shake;
-      numbers = set (w .numbers) (rowOf (w .size) (w .entered + 1)) (w .entered + 1);
-      size = w .size;
-      entered = w .entered + 1;
-      held = min (w .size) (w .held + 1);
+      losses = set (w .losses) (rowOf (w .counts .size) (w .counts .entered + 1)) (v .loss);
+      shakes = set (w .shakes) (rowOf (w .counts .size) (w .counts .entered + 1)) (v .shake);
+      numbers = set (w .numbers) (rowOf (w .counts .size) (w .counts .entered + 1)) (w .counts .entered + 1);
+      counts = counted (w .counts);
     }
 
 -- The window with one report more, "at most 1,000,000"; one that can take none stays.
-unfoldable pub added : Window → ℕ → ℕ → Window
-added w loss shake = cond (sized (w .size) && ltb (w .entered) 1000000) (grown w loss shake) w
+unfoldable pub added : Window → Values → Window
+added w v = cond (sized (w .counts .size) && ltb (w .counts .entered) reportLimit) (grown w v) w
 
--- What stands in a row of any window: its number, and the low 12 bits of its loss and shake.
+-- ---- what stands in the rows of any window
+
+-- What stands in a row: its number, and the low 12 bits of its values.
 abbrev pub reportIn : Window → ℕ → Held
-reportIn w row =
-    record { number = getD (w .numbers) row 0; loss = getD (w .losses) row 0 % 4096; shake = getD (w .shakes) row 0 % 4096 }
+reportIn w row = record { number = getD (w .numbers) row 0; values = low (valuesIn w row) }
 
--- The reports that stand in the first `n` rows of any window, last row first: those of a number that isn't 0. Of a fit window they are the held ones.
+-- The reports that stand in the first `n` rows, last row first: those of a number that isn't 0. Of a fit window they are the held ones.
 abbrev pub standing : Window → ℕ → List Held
 standing w zero = []
 standing w (suc row) = cond (eqb (getD (w .numbers) row 0) 0) (standing w row) (reportIn w row ∷ standing w row)

@@ -2,18 +2,23 @@
 ghost use mathlib.Core.Path.{_≡_};
 ghost use mathlib.Core.Bool.{true};
 ghost use Prim.Native.Nat.{min, _+_, _-_, _%_, _<_, _≤_};
-ghost use Rattle.window.specs.Rows.{freshWindow, fitWindow, added, sized, empty, rowOf, placeFor, due, holds, rowsFit, countsFit};
-use ranking::Grid;
+ghost use Rattle.window.specs.Rows.{rowCount, reportLimit, freshWindow, fitWindow, added, sized, empty, rowOf, placeFor, due, holds, rowsFit, countsFit};
+use values::Values;
 
-// Report m lies in row (m - 1) mod `size`; `entered` is the last number, and the latest `held` of them are held. A row
-// that holds nothing is 0.
-pub struct Window {
-    pub losses: [u16; 1024],
-    pub shakes: [u16; 1024],
-    pub numbers: [u32; 1024],
+// How many rows are used, N; how many reports were entered, which is the last one's number; and how many of the latest are
+// held.
+pub struct Counts {
     pub size: u16,
     pub entered: u32,
     pub held: u16,
+}
+
+// Report m lies in row (m - 1) mod N. A row that holds nothing is 0.
+pub struct Window {
+    pub losses: [u16; Window::ROWS],
+    pub shakes: [u16; Window::ROWS],
+    pub numbers: [u32; Window::ROWS],
+    pub counts: Counts,
 }
 
 // A window, or the refusal's number and a window of zeros.
@@ -61,20 +66,21 @@ impl Window {
     pub fn fit(self) -> bool
         ensures { λ r. ⌜ r ≡ fitWindow self ⌝ }
     {
-        if counts_fit(self.size, self.entered, self.held) {
+        if counts_fit(self.counts) {
             return rows_fit(self);
         }
         false
     }
 
-    // Where the next report goes in a window of that size with that many entered and held; 0 where there is no such window.
-    pub fn place(size: u16, entered: u32, held: u16) -> Place
-        ensures { λ r. ⌜ r ≡ placeFor size entered held ⌝ }
+    // Where the next report goes in a window of these counts; 0 where there is no such window.
+    pub fn place(counts: Counts) -> Place
+        ensures { λ r. ⌜ r ≡ placeFor counts ⌝ }
     {
+        let size = counts.size;
         if sized(size) {
             return Place {
-                row: (entered % (size as u32)) as u16,
-                held: capped(held, size),
+                row: (counts.entered % (size as u32)) as u16,
+                held: capped(counts.held, size),
             };
         }
         Place { row: 0, held: 0 }
@@ -82,12 +88,13 @@ impl Window {
 
     // The window with one report more; where N are held, the oldest gives it its row. A window that can take none is
     // handed back.
-    pub fn with(self, loss: u16, shake: u16) -> Window
-        ensures { λ r. ⌜ r ≡ added self loss shake ⌝ }
+    pub fn with(self, values: Values) -> Window
+        ensures { λ r. ⌜ r ≡ added self values ⌝ }
     {
-        if sized(self.size) {
-            if self.entered < Window::REPORTS {
-                return entering(self, loss, shake);
+        let counts = self.counts;
+        if sized(counts.size) {
+            if counts.entered < Window::REPORTS {
+                return entering(self, values);
             }
         }
         self
@@ -105,40 +112,47 @@ fn sized(n: u16) -> bool
 fn empty(size: u16) -> Window
     ensures { λ r. ⌜ r ≡ empty size ⌝ }
 {
-    let losses = [0u16; 1024];
-    let shakes = [0u16; 1024];
-    let numbers = [0u32; 1024];
+    let losses = [0u16; Window::ROWS];
+    let shakes = [0u16; Window::ROWS];
+    let numbers = [0u32; Window::ROWS];
+    let counts = Counts {
+        size,
+        entered: 0,
+        held: 0,
+    };
     Window {
         losses,
         shakes,
         numbers,
-        size,
-        entered: 0,
-        held: 0,
+        counts,
     }
 }
 
 // The next report stored in its row.
-fn entering(w: Window, loss: u16, shake: u16) -> Window
-    requires { ⌜ (sized (w .size) ≡ true) × (w .entered < 1000000) ⌝ }
-    ensures { λ r. ⌜ r ≡ added w loss shake ⌝ }
+fn entering(w: Window, values: Values) -> Window
+    requires { ⌜ (sized (w .counts .size) ≡ true) × (w .counts .entered < reportLimit) ⌝ }
+    ensures { λ r. ⌜ r ≡ added w values ⌝ }
 {
-    let size = w.size;
-    let held = w.held;
-    let number = w.entered + 1;
+    let counts = w.counts;
+    let size = counts.size;
+    let number = counts.entered + 1;
     let row = row_of(size, number) as usize;
     let mut next = w;
-    next.losses[row] = loss;
-    next.shakes[row] = shake;
+    next.losses[row] = values.loss;
+    next.shakes[row] = values.shake;
     next.numbers[row] = number;
-    next.entered = number;
-    next.held = capped(held, size);
+    let later = Counts {
+        size,
+        entered: number,
+        held: capped(counts.held, size),
+    };
+    next.counts = later;
     next
 }
 
 // The row of a report's number.
 fn row_of(size: u16, number: u32) -> u16
-    requires { ⌜ (1 ≤ size) × (size ≤ 1024) × (1 ≤ number) ⌝ }
+    requires { ⌜ (1 ≤ size) × (size ≤ rowCount) × (1 ≤ number) ⌝ }
     ensures { λ r. ⌜ r ≡ rowOf size number ⌝ }
 {
     ((number - 1) % (size as u32)) as u16
@@ -151,10 +165,13 @@ fn capped(held: u16, size: u16) -> u16
     if held < size { held + 1 } else { size }
 }
 
-// The three counts are in their ranges.
-fn counts_fit(size: u16, entered: u32, held: u16) -> bool
-    ensures { λ r. ⌜ r ≡ countsFit size entered held ⌝ }
+// The counts are in their ranges.
+fn counts_fit(counts: Counts) -> bool
+    ensures { λ r. ⌜ r ≡ countsFit counts ⌝ }
 {
+    let size = counts.size;
+    let entered = counts.entered;
+    let held = counts.held;
     if sized(size) {
         if entered <= Window::REPORTS {
             if held <= size {
@@ -167,20 +184,22 @@ fn counts_fit(size: u16, entered: u32, held: u16) -> bool
 
 // Every row holds what is due.
 fn rows_fit(w: Window) -> bool
-    requires { ⌜ countsFit (w .size) (w .entered) (w .held) ≡ true ⌝ }
-    ensures { λ r. ⌜ r ≡ rowsFit w 1024 ⌝ }
+    requires { ⌜ countsFit (w .counts) ≡ true ⌝ }
+    ensures { λ r. ⌜ r ≡ rowsFit w rowCount ⌝ }
 {
     let losses = w.losses;
     let shakes = w.shakes;
     let numbers = w.numbers;
-    let size = w.size;
-    let entered = w.entered;
-    let held = w.held;
-    let last = row_of(size, entered + (size as u32));
+    let counts = w.counts;
+    let last = row_of(counts.size, counts.entered + (counts.size as u32));
     let mut row: usize = 0;
     while row < Window::ROWS {
-        let n = due(size, entered, held, last, row as u16);
-        if !holds(n, numbers[row], losses[row], shakes[row]) {
+        let n = due(counts, last, row as u16);
+        let values = Values {
+            loss: losses[row],
+            shake: shakes[row],
+        };
+        if !holds(n, numbers[row], values) {
             return false;
         }
         row += 1;
@@ -189,23 +208,27 @@ fn rows_fit(w: Window) -> bool
 }
 
 // The number that a row must hold, where `last` is the row of the latest report.
-fn due(size: u16, entered: u32, held: u16, last: u16, row: u16) -> u32
-    requires { ⌜ (1 ≤ size) × (size ≤ 1024) × (held ≤ entered) × (last ≡ rowOf size (entered + size)) ⌝ }
-    ensures { λ r. ⌜ r ≡ due size entered held row ⌝ }
+fn due(counts: Counts, last: u16, row: u16) -> u32
+    requires { ⌜
+        (1 ≤ counts .size) × (counts .size ≤ rowCount) × (counts .held ≤ counts .entered)
+        × (last ≡ rowOf (counts .size) (counts .entered + counts .size))
+        ⌝ }
+    ensures { λ r. ⌜ r ≡ due counts row ⌝ }
 {
+    let size = counts.size;
     if size <= row {
         return 0;
     }
     let behind = steps_back(size, last, row);
-    if behind < held {
-        return entered - (behind as u32);
+    if behind < counts.held {
+        return counts.entered - (behind as u32);
     }
     0
 }
 
 // How many rows the one lies behind the other, around the ring.
 fn steps_back(size: u16, last: u16, row: u16) -> u16
-    requires { ⌜ (last < size) × (row < size) × (size ≤ 1024) ⌝ }
+    requires { ⌜ (last < size) × (row < size) × (size ≤ rowCount) ⌝ }
     ensures { λ r. ⌜ r ≡ (last + size - row) % size ⌝ }
 {
     if row <= last {
@@ -216,14 +239,14 @@ fn steps_back(size: u16, last: u16, row: u16) -> u16
 }
 
 // A row holds the number that is due, with values in their range; a row that holds nothing is 0.
-fn holds(due: u32, number: u32, loss: u16, shake: u16) -> bool
-    ensures { λ r. ⌜ r ≡ holds due number loss shake ⌝ }
+fn holds(due: u32, number: u32, values: Values) -> bool
+    ensures { λ r. ⌜ r ≡ holds due number values ⌝ }
 {
     if number != due {
         return false;
     }
     if due == 0 {
-        return loss == 0 && shake == 0;
+        return values.loss == 0 && values.shake == 0;
     }
-    loss < Grid::VALUES && shake < Grid::VALUES
+    values.in_range()
 }

@@ -6,8 +6,10 @@ use borrow.Author.Tests.{not-true, not-false}
 use borrow.Author.Needs.{needs}
 use Rattle.ranking.specs.Standing.{entry}
 use Rattle.window.specs.Rows.{rowOf, reportIn}
-use Rattle.question.specs.Calls.{equal, heldAs}
-use Rattle.question.proofs.Fitness.{Holds, holds, row-within, equal-bits}
+use Rattle.list.specs.Lines.{equal}
+use Rattle.list.proofs.Walking.{equal-bits}
+use Rattle.question.specs.Calls.{heldAs}
+use Rattle.question.proofs.Fitness.{Holds, holds, row-within}
 use Rattle.question.proofs.held_as.Statement.{statement}
 use Rattle.question.proofs.held_as.Tie as tie
 

@@ -1,9 +1,9 @@
 -- The question takes the report, or stays.
 -- Assumes nothing.
 use mathlib.Core.Path.{sym, ap, _∙_}
-use Prim.Native.Nat.{_%_}
 use mir.Syntax.{w32}
 use Rattle.laws.proofs.Words.{kept}
+use Rattle.values.specs.Range.{low}
 use Rattle.ranking.specs.Standing.{Held}
 use Rattle.question.specs.Lines.{withEntry, cutToK}
 use Rattle.slot.proofs.Listing.{listed-taking, listed-not}
@@ -24,7 +24,7 @@ returns : tie.Need-returns
 returns c =
     let at = c .before .before in
     let a = at .before .before .args in
-    let h : Held = record { number = a .number; loss = a .loss % 4096; shake = a .shake % 4096 } in
+    let h : Held = record { number = a .number; values = low (a .values) } in
     let score = c .before .score in
     let scored = kept w32 (score .result) (score .ok) ∙ score .ensures in
     c .joined .ensures
@@ -34,7 +34,7 @@ returns c =
 returns-2 : tie.Need-returns-2
 returns-2 c =
     let a = c .before .before .args in
-    let h : Held = record { number = a .number; loss = a .loss % 4096; shake = a .shake % 4096 } in
+    let h : Held = record { number = a .number; values = low (a .values) } in
     sym (listed-not (a .question) h (sym (c .before .takes .ensures) ∙ c .if1 .left))
 
 pub listed-spec : {M : Type 1} → statement M

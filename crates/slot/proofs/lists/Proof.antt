@@ -6,7 +6,7 @@ use Prim.Native.Nat.{_-_, _≤_}
 use native.Mathlib.Omega.{arith}
 use lib.Dec.{ltb}
 use lib.ListN.{take, drop}
-use Rattle.question.specs.Calls.{allOf}
+use Rattle.list.specs.Lines.{allOf}
 use Rattle.question.proofs.Stored.{roomy}
 use Rattle.slot.proofs.Listing.{lists-numbers, gone-here, gone-later, gone-nowhere}
 use borrow.Author.Needs.{needs}

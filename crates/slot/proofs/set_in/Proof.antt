@@ -1,7 +1,8 @@
 -- The question searched from its beginning, or the refusal.
 -- Assumes nothing.
 use mathlib.Core.Path.{sym, ap, _∙_}
-use Rattle.question.specs.Lines.{searchedFirst, rowsOf}
+use Rattle.list.specs.Rows.{rowsOf}
+use Rattle.question.specs.Lines.{searchedFirst}
 use Rattle.question.specs.declared.Searched.{Searched}
 use Rattle.slot.specs.Asking.{setIn}
 use Rattle.slot.proofs.Refusals.{zero-is, zero-not}
@@ -35,7 +36,7 @@ returns-2 c =
     let made = c .before .before .fresh .ensures in
     let found =
     c .before .searched-in .ensures
-    ∙ ap (λ q. searchedFirst (record { k = a .k; weights = a .weights; numbers = q .numbers; scores = q .scores; len = q .len; next = q .next }) rows 1024) made
+    ∙ ap (λ q. searchedFirst (record { k = a .k; rule = a .rule; numbers = q .numbers; scores = q .scores; len = q .len; next = q .next }) rows 1024) made
     ∙ first-among _ rows 1024 in
     ap (λ (f : Searched). record { refusal = 0; steps = f .steps; question = f .question }) found
     ∙ sym (zero-is _ _ (sym (at .before .ask-refusal .ensures) ∙ at .if1 .left))

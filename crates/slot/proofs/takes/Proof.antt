@@ -1,11 +1,11 @@
 -- The two tests are those of the definition, the cheaper one first.
 -- Assumes nothing.
 use mathlib.Core.Path.{sym, ap, _∙_}
-use Prim.Native.Nat.{_%_}
 use mir.Syntax.{w32}
 use Rattle.laws.proofs.Words.{kept}
+use Rattle.values.specs.Range.{low}
 use Rattle.question.specs.Lines.{isMarked}
-use Rattle.slot.specs.Turn.{hasPlace}
+use Rattle.slot.specs.Turn.{placeOn}
 use Rattle.slot.proofs.Listing.{takes-both, takes-no-place}
 use borrow.Author.Needs.{needs}
 use Rattle.slot.proofs.takes.Statement.{statement}
@@ -30,7 +30,7 @@ returns c =
     let score = at .before .score in
     let scored = kept w32 (score .result) (score .ok) ∙ score .ensures in
     c .marked .ensures ∙ ap (isMarked (a .question)) (c .before .cell .ensures)
-    ∙ takes-both (a .question) (a .loss % 4096) (a .shake % 4096) (ap (hasPlace (a .question)) (sym scored) ∙ sym (at .has-place .ensures) ∙ c .before .before .if1 .taken)
+    ∙ takes-both (a .question) (low (a .values)) (ap (placeOn (a .question)) (sym scored) ∙ sym (at .has-place .ensures) ∙ c .before .before .if1 .taken)
 
 returns-2 : tie.Need-returns-2
 returns-2 c =
@@ -38,7 +38,7 @@ returns-2 c =
     let a = at .before .before .args in
     let score = at .before .score in
     let scored = kept w32 (score .result) (score .ok) ∙ score .ensures in
-    sym (takes-no-place (a .question) (a .loss % 4096) (a .shake % 4096) (ap (hasPlace (a .question)) (sym scored) ∙ sym (at .has-place .ensures) ∙ c .if1 .left))
+    sym (takes-no-place (a .question) (low (a .values)) (ap (placeOn (a .question)) (sym scored) ∙ sym (at .has-place .ensures) ∙ c .if1 .left))
 
 pub takes-spec : {M : Type 1} → statement M
 takes-spec =

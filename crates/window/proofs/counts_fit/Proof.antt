@@ -9,6 +9,9 @@ use Rattle.window.proofs.counts_fit.Tie as tie
 sized-requires : tie.Need-sized-requires
 sized-requires c κs = search needs
 
+cast-result : tie.Need-cast-result
+cast-result c = search needs
+
 returns : tie.Need-returns
 returns c = rw (sym (c .before .before .before .sized .ensures) ∙ c .before .before .if1 .taken, le-leb _ _ (c .before .if2 .taken), le-leb _ _ (c .if3 .taken))
 
@@ -22,4 +25,4 @@ returns-4 : tie.Need-returns-4
 returns-4 c = rw (sym (c .before .sized .ensures) ∙ c .if1 .left)
 
 pub counts-fit-spec : {M : Type 1} → statement M
-counts-fit-spec = tie.close (tie.spec sized-requires returns returns-2 returns-3 returns-4)
+counts-fit-spec = tie.close (tie.spec sized-requires cast-result returns returns-2 returns-3 returns-4)

@@ -15,7 +15,7 @@ add-number : tie.Need-add-number
 add-number c = search needs
 
 row-of-requires : tie.Need-row-of-requires
-row-of-requires c κs = let size = size-range (c .before .args .w .size) (c .before .pre .0) in omega arith
+row-of-requires c κs = let start = c .before .before in let size = size-range (start .args .w .counts .size) (start .pre .0) in omega arith
 
 cast-row : tie.Need-cast-row
 cast-row c = search needs
@@ -25,9 +25,9 @@ mul-next c = search needs
 
 element-write-next : tie.Need-element-write-next
 element-write-next c =
-    let start = c .before .before in
-    let size = size-range (start .args .w .size) (start .pre .0) in
-    omega (arith, mod-lt (start .args .w .entered + 1 - 1) (size .0))
+    let start = c .before .before .before in
+    let size = size-range (start .args .w .counts .size) (start .pre .0) in
+    omega (arith, mod-lt (start .args .w .counts .entered + 1 - 1) (size .0))
 
 mul-next-2 : tie.Need-mul-next-2
 mul-next-2 c = search needs
@@ -47,7 +47,7 @@ capped-requires c κs = search needs
 returns : tie.Need-returns
 unfolding added
 returns c =
-    let start = c .before .before .before in
+    let start = c .before .before .before .before in
     let takes = and-true (start .pre .0) (lt-ltb _ _ (start .pre .1)) in
     rw (takes, c .before .row-of .ensures, c .capped .ensures)
 

@@ -7,33 +7,33 @@ use native.Mathlib.Omega.{arith}
 use native.Mathlib.Numerals.{add-one}
 use borrow.Author.Tests.{not-true, not-false}
 use lib.ListN.{getD}
-use Rattle.window.specs.Rows.{due, holds, rowFit, rowsFit}
+use Rattle.window.specs.Rows.{valuesIn, due, holds, rowFit, rowsFit}
 use Rattle.window.specs.declared.Window.{Window}
 use Rattle.laws.proofs.Tests.{and-true}
-use Rattle.window.proofs.Fitness.{counts, unfit-row}
+use Rattle.window.proofs.Fitness.{ranges-of, unfit-row}
 use Rattle.window.proofs.rows_fit.Statement.{statement}
 use Rattle.window.proofs.rows_fit.Tie as tie
 
 -- what the two calls of a turn say of the row
-judged : (w : Window) (row n : ℕ) {b : Bool} → b ≡ holds n (getD (w .numbers) row 0) (getD (w .losses) row 0) (getD (w .shakes) row 0) → n ≡ due (w .size) (w .entered) (w .held) row → rowFit w row ≡ b
-judged w row n p q = sym (p ∙ ap (λ m. holds m (getD (w .numbers) row 0) (getD (w .losses) row 0) (getD (w .shakes) row 0)) q)
+judged : (w : Window) (row n : ℕ) {b : Bool} → b ≡ holds n (getD (w .numbers) row 0) (valuesIn w row) → n ≡ due (w .counts) row → rowFit w row ≡ b
+judged w row n p q = sym (p ∙ ap (λ m. holds m (getD (w .numbers) row 0) (valuesIn w row)) q)
 
 abbrev Inv-loop : tie.InvT-loop
-Inv-loop losses shakes numbers size entered held last row₀ row =
+Inv-loop losses shakes numbers counts last row₀ row =
     (row ≤ 1024)
-    × (rowsFit (record { losses = losses; shakes = shakes; numbers = numbers; size = size; entered = entered; held = held }) row ≡ true)
+    × (rowsFit (record { losses = losses; shakes = shakes; numbers = numbers; counts = counts }) row ≡ true)
 
 abbrev μ-loop : tie.MeasureT-loop
-μ-loop losses shakes numbers size entered held last row₀ row = 1024 - row
+μ-loop losses shakes numbers counts last row₀ row = 1024 - row
 
 cast-row-of : tie.Need-cast-row-of Inv-loop μ-loop
-cast-row-of c = let k = counts (c .before .before .before .args .w) (c .before .before .before .pre) in omega arith
+cast-row-of c = let start = c .before .before .before .before .before in let k = ranges-of (start .args .w .counts) (start .pre) in omega arith
 
 add-row-of : tie.Need-add-row-of Inv-loop μ-loop
-add-row-of c = let k = counts (c .before .before .before .args .w) (c .before .before .before .pre) in omega arith
+add-row-of c = let start = c .before .before .before .before .before .before in let k = ranges-of (start .args .w .counts) (start .pre) in omega arith
 
 row-of-requires : tie.Need-row-of-requires Inv-loop μ-loop
-row-of-requires c κs = let k = counts (c .before .before .before .args .w) (c .before .before .before .pre) in omega arith
+row-of-requires c κs = let start = c .before .before .before .before .before .before in let k = ranges-of (start .args .w .counts) (start .pre) in omega arith
 
 loop-holds : tie.Need-loop-holds Inv-loop μ-loop
 unfolding rowsFit
@@ -44,9 +44,21 @@ cast-due c = omega arith
 
 due-requires : tie.Need-due-requires Inv-loop μ-loop
 due-requires c κs =
-    let start = c .before .before .before .before .before .before in
-    let k = counts (start .args .w) (start .pre) in
+    let start = c .before .before .before .before .before .before .before .before .before in
+    let k = ranges-of (start .args .w .counts) (start .pre) in
     (k .ring .some, k .within, k .ring .were-entered, c .before .before .row-of .ensures)
+
+mul-t14 : tie.Need-mul-t14 Inv-loop μ-loop
+mul-t14 c = omega arith
+
+array-read-t13 : tie.Need-array-read-t13 Inv-loop μ-loop
+array-read-t13 c = omega arith
+
+mul-t17 : tie.Need-mul-t17 Inv-loop μ-loop
+mul-t17 c = omega arith
+
+array-read-t20 : tie.Need-array-read-t20 Inv-loop μ-loop
+array-read-t20 c = omega arith
 
 mul-holds : tie.Need-mul-holds Inv-loop μ-loop
 mul-holds c = omega arith
@@ -54,25 +66,13 @@ mul-holds c = omega arith
 array-read-holds : tie.Need-array-read-holds Inv-loop μ-loop
 array-read-holds c = omega arith
 
-mul-holds-2 : tie.Need-mul-holds-2 Inv-loop μ-loop
-mul-holds-2 c = omega arith
-
-array-read-holds-2 : tie.Need-array-read-holds-2 Inv-loop μ-loop
-array-read-holds-2 c = omega arith
-
-mul-holds-3 : tie.Need-mul-holds-3 Inv-loop μ-loop
-mul-holds-3 c = omega arith
-
-array-read-holds-3 : tie.Need-array-read-holds-3 Inv-loop μ-loop
-array-read-holds-3 c = omega arith
-
 holds-requires : tie.Need-holds-requires Inv-loop μ-loop
 holds-requires c κs = tt
 
 returns : tie.Need-returns Inv-loop μ-loop
 returns c =
     let at = c .before .before .before .before in
-    let w = at .before .before .before .before .before .args .w in
+    let w = at .before .before .before .before .before .before .before .before .args .w in
     let row : at .loop .row < 1024 = omega arith in
     sym (unfit-row w 1024 (at .loop .row) row (judged w (at .loop .row) (c .before .before .due .result) (c .before .holds .ensures) (c .before .before .due .ensures) ∙ not-true _ (c .if1 .taken)))
 
@@ -86,7 +86,7 @@ loop-again : tie.Need-loop-again Inv-loop μ-loop
 unfolding rowsFit
 loop-again c =
     let at = c .before .before .before .before in
-    let w = at .before .before .before .before .before .args .w in (
+    let w = at .before .before .before .before .before .before .before .before .args .w in (
       omega arith,
       rw (add-one (at .loop .row))
           (and-true (at .loop .inv .1) (judged w (at .loop .row) (c .before .before .due .result) (c .before .holds .ensures) (c .before .before .due .ensures) ∙ not-false _ (c .if1 .left))),
@@ -96,7 +96,7 @@ returns-2 : tie.Need-returns-2 Inv-loop μ-loop
 returns-2 c =
     let at = c .before in
     let all : at .loop .row ≡ 1024 = omega arith in
-    sym (subst (λ n. rowsFit (at .before .before .before .before .before .args .w) n ≡ true) all (at .loop .inv .1))
+    sym (subst (λ n. rowsFit (at .before .before .before .before .before .before .before .before .args .w) n ≡ true) all (at .loop .inv .1))
 
 pub rows-fit-spec : {M : Type 1} → statement M
 rows-fit-spec =
@@ -110,12 +110,12 @@ rows-fit-spec =
     loop-holds
     cast-due
     due-requires
+    mul-t14
+    array-read-t13
+    mul-t17
+    array-read-t20
     mul-holds
     array-read-holds
-    mul-holds-2
-    array-read-holds-2
-    mul-holds-3
-    array-read-holds-3
     holds-requires
     returns
     add-row

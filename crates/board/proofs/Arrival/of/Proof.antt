@@ -22,19 +22,19 @@ returns c =
 add-t8 : tie.Need-add-t8
 add-t8 c =
     let a = c .before .before .args in
-    let may = enterable (a .entered) (a .loss) (a .shake) (sym (c .before .enter-refusal .ensures) ∙ c .if1 .left) in
+    let may = enterable (a .counts) (a .values) (sym (c .before .enter-refusal .ensures) ∙ c .if1 .left) in
     omega (arith, may .room)
 
 leaving-requires : tie.Need-leaving-requires
 leaving-requires c κs =
     let a = c .before .before .args in
-    enterable (a .entered) (a .loss) (a .shake) (sym (c .before .enter-refusal .ensures) ∙ c .if1 .left) .room
+    enterable (a .counts) (a .values) (sym (c .before .enter-refusal .ensures) ∙ c .if1 .left) .room
 
 returns-2 : tie.Need-returns-2
 unfolding arrival
 returns-2 c =
     let a = c .before .before .before .args in
-    ap (λ m. record { refusal = 0; number = a .entered + 1; oldest = m }) (c .leaving .ensures)
+    ap (λ m. record { refusal = 0; number = a .counts .entered + 1; oldest = m }) (c .leaving .ensures)
     ∙ sym (zero-is _ _ (sym (c .before .before .enter-refusal .ensures) ∙ c .before .if1 .left))
 
 pub of-spec : {M : Type 1} → statement M

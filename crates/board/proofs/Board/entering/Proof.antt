@@ -6,22 +6,22 @@ use native.Mathlib.Omega.{arith}
 use lib.ListN.{length, length-map}
 use Rattle.board.proofs.Refusals.{Enterable, enterable}
 use Rattle.window.specs.Rows.{standing}
-use Rattle.question.specs.Lines.{rowsOf}
-use Rattle.board.proofs.Filling.{Turns, turns-none, turns-more, low, turns-all}
+use Rattle.list.specs.Rows.{rowsOf}
+use Rattle.board.proofs.Filling.{Turns, turns-none, turns-more, lowReport, turns-all}
 use borrow.Author.Needs.{needs}
 use Rattle.board.proofs.Board.entering.Statement.{statement}
 use Rattle.board.proofs.Board.entering.Tie as tie
 
 abbrev Inv-loop : tie.InvT-loop
-Inv-loop loss shake old number gone window slots₀ searched₀ steps₀ i₀ slots searched steps i =
-    (i ≤ 32) × (length old ≡ 32) × Turns (low number loss shake) old gone (standing (rowsOf (window .losses) (window .shakes) (window .numbers)) 1024) i slots searched steps
+Inv-loop values old number gone window slots₀ searched₀ steps₀ i₀ slots searched steps i =
+    (i ≤ 32) × (length old ≡ 32) × Turns (lowReport number values) old gone (standing (rowsOf (window .losses) (window .shakes) (window .numbers)) 1024) i slots searched steps
 
 abbrev μ-loop : tie.MeasureT-loop
-μ-loop loss shake old number gone window slots₀ searched₀ steps₀ i₀ slots searched steps i = 32 - i
+μ-loop values old number gone window slots₀ searched₀ steps₀ i₀ slots searched steps i = 32 - i
 
 module _ (start : tie.Start Inv-loop μ-loop) where
-  may-enter : Enterable (start .args .self .window .entered) (start .args .loss) (start .args .shake)
-  may-enter = enterable (start .args .self .window .entered) (start .args .loss) (start .args .shake) (start .pre)
+  may-enter : Enterable (start .args .self .window .counts) (start .args .values)
+  may-enter = enterable (start .args .self .window .counts) (start .args .values) (start .pre)
 
   all-slots : length (start .args .self .slots) ≡ 32
   all-slots = sym (length-map (start .args .self .slots) _) ∙ start .good .0 .1 .1 .1 .0 .1 .0 .1
@@ -82,7 +82,7 @@ returns : tie.Need-returns Inv-loop μ-loop
 returns c =
     let l = c .before in
     let start = l .before .before .before .before .before .before .before in
-    turns-all (start .args .self) (start .args .loss) (start .args .shake) (start .pre) (l .before .before .before .leaving .ensures) (l .before .before .with .ensures) (omega (arith, l .loop .inv .1)) (l .loop .inv .2)
+    turns-all (start .args .self) (start .args .values) (start .pre) (l .before .before .before .leaving .ensures) (l .before .before .with .ensures) (omega (arith, l .loop .inv .1)) (l .loop .inv .2)
 
 pub entering-spec : {M : Type 1} → statement M
 entering-spec =

@@ -7,7 +7,7 @@ use Rattle.board.proofs.Board.set_known.Statement.{statement}
 use Rattle.board.proofs.Board.set_known.Tie as tie
 
 returns : tie.Need-returns
-returns c = let a = c .before .args in sym (set-nowhere (a .self) (a .slot) (a .k) (a .weights) (c .if1 .taken))
+returns c = let a = c .before .args in sym (set-nowhere (a .self) (a .slot) (a .k) (a .rule) (c .if1 .taken))
 
 mul-question : tie.Need-mul-question
 mul-question c = search needs
@@ -25,7 +25,7 @@ returns-2 : tie.Need-returns-2
 returns-2 c =
     let a = c .before .before .before .before .before .before .before .before .before .before .before .args in
     (λ i. record { refusal = c .before .before .set-in .result .refusal; steps = c .before .before .set-in .result .steps; board = c .with-slot .ensures i })
-    ∙ sym (set-seated (a .self) (a .slot) (a .k) (a .weights) (search needs) (c .before .before .set-in .ensures))
+    ∙ sym (set-seated (a .self) (a .slot) (a .k) (a .rule) (search needs) (c .before .before .set-in .ensures))
 
 pub set-known-spec : {M : Type 1} → statement M
 set-known-spec =

@@ -1,36 +1,32 @@
--- The first of the lines, as many as there are and k.
+-- The first k of its list.
 -- Assumes nothing.
 use mathlib.Core.Path.{ap, _∙_}
-use Prim.Native.Nat.{min}
 use borrow.Author.Needs.{needs}
-use Rattle.question.specs.Lines.{asked}
-use Rattle.question.proofs.Stored.{roomy}
-use Rattle.question.proofs.Placed.{front-cut}
+use lib.ListN.{take}
+use Rattle.list.specs.Lines.{linesIn, stored}
+use Rattle.question.specs.Lines.{holding}
 use Rattle.question.proofs.Question.cut.Statement.{statement}
 use Rattle.question.proofs.Question.cut.Tie as tie
 
-shown-requires : tie.Need-shown-requires
-shown-requires c κs = search needs
+list-requires : tie.Need-list-requires
+list-requires c κs = search needs
 
-fewer-requires : tie.Need-fewer-requires
-fewer-requires c κs = search needs
+cast-first : tie.Need-cast-first
+cast-first c = search needs
 
-cast-n : tie.Need-cast-n
-cast-n c = search needs
+first-requires : tie.Need-first-requires
+first-requires c κs = search needs
 
-listing-requires : tie.Need-listing-requires
-listing-requires c κs = search needs
+holding-requires : tie.Need-holding-requires
+holding-requires c κs = search needs
 
 returns : tie.Need-returns
 returns c =
-    let chosen = c .before .before .before in
-    let counted = chosen .before in
-    let q = counted .before .args .self in
-    let good = counted .before .good .0 .1 .1 .1 .1 in
-    c .listing .ensures
-    ∙ ap (λ l. asked (q .k) (q .weights) l (q .next))
-    (front-cut q (roomy q (good .0 .1 .0 .1) (good .1 .0 .1 .0 .1)) (chosen .fewer .result)
-    (chosen .fewer .ensures ∙ ap (min (q .k)) (counted .shown .ensures)))
+    let cut = c .before in
+    let list = cut .before .before in
+    let q = list .before .args .self in
+    c .holding .ensures
+    ∙ ap (holding q) (cut .first .ensures ∙ ap (λ l. stored (take (q .k) (linesIn l))) (list .list .ensures))
 
 pub cut-spec : {M : Type 1} → statement M
-cut-spec = tie.close (tie.spec shown-requires fewer-requires cast-n listing-requires returns)
+cut-spec = tie.close (tie.spec list-requires cast-first first-requires holding-requires returns)

@@ -5,9 +5,13 @@ use borrow.Author.Needs.{needs}
 use mir.Syntax.{w32}
 use Rattle.ranking.specs.Cells.{reachOf}
 use Rattle.laws.proofs.Words.{kept}
+use Rattle.list.specs.Bars.{barOf}
 use Rattle.question.proofs.Finding.{ended-full, ended-open}
 use Rattle.question.proofs.Question.ended.Statement.{statement}
 use Rattle.question.proofs.Question.ended.Tie as tie
+
+list-requires : tie.Need-list-requires
+list-requires c κs = search needs
 
 bar-requires : tie.Need-bar-requires
 bar-requires c κs = search needs
@@ -22,9 +26,10 @@ returns : tie.Need-returns
 returns c =
     let told = c .before .before in
     let counted = told .before .before in
-    let q = counted .before .args .self in
+    let q = counted .before .before .args .self in
+    let bar = counted .bar .ensures ∙ ap (λ l. barOf l (q .k)) (counted .before .list .ensures) in
     ap (λ b. record { steps = c .before .reach .result .cells; question = b }) (c .at .ensures)
-    ∙ ended-full q (counted .bar .result) (counted .bar .ensures) (told .before .if1 .taken) (c .before .reach .result)
+    ∙ ended-full q (counted .bar .result) bar (told .before .if1 .taken) (c .before .reach .result)
     (c .before .reach .ensures ∙ ap (reachOf (q .weights)) (kept w32 (counted .bar .result .score) (told .struct-told .given .1 .1 .0 .1)))
 
 at-requires-2 : tie.Need-at-requires-2
@@ -33,10 +38,11 @@ at-requires-2 c κs = search needs
 returns-2 : tie.Need-returns-2
 returns-2 c =
     let counted = c .before .before in
-    let q = counted .before .args .self in
+    let q = counted .before .before .args .self in
+    let bar = counted .bar .ensures ∙ ap (λ l. barOf l (q .k)) (counted .before .list .ensures) in
     ap (λ b. record { steps = 256; question = b }) (c .at2 .ensures)
-    ∙ ended-open q (counted .bar .result) (counted .bar .ensures) (c .before .if1 .left)
+    ∙ ended-open q (counted .bar .result) bar (c .before .if1 .left)
 
 pub ended-spec : {M : Type 1} → statement M
 ended-spec =
-    tie.close (tie.spec bar-requires reach-requires at-requires returns at-requires-2 returns-2)
+    tie.close (tie.spec list-requires bar-requires reach-requires at-requires returns at-requires-2 returns-2)

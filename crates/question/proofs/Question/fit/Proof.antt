@@ -1,7 +1,11 @@
 -- The four tests are the definition's, in its order.
 -- Assumes nothing.
-use mathlib.Core.Path.{sym, _∙_}
+use mathlib.Core.Path.{sym, ap, _∙_}
 use borrow.Author.Needs.{needs}
+use lib.ListN.{drop}
+use Rattle.ranking.specs.Standing.{above}
+use Rattle.list.specs.declared.Lines.{Lines}
+use Rattle.list.specs.Lines.{linesOf, linesIn, allOf, falls, blank}
 use Rattle.question.proofs.Doors.{unfit-ranges, unfit-lines, unfit-fall, fit-rest}
 use Rattle.question.proofs.Question.fit.Statement.{statement}
 use Rattle.question.proofs.Question.fit.Tie as tie
@@ -12,6 +16,9 @@ ranges-fit-requires c κs = search needs
 lines-held-requires : tie.Need-lines-held-requires
 lines-held-requires c κs = search needs
 
+list-requires : tie.Need-list-requires
+list-requires c κs = search needs
+
 falls-requires : tie.Need-falls-requires
 falls-requires c κs = search needs
 
@@ -21,22 +28,25 @@ rest-blank-requires c κs = search needs
 returns : tie.Need-returns
 returns c =
     let third = c .before in
-    let second = third .before .before in
+    let list = third .before .before in
+    let second = list .before in
     let first = second .before .before in
     let start = first .before .before in
     c .rest-blank .ensures
+    ∙ ap (λ (l : Lines). allOf blank (drop (l .len) (linesOf (l .numbers) (l .scores)))) (list .list .ensures)
     ∙ sym
     (fit-rest (start .args .window) (start .args .self) (sym (first .before .ranges-fit .ensures) ∙ first .if1 .taken) (sym (second .before .lines-held .ensures) ∙ second .if2 .taken)
-    (sym (third .before .falls .ensures) ∙ third .if3 .taken))
+    (ap (λ l. falls above (linesIn l)) (sym (list .list .ensures)) ∙ sym (third .before .falls .ensures) ∙ third .if3 .taken))
 
 returns-2 : tie.Need-returns-2
 returns-2 c =
-    let second = c .before .before in
+    let list = c .before .before in
+    let second = list .before in
     let first = second .before .before in
     let start = first .before .before in
     sym
     (unfit-fall (start .args .window) (start .args .self) (sym (first .before .ranges-fit .ensures) ∙ first .if1 .taken) (sym (second .before .lines-held .ensures) ∙ second .if2 .taken)
-    (sym (c .before .falls .ensures) ∙ c .if3 .left))
+    (ap (λ l. falls above (linesIn l)) (sym (list .list .ensures)) ∙ sym (c .before .falls .ensures) ∙ c .if3 .left))
 
 returns-3 : tie.Need-returns-3
 returns-3 c =
@@ -56,6 +66,7 @@ fit-spec =
     (tie.spec
     ranges-fit-requires
     lines-held-requires
+    list-requires
     falls-requires
     rest-blank-requires
     returns

@@ -1,15 +1,19 @@
 -- A list with room for k lines, or for 16.
 -- Assumes nothing.
-use mathlib.Core.Path.{ap₂, _∙_}
+use mathlib.Core.Path.{ap, _∙_}
+use Prim.Native.Nat.{min}
 use borrow.Author.Needs.{needs}
+use lib.ListN.{take}
 use mir.Facts.{toZ-ofZ}
-use Rattle.question.specs.Inner.{within}
-use Rattle.question.proofs.Placed.{within-joined}
+use Rattle.search.specs.Best.{place}
+use Rattle.ranking.specs.Standing.{above}
+use Rattle.question.specs.Lines.{lines, withList}
+use Rattle.question.proofs.Taking.{within-joined}
 use Rattle.question.proofs.Question.joined.Statement.{statement}
 use Rattle.question.proofs.Question.joined.Tie as tie
 
-fewer-requires : tie.Need-fewer-requires
-fewer-requires c κs = search needs
+cast-within : tie.Need-cast-within
+cast-within c = search needs
 
 within-requires : tie.Need-within-requires
 within-requires c κs = search needs
@@ -20,8 +24,8 @@ returns c =
     let a = start .args in
     let q = a .self in
     c .within .ensures
-    ∙ ap₂ (λ n s. within q n (record { number = a .number; score = s })) (c .before .fewer .ensures) (toZ-ofZ (start .fits .score))
+    ∙ ap (λ s. withList q (take (min (q .k) 16) (place above (record { number = a .number; score = s }) (lines q)))) (toZ-ofZ (start .fits .score))
     ∙ within-joined q (record { number = a .number; score = a .score })
 
 pub joined-spec : {M : Type 1} → statement M
-joined-spec = tie.close (tie.spec fewer-requires within-requires returns)
+joined-spec = tie.close (tie.spec cast-within within-requires returns)

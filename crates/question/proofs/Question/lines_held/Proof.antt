@@ -1,13 +1,15 @@
 -- The invariant: what is left to test decides the whole.
 -- Assumes nothing.
-use mathlib.Core.Path.{ap}
-use Prim.Native.Nat.{_-_}
+use mathlib.Core.Path.{ap, _∙_}
+use Prim.Native.Nat.{min, _-_}
 use borrow.Author.Tests.{not-true, not-false}
 use borrow.Author.Needs.{needs}
+use Rattle.list.specs.declared.Lines.{Lines}
+use Rattle.list.specs.Lines.{allOf}
+use Rattle.list.proofs.Walking.{Walk, walk-on, walk-fails, walk-ends}
 use Rattle.question.specs.Lines.{lines}
-use Rattle.question.specs.Calls.{allOf, heldAs}
+use Rattle.question.specs.Calls.{heldAs}
 use Rattle.question.proofs.Stored.{roomy, shown-lines}
-use Rattle.question.proofs.Fitness.{Walk, walk-on, walk-fails, walk-ends}
 use Rattle.question.proofs.Question.lines_held.Statement.{statement}
 use Rattle.question.proofs.Question.lines_held.Tie as tie
 
@@ -18,15 +20,15 @@ Inv-loop window self n i₀ i =
 abbrev μ-loop : tie.MeasureT-loop
 μ-loop window self n i₀ i = n - i
 
+list-requires : tie.Need-list-requires Inv-loop μ-loop
+list-requires c κs = search needs
+
 shown-requires : tie.Need-shown-requires Inv-loop μ-loop
 shown-requires c κs = search needs
 
-cast-n : tie.Need-cast-n Inv-loop μ-loop
-cast-n c = search needs
-
 loop-holds : tie.Need-loop-holds Inv-loop μ-loop
 loop-holds c =
-    let start = c .before in
+    let start = c .before .before in
     let q = start .args .t1 in
     let good = start .good .0 .1 .1 .1 .1 in
     let room = roomy q (good .0 .1 .0 .1) (good .1 .0 .1 .0 .1) in
@@ -34,7 +36,7 @@ loop-holds c =
       up-to = search needs;
       within = search needs;
       room = room;
-      decides = ap (allOf (heldAs (start .args .window) (q .weights))) (shown-lines q room (c .shown .result) (c .shown .ensures));
+      decides = ap (allOf (heldAs (start .args .window) (q .weights))) (shown-lines q room (c .shown .result) (c .shown .ensures ∙ ap (λ (l : Lines). min (l .len) 16) (c .before .list .ensures)));
     }
 
 mul-held-as : tie.Need-mul-held-as Inv-loop μ-loop
@@ -79,8 +81,8 @@ lines-held-spec =
     (tie.spec
     Inv-loop
     μ-loop
+    list-requires
     shown-requires
-    cast-n
     loop-holds
     mul-held-as
     element-copy-out-held-as

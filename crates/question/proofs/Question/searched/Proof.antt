@@ -2,7 +2,7 @@
 -- Assumes nothing.
 use mathlib.Core.Path.{refl, _∙_}
 use borrow.Author.Needs.{needs}
-use Rattle.question.specs.Lines.{rowsOf}
+use Rattle.list.specs.Rows.{rowsOf}
 use Rattle.question.proofs.Finding.{searched-arrays, searched-rows}
 use Rattle.question.proofs.Question.searched.Statement.{statement}
 use Rattle.question.proofs.Question.searched.Tie as tie

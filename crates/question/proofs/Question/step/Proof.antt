@@ -1,88 +1,32 @@
--- 24 comes before 25; else the rows of a fit window serve as its held reports.
+-- What a step is refused with decides: 24 comes before 25; else the rows of a fit window serve as its held reports.
 -- Assumes nothing.
-use mathlib.Core.Path.{sym, ap, _∙_}
-use mathlib.Core.Bool.{_&&_, and-false}
-use borrow.Author.Tests.{not-true, not-false}
+use mathlib.Core.Path.{ap, _∙_}
 use borrow.Author.Needs.{needs}
-use Rattle.window.specs.Rows.{fitWindow}
-use Rattle.question.specs.Calls.{fitQuestion}
-use Rattle.question.proofs.Doors.{step-unfit, step-ended, step-goes}
+use Rattle.question.proofs.Doors.{step-refused, step-done}
 use Rattle.question.proofs.Question.step.Statement.{statement}
 use Rattle.question.proofs.Question.step.Tie as tie
 
-fit-requires : tie.Need-fit-requires
-fit-requires c κs = search needs
+refusal-requires : tie.Need-refusal-requires
+refusal-requires c κs = search needs
 
 refused-requires : tie.Need-refused-requires
 refused-requires c κs = search needs
 
 returns : tie.Need-returns
 returns c =
-    let start = c .before .before .before in
-    let w = start .args .window in
-    let q = start .args .self in
-    c .refused .ensures ∙ sym (step-unfit w q (ap (λ b. b && fitQuestion w q) (sym (c .before .before .fit .ensures) ∙ not-true _ (c .before .if1 .taken))))
-
-fit-requires-2 : tie.Need-fit-requires-2
-fit-requires-2 c κs = search needs
-
-refused-requires-2 : tie.Need-refused-requires-2
-refused-requires-2 c κs = search needs
-
-returns-2 : tie.Need-returns-2
-returns-2 c =
-    let start = c .before .before .before .before .before in
-    let w = start .args .window in
-    let q = start .args .self in
-    c .refused2 .ensures
-    ∙ sym (step-unfit w q (ap (λ b. fitWindow w && b) (sym (c .before .before .fit2 .ensures) ∙ not-true _ (c .before .if2 .taken)) ∙ and-false (fitWindow w)))
-
-finished-requires : tie.Need-finished-requires
-finished-requires c κs = search needs
-
-refused-requires-3 : tie.Need-refused-requires-3
-refused-requires-3 c κs = search needs
-
-returns-3 : tie.Need-returns-3
-returns-3 c =
-    let third = c .before in
-    let second = third .before .before in
-    let first = second .before .before in
-    let start = first .before .before in
-    let w = start .args .window in
-    let q = start .args .self in
-    let fits = sym (first .before .fit .ensures) ∙ not-false _ (first .if1 .left) in
-    let fit = sym (second .before .fit2 .ensures) ∙ not-false _ (second .if2 .left) in
-    c .refused3 .ensures ∙ sym (step-ended w q fits fit (sym (third .before .finished .ensures) ∙ third .if3 .taken))
+    let told = c .before .before in
+    let a = told .before .args in
+    c .refused .ensures ∙ step-refused (a .window) (a .self) (told .refusal .result) (told .refusal .ensures) (c .before .if1 .taken)
 
 stepped-requires : tie.Need-stepped-requires
 stepped-requires c κs = search needs
 
-returns-4 : tie.Need-returns-4
-returns-4 c =
-    let third = c .before in
-    let second = third .before .before in
-    let first = second .before .before in
-    let start = first .before .before in
-    let w = start .args .window in
-    let q = start .args .self in
-    let fits = sym (first .before .fit .ensures) ∙ not-false _ (first .if1 .left) in
-    let fit = sym (second .before .fit2 .ensures) ∙ not-false _ (second .if2 .left) in
+returns-2 : tie.Need-returns-2
+returns-2 c =
+    let told = c .before .before in
+    let a = told .before .args in
     ap (λ b. record { refusal = 0; question = b }) (c .stepped .ensures)
-    ∙ sym (step-goes w q fits fit (sym (third .before .finished .ensures) ∙ third .if3 .left))
+    ∙ step-done (a .window) (a .self) (told .refusal .result) (told .refusal .ensures) (c .before .if1 .left)
 
 pub step-spec : {M : Type 1} → statement M
-step-spec =
-    tie.close
-    (tie.spec
-    fit-requires
-    refused-requires
-    returns
-    fit-requires-2
-    refused-requires-2
-    returns-2
-    finished-requires
-    refused-requires-3
-    returns-3
-    stepped-requires
-    returns-4)
+step-spec = tie.close (tie.spec refusal-requires refused-requires returns stepped-requires returns-2)

@@ -1,0 +1,49 @@
+-- Any two outcomes that a contract allows are equal, since each contract is an equation.
+-- Assumes nothing.
+use mathlib.Core.Path.{sym, _∙_}
+use Rattle.laws.proofs.Outcomes.{OneAnswer}
+use Rattle.list.proofs.Lines.none.Kinds as none-kinds
+use Rattle.list.proofs.Lines.none.Reads as none-reads
+use Rattle.list.proofs.Lines.shown.Kinds as shown-kinds
+use Rattle.list.proofs.Lines.shown.Reads as shown-reads
+use Rattle.list.proofs.Lines.first.Kinds as first-kinds
+use Rattle.list.proofs.Lines.first.Reads as first-reads
+use Rattle.list.proofs.Lines.placed.Kinds as placed-kinds
+use Rattle.list.proofs.Lines.placed.Reads as placed-reads
+use Rattle.list.proofs.Lines.best.Kinds as best-kinds
+use Rattle.list.proofs.Lines.best.Reads as best-reads
+use Rattle.list.proofs.Lines.falls.Kinds as falls-kinds
+use Rattle.list.proofs.Lines.falls.Reads as falls-reads
+use Rattle.list.proofs.Lines.rest_blank.Kinds as rest-blank-kinds
+use Rattle.list.proofs.Lines.rest_blank.Reads as rest-blank-reads
+use Rattle.list.proofs.Lines.bar.Kinds as bar-kinds
+use Rattle.list.proofs.Lines.bar.Reads as bar-reads
+use Rattle.list.proofs.gathered.Kinds as gathered-kinds
+use Rattle.list.proofs.gathered.Reads as gathered-reads
+
+none-once : OneAnswer 0 none-kinds.ps none-kinds.r none-reads.Post
+none-once κs a x y s t p q = p ∙ sym q
+
+shown-once : OneAnswer 0 shown-kinds.ps shown-kinds.r shown-reads.Post
+shown-once κs a x y s t p q = p ∙ sym q
+
+first-once : OneAnswer 0 first-kinds.ps first-kinds.r first-reads.Post
+first-once κs a x y s t p q = p ∙ sym q
+
+placed-once : OneAnswer 0 placed-kinds.ps placed-kinds.r placed-reads.Post
+placed-once κs a x y s t p q = p ∙ sym q
+
+best-once : OneAnswer 0 best-kinds.ps best-kinds.r best-reads.Post
+best-once κs a x y s t p q = p ∙ sym q
+
+falls-once : OneAnswer 0 falls-kinds.ps falls-kinds.r falls-reads.Post
+falls-once κs a x y s t p q = p ∙ sym q
+
+rest-blank-once : OneAnswer 0 rest-blank-kinds.ps rest-blank-kinds.r rest-blank-reads.Post
+rest-blank-once κs a x y s t p q = p ∙ sym q
+
+bar-once : OneAnswer 0 bar-kinds.ps bar-kinds.r bar-reads.Post
+bar-once κs a x y s t p q = p ∙ sym q
+
+gathered-once : OneAnswer 1 gathered-kinds.ps gathered-kinds.r gathered-reads.Post
+gathered-once κs a x y s t p q = p ∙ sym q

@@ -1,0 +1,233 @@
+-- The invariant: the arrays are those of the best k of the rows so far, and the bar and its least are theirs.
+-- Assumes nothing.
+use mathlib.Core.Path.{_≡_, refl, sym, ap, ap₂, subst, _∙_}
+use Prim.Native.Nat.{ℕ, min, _≤_, _<_, _-_, _+_}
+use native.Mathlib.Omega.{arith}
+use borrow.Author.Needs.{needs}
+use borrow.Author.Tests.{not-true, not-false}
+use lib.Dec.{eqb}
+use lib.ListN.{getD}
+use lib.Signed.{ltZ, mag}
+use mir.Syntax.{w32}
+use mir.Val.{toZ, ofZ}
+use Rattle.ranking.specs.Standing.{Entry, above, entry, top}
+use Rattle.ranking.proofs.Entries.{score-below}
+use Rattle.laws.proofs.Words.{kept}
+use Rattle.window.specs.declared.Window.{Window}
+use Rattle.window.specs.Rows.{reportIn, standing}
+use Rattle.list.specs.declared.Lines.{Lines}
+use Rattle.list.specs.Lines.{stored}
+use Rattle.list.specs.Bars.{barAt, barOf, leastAt, admits}
+use Rattle.list.specs.Rows.{rowsOf}
+use Rattle.list.specs.Inner.{Roomy}
+use Rattle.list.proofs.Sliding.{placing-few}
+use Rattle.list.proofs.Bars.{admits-under}
+use Rattle.list.proofs.Gathering.{gathered-none, gathered-few, gathered-bar, gathered-places, gathered-skips}
+use Rattle.list.proofs.gathered.Statement.{statement}
+use Rattle.list.proofs.gathered.Tie as tie
+
+abbrev Inv-loop : tie.InvT-loop
+Inv-loop rule k losses shakes numbers rows most end found₀ by₀ len₀ bar₀ least₀ row₀ found by len bar least row =
+    (row ≤ end)
+    × (end ≡ min rows 1024)
+    × (most ≡ min k 16)
+    × Roomy found by
+    × (record { numbers = found; scores = by; len = len } ≡ stored (top rule most (standing (rowsOf losses shakes numbers) row)))
+    × (bar ≡ barAt found by len (eqb len most))
+    × (toZ w32 least ≡ leastAt bar)
+
+abbrev μ-loop : tie.MeasureT-loop
+μ-loop rule k losses shakes numbers rows most end found₀ by₀ len₀ bar₀ least₀ row₀ found by len bar least row = end - row
+
+-- what the loop's head knows
+module _ (c : tie.At-loop Inv-loop μ-loop) where
+  abbrev ended : tie.After-smaller2 Inv-loop μ-loop
+  ended = c .before .before .before .before .before
+
+  abbrev start : tie.Start Inv-loop μ-loop
+  start = ended .before .before
+
+  abbrev most : ℕ
+  most = ended .before .smaller .result
+
+  abbrev rows : Window
+  rows = rowsOf (start .args .losses .now) (start .args .shakes .now) (start .args .numbers .now)
+
+  abbrev report : Entry
+  report = entry (start .args .rule) (reportIn rows (c .loop .row))
+
+  small : most ≤ 16
+  small = omega (arith, ended .before .smaller .ensures)
+
+  short : c .loop .len ≤ 16
+  short = gathered-few (start .args .rule) most small rows (c .loop .row) (c .loop .len) (ap (λ (l : Lines). l .len) (c .loop .inv .4))
+
+  same-bar : c .loop .bar ≡ barOf (stored (top (start .args .rule) most (standing rows (c .loop .row)))) most
+  same-bar = c .loop .inv .5 ∙ gathered-bar (start .args .rule) most small rows (c .loop .found) (c .loop .by) (c .loop .len) (c .loop .row) (c .loop .inv .4)
+
+-- and the loop's body of its row
+module _ (c : tie.After-score Inv-loop μ-loop) where
+  abbrev at : tie.At-loop Inv-loop μ-loop
+  at = c .before .before .before .before
+
+  scored : toZ w32 (ofZ w32 (c .score .result)) ≡ report at .score
+  scored = kept w32 (c .score .result) (c .score .ok) ∙ c .score .ensures
+
+  reported : record { number = getD (rows at .numbers) (at .loop .row) 0; score = toZ w32 (ofZ w32 (c .score .result)) } ≡ report at
+  reported = ap (λ s. record { number = reportIn (rows at) (at .loop .row) .number; score = s }) scored
+
+  up : at .loop .row + 1 ≤ ended at .smaller2 .result
+  up = search needs
+
+module _ (c : tie.After-admits Inv-loop μ-loop) where
+  abbrev turn : tie.At-loop Inv-loop μ-loop
+  turn = at (c .before .before .before)
+
+  test : c .admits .result ≡ admits (above (start turn .args .rule)) (barOf (stored (top (start turn .args .rule) (most turn) (standing (rows turn) (turn .loop .row)))) (most turn)) (report turn)
+  test = c .admits .ensures ∙ ap₂ (admits (above (start turn .args .rule))) (same-bar turn) (reported (c .before .before .before))
+
+smaller-requires : tie.Need-smaller-requires Inv-loop μ-loop
+smaller-requires c κs = search needs
+
+smaller-requires-2 : tie.Need-smaller-requires-2 Inv-loop μ-loop
+smaller-requires-2 c κs = search needs
+
+bar-in-requires : tie.Need-bar-in-requires Inv-loop μ-loop
+bar-in-requires c κs = search needs
+
+least-requires : tie.Need-least-requires Inv-loop μ-loop
+least-requires c κs = search needs
+
+loop-holds : tie.Need-loop-holds Inv-loop μ-loop
+loop-holds c =
+    let ended = c .before .before .before .before in
+    let chosen = ended .before in
+    let a = chosen .before .args in (
+      search needs,
+      ended .smaller2 .ensures,
+      chosen .smaller .ensures,
+      record { numbers = refl; scores = refl },
+      gathered-none (a .rule) (chosen .smaller .result) (omega (arith, chosen .smaller .ensures)) (rowsOf (a .losses .now) (a .shakes .now) (a .numbers .now)),
+      c .before .bar-in .ensures,
+      kept w32 (c .least .result) (c .least .ok) ∙ c .least .ensures,
+    )
+
+add-row : tie.Need-add-row Inv-loop μ-loop
+add-row c = search needs
+
+mul-loss : tie.Need-mul-loss Inv-loop μ-loop
+mul-loss c = search needs
+
+element-copy-out-loss : tie.Need-element-copy-out-loss Inv-loop μ-loop
+element-copy-out-loss c = search needs
+
+mul-shake : tie.Need-mul-shake Inv-loop μ-loop
+mul-shake c = search needs
+
+element-copy-out-shake : tie.Need-element-copy-out-shake Inv-loop μ-loop
+element-copy-out-shake c = search needs
+
+score-requires : tie.Need-score-requires Inv-loop μ-loop
+score-requires c κs = search needs
+
+loop-less : tie.Need-loop-less Inv-loop μ-loop
+loop-less c = search needs
+
+loop-again : tie.Need-loop-again Inv-loop μ-loop
+loop-again c =
+    let b = at (c .before) in
+    let l = b .loop in
+    let fits = subst (λ s. mag s < 2147483648) (c .before .score .ensures) (c .before .score .ok) in
+    let under = ap (λ bar. admits (above (start b .args .rule)) bar (report b)) (sym (same-bar b)) ∙ admits-under (above (start b .args .rule)) (l .bar) (report b) (score-below (start b .args .rule)) fits (sym (ap₂ ltZ (scored (c .before)) (l .inv .6)) ∙ c .if1 .taken) in
+    (up (c .before), l .inv .1, l .inv .2, l .inv .3, l .inv .4 ∙ ap stored (gathered-skips (start b .args .rule) (most b) (small b) (rows b) (l .row) under), l .inv .5, l .inv .6)
+
+mul-number : tie.Need-mul-number Inv-loop μ-loop
+mul-number c = search needs
+
+element-copy-out-number : tie.Need-element-copy-out-number Inv-loop μ-loop
+element-copy-out-number c = search needs
+
+admits-requires : tie.Need-admits-requires Inv-loop μ-loop
+admits-requires c κs = search needs
+
+loop-less-2 : tie.Need-loop-less-2 Inv-loop μ-loop
+loop-less-2 c = search needs
+
+loop-again-2 : tie.Need-loop-again-2 Inv-loop μ-loop
+loop-again-2 c =
+    let b = turn (c .before) in
+    let l = b .loop in
+    (up (c .before .before .before .before), l .inv .1, l .inv .2, l .inv .3, l .inv .4 ∙ ap stored (gathered-skips (start b .args .rule) (most b) (small b) (rows b) (l .row) (sym (test (c .before)) ∙ not-true _ (c .if2 .taken))), l .inv .5, l .inv .6)
+
+put-in-requires : tie.Need-put-in-requires Inv-loop μ-loop
+put-in-requires c κs =
+    let b = turn (c .before .before .before) in
+    (short b, small b, b .loop .inv .3)
+
+bar-in-requires-2 : tie.Need-bar-in-requires-2 Inv-loop μ-loop
+bar-in-requires-2 c κs =
+    placing-few (c .before .before .put-in .ensures .0) (small (turn (c .before .before .before .before .before .before)))
+
+least-requires-2 : tie.Need-least-requires-2 Inv-loop μ-loop
+least-requires-2 c κs = search needs
+
+loop-less-3 : tie.Need-loop-less-3 Inv-loop μ-loop
+loop-less-3 c = search needs
+
+loop-again-3 : tie.Need-loop-again-3 Inv-loop μ-loop
+loop-again-3 c =
+    let put = c .before .before .before .before in
+    let told = put .before .before .before .before in
+    let b = turn told in
+    let l = b .loop in (
+      up (told .before .before .before),
+      l .inv .1,
+      l .inv .2,
+      put .put-in .ensures .1,
+      gathered-places (start b .args .rule) (most b) (small b) (rows b) (l .row) (l .found) _ (l .by) _ (l .len) _ _ (l .inv .4) (put .put-in .ensures .1) (put .put-in .ensures .0) (reported (told .before .before .before)) (sym (test told) ∙ not-false _ (put .before .before .before .if2 .left)),
+      c .before .bar-in2 .ensures,
+      kept w32 (c .least2 .result) (c .least2 .ok) ∙ c .least2 .ensures,
+    )
+
+cast-count : tie.Need-cast-count Inv-loop μ-loop
+cast-count c = let few = short (c .before) in search needs
+
+returns : tie.Need-returns Inv-loop μ-loop
+returns c =
+    let b = c .before in
+    let a = start b .args in
+    let l = b .loop in
+    let all : l .row ≡ min (a .rows) 1024 = omega (arith, l .inv .0, l .inv .1) in
+    l .inv .4 ∙ ap₂ (λ k n. stored (top (a .rule) k (standing (rows b) n))) (l .inv .2) all
+
+pub gathered-spec : {M : Type 1} → statement M
+gathered-spec =
+    tie.close
+    (tie.spec
+    Inv-loop
+    μ-loop
+    smaller-requires
+    smaller-requires-2
+    bar-in-requires
+    least-requires
+    loop-holds
+    add-row
+    mul-loss
+    element-copy-out-loss
+    mul-shake
+    element-copy-out-shake
+    score-requires
+    loop-less
+    loop-again
+    mul-number
+    element-copy-out-number
+    admits-requires
+    loop-less-2
+    loop-again-2
+    put-in-requires
+    bar-in-requires-2
+    least-requires-2
+    loop-less-3
+    loop-again-3
+    cast-count
+    returns)

@@ -1,0 +1,53 @@
+-- A list in its two columns: its lines, and how they are stored (document 01, "Window and questions").
+use Prim.Native.Nat.{ℕ}
+use mathlib.Core.Bool.{Bool, true, _&&_}
+use mathlib.Core.List.{List, [], _∷_, _++_, map}
+use lib.Dec.{eqb}
+use lib.ListN.{length, take, replicate}
+use lib.IntN.{ℤ, pos}
+use Rattle.laws.specs.Whole.{equal}
+use Rattle.ranking.specs.Standing.{Entry}
+use Rattle.list.specs.declared.Lines.{Lines}
+
+-- How many lines a list has room for.
+abbrev pub room : ℕ
+room = 16
+
+-- The lines of a list, from their numbers and scores.
+abbrev pub linesOf : List ℕ → List ℤ → List Entry
+linesOf [] ss = []
+linesOf (n ∷ ns) [] = []
+linesOf (n ∷ ns) (s ∷ ss) = record { number = n; score = s } ∷ linesOf ns ss
+
+-- A list as it is stored, and its columns: "unused places are 0".
+abbrev pub numbersOf : List Entry → List ℕ
+numbersOf l = take room (map (λ e. e .number) l ++ replicate room 0)
+
+abbrev pub scoresOf : List Entry → List ℤ
+scoresOf l = take room (map (λ e. e .score) l ++ replicate room (pos 0))
+
+abbrev pub stored : List Entry → Lines
+stored l = record { numbers = numbersOf l; scores = scoresOf l; len = length l }
+
+-- The lines that a list has.
+abbrev pub linesIn : Lines → List Entry
+linesIn l = take (l .len) (linesOf (l .numbers) (l .scores))
+
+-- The first n of a column, and d in the places past them.
+abbrev pub wiped : {A : Type 0} → ℕ → A → List A → List A
+wiped n d l = take room (take n l ++ replicate room d)
+
+-- Each passes the test.
+abbrev pub allOf : {A : Type 0} → (A → Bool) → List A → Bool
+allOf p [] = true
+allOf p (x ∷ xs) = p x && allOf p xs
+
+-- "strictly falling in rank"
+abbrev pub falls : (Entry → Entry → Bool) → List Entry → Bool
+falls above [] = true
+falls above (x ∷ []) = true
+falls above (x ∷ y ∷ l) = above x y && falls above (y ∷ l)
+
+-- An unused place is 0.
+abbrev pub blank : Entry → Bool
+blank e = eqb (e .number) 0 && equal (e .score) (pos 0)

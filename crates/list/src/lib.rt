@@ -1,0 +1,381 @@
+// A list in its two arrays, the reports' numbers and their scores, best first, and the pass over a window's rows that fills
+// one. A length over the room counts as the room.
+ghost use mathlib.Core.Path.{_≡_};
+ghost use mathlib.Core.List.{[]};
+ghost use Prim.Native.Nat.{min, _≤_, _<_};
+ghost use lib.ListN.{take, drop};
+ghost use lib.IntN.{pos};
+ghost use Rattle.search.specs.Best.{best, place};
+ghost use Rattle.ranking.specs.Standing.{above, top};
+ghost use Rattle.window.specs.Rows.{rowCount, standing};
+ghost use Rattle.list.specs.Lines.{room, linesOf, linesIn, stored, wiped, allOf, falls, blank};
+ghost use Rattle.list.specs.Bars.{barAt, barOf, leastAt, admits};
+ghost use Rattle.list.specs.Rows.{rowsOf};
+ghost use Rattle.list.specs.Inner.{Roomy, rankIn, newIn, slid, Placing};
+use ranking::Rule;
+use values::Values;
+use window::Window;
+
+// The first `len` places are its lines. In a list that is well stored the others are 0.
+pub struct Lines {
+    pub numbers: [u32; Lines::ROOM],
+    pub scores: [i32; Lines::ROOM],
+    pub len: u8,
+}
+
+// What an entry has to rank above to change a list that is full: its last line.
+pub struct Bar {
+    pub full: bool,
+    pub number: u32,
+    pub score: i32,
+}
+
+impl Lines {
+    // How many lines a list has room for.
+    pub const ROOM: usize = 16;
+
+    // No lines.
+    pub fn none() -> Lines
+        ensures { λ r. ⌜ r ≡ stored [] ⌝ }
+    {
+        let numbers = [0u32; Lines::ROOM];
+        let scores = [0i32; Lines::ROOM];
+        Lines {
+            numbers,
+            scores,
+            len: 0,
+        }
+    }
+
+    // How many lines there are.
+    pub fn shown(self) -> usize
+        ensures { λ r. ⌜ r ≡ min (self .len) room ⌝ }
+    {
+        smaller(self.len as usize, Lines::ROOM)
+    }
+
+    // The first m lines.
+    pub fn first(self, m: usize) -> Lines
+        ensures { λ r. ⌜ r ≡ stored (take m (linesIn self)) ⌝ }
+    {
+        let n = smaller(m, self.shown());
+        let mut numbers = self.numbers;
+        let mut scores = self.scores;
+        wipe(&mut numbers, &mut scores, n);
+        let len = n as u8;
+        Lines {
+            numbers,
+            scores,
+            len,
+        }
+    }
+
+    // One entry put in its rank among the lines, once, of which at most `most` are kept.
+    pub fn placed(self, rule: Rule, most: usize, number: u32, score: i32) -> Lines
+        ensures { λ r. ⌜ r ≡ stored (take (min most room) (place (above rule) (record { number = number; score = score }) (linesIn self))) ⌝ }
+    {
+        let n = self.shown();
+        let mut numbers = self.numbers;
+        let mut scores = self.scores;
+        let k = smaller(most, Lines::ROOM);
+        let m = put_in(rule, &mut numbers, &mut scores, n, k, number, score);
+        wipe(&mut numbers, &mut scores, m);
+        let len = m as u8;
+        Lines {
+            numbers,
+            scores,
+            len,
+        }
+    }
+
+    // The best k of the lines.
+    pub fn best(self, rule: Rule, k: usize) -> Lines
+        ensures { λ r. ⌜ r ≡ stored (best (above rule) (min k room) (linesIn self)) ⌝ }
+    {
+        let n = self.shown();
+        let numbers = self.numbers;
+        let scores = self.scores;
+        let mut list = Lines::none();
+        let mut i: usize = 0;
+        while i < n {
+            list = list.placed(rule, k, numbers[i], scores[i]);
+            i += 1;
+        }
+        list
+    }
+
+    // Each line ranks above the next.
+    pub fn falls(self, rule: Rule) -> bool
+        ensures { λ r. ⌜ r ≡ falls (above rule) (linesIn self) ⌝ }
+    {
+        let n = self.shown();
+        let mut i: usize = 0;
+        while i + 1 < n {
+            let next = i + 1;
+            if !rule.above(
+                self.numbers[i],
+                self.scores[i],
+                self.numbers[next],
+                self.scores[next],
+            ) {
+                return false;
+            }
+            i = next;
+        }
+        true
+    }
+
+    // The places past the list's end are 0.
+    pub fn rest_blank(self) -> bool
+        ensures { λ r. ⌜ r ≡ allOf blank (drop (self .len) (linesOf (self .numbers) (self .scores))) ⌝ }
+    {
+        let mut i = self.shown();
+        while i < Lines::ROOM {
+            if !is_blank(self.numbers[i], self.scores[i]) {
+                return false;
+            }
+            i += 1;
+        }
+        true
+    }
+
+    // The bar of a list for k lines; a list with no line has none.
+    pub fn bar(self, k: u8) -> Bar
+        ensures { λ r. ⌜ r ≡ barOf self k ⌝ }
+    {
+        let n = self.shown();
+        let full = self.len == k;
+        bar_in(&self.numbers, &self.scores, n, full)
+    }
+}
+
+impl Bar {
+    // No report with a lower score passes; most fail by that alone.
+    fn least(self) -> i32
+        ensures { λ r. ⌜ r ≡ leastAt self ⌝ }
+    {
+        if self.full {
+            return self.score;
+        }
+        -2147483648
+    }
+
+    // A report passes: it has a number, and the list isn't full or it ranks above the last line.
+    fn admits(self, rule: Rule, number: u32, score: i32) -> bool
+        ensures { λ r. ⌜ r ≡ admits (above rule) self (record { number = number; score = score }) ⌝ }
+    {
+        if number == 0 {
+            return false;
+        }
+        if self.full {
+            return rule.above(number, score, self.number, self.score);
+        }
+        true
+    }
+}
+
+// The best k of the reports in the first `rows` rows of a window. A report that doesn't pass the bar changes nothing.
+pub fn gathered<'a>(
+    rule: Rule,
+    k: u8,
+    losses: &'a [u16; Window::ROWS],
+    shakes: &'a [u16; Window::ROWS],
+    numbers: &'a [u32; Window::ROWS],
+    rows: usize,
+) -> Lines
+    ensures { λ r. ⌜
+        r ≡ stored (top rule (min k room) (standing (rowsOf (now (losses .entry)) (now (shakes .entry)) (now (numbers .entry))) (min rows rowCount)))
+        ⌝ }
+{
+    let most = smaller(k as usize, Lines::ROOM);
+    let end = smaller(rows, Window::ROWS);
+    let mut found = [0u32; Lines::ROOM];
+    let mut by = [0i32; Lines::ROOM];
+    let mut len: usize = 0;
+    let mut bar = bar_in(&found, &by, len, len == most);
+    let mut least = bar.least();
+    let mut row: usize = 0;
+    while row < end {
+        let here = row;
+        row += 1;
+        let loss = losses[here];
+        let shake = shakes[here];
+        let score = rule.score(Values { loss, shake });
+        if score < least {
+            continue;
+        }
+        let number = numbers[here];
+        if !bar.admits(rule, number, score) {
+            continue;
+        }
+        len = put_in(rule, &mut found, &mut by, len, most, number, score);
+        bar = bar_in(&found, &by, len, len == most);
+        least = bar.least();
+    }
+    let count = len as u8;
+    Lines {
+        numbers: found,
+        scores: by,
+        len: count,
+    }
+}
+
+// The bar of the first `len` lines of two arrays, where it is told whether they are a full list.
+fn bar_in<'a>(
+    numbers: &'a [u32; Lines::ROOM],
+    scores: &'a [i32; Lines::ROOM],
+    len: usize,
+    full: bool,
+) -> Bar
+    requires { ⌜ len ≤ room ⌝ }
+    ensures { λ r. ⌜ r ≡ barAt (now (numbers .entry)) (now (scores .entry)) len full ⌝ }
+{
+    if len == 0 {
+        return Bar {
+            full: false,
+            number: 0,
+            score: 0,
+        };
+    }
+    let last = len - 1;
+    Bar {
+        full,
+        number: numbers[last],
+        score: scores[last],
+    }
+}
+
+// 0 in the places of two arrays from one on.
+fn wipe<'a>(numbers: &'a mut [u32; Lines::ROOM], scores: &'a mut [i32; Lines::ROOM], from: usize)
+    requires { ⌜ (from ≤ room) × Roomy (now numbers) (now scores) ⌝ }
+    ensures { λ _. ⌜
+        (now (numbers .exit) ≡ wiped from 0 (now (numbers .entry))) × (now (scores .exit) ≡ wiped from (pos 0) (now (scores .entry)))
+        ⌝ }
+{
+    let mut i: usize = Lines::ROOM;
+    while from < i {
+        i -= 1;
+        numbers[i] = 0;
+        scores[i] = 0;
+    }
+}
+
+// The smaller of two counts.
+fn smaller(a: usize, b: usize) -> usize
+    ensures { λ r. ⌜ r ≡ min a b ⌝ }
+{
+    if a < b { a } else { b }
+}
+
+// One entry put in its rank among the first `len` lines of two arrays, once, of which at most `most` are kept: their
+// number then. The lines past them stay.
+fn put_in<'a>(
+    rule: Rule,
+    numbers: &'a mut [u32; Lines::ROOM],
+    scores: &'a mut [i32; Lines::ROOM],
+    len: usize,
+    most: usize,
+    number: u32,
+    score: i32,
+) -> usize
+    requires { ⌜ (len ≤ room) × (most ≤ room) × Roomy (now numbers) (now scores) ⌝ }
+    ensures { λ r. ⌜
+        Placing (above rule) (record { number = number; score = score }) len most (linesOf (now (numbers .entry)) (now (scores .entry))) (linesOf (now (numbers .exit)) (now (scores .exit))) r
+        × Roomy (now (numbers .exit)) (now (scores .exit))
+        ⌝ }
+{
+    let at = rank_in(rule, numbers, scores, len, number, score);
+    if most <= at {
+        return most;
+    }
+    if !new_in(rule, numbers, scores, len, at, number, score) {
+        return smaller(len, most);
+    }
+    let last = smaller(len, most - 1);
+    slide(numbers, scores, at, last, number, score);
+    last + 1
+}
+
+// How many of the first `len` lines of two arrays rank above an entry, before the first that doesn't.
+fn rank_in<'a>(
+    rule: Rule,
+    numbers: &'a [u32; Lines::ROOM],
+    scores: &'a [i32; Lines::ROOM],
+    len: usize,
+    number: u32,
+    score: i32,
+) -> usize
+    requires { ⌜ (len ≤ room) × Roomy (now numbers) (now scores) ⌝ }
+    ensures { λ r. ⌜
+        r ≡ rankIn (above rule) (record { number = number; score = score }) (take len (linesOf (now (numbers .entry)) (now (scores .entry))))
+        ⌝ }
+{
+    let mut i: usize = 0;
+    while i < len {
+        if !rule.above(numbers[i], scores[i], number, score) {
+            return i;
+        }
+        i += 1;
+    }
+    len
+}
+
+// The line at an entry's rank is another.
+fn new_in<'a>(
+    rule: Rule,
+    numbers: &'a [u32; Lines::ROOM],
+    scores: &'a [i32; Lines::ROOM],
+    len: usize,
+    at: usize,
+    number: u32,
+    score: i32,
+) -> bool
+    requires { ⌜
+        (len ≤ room) × Roomy (now numbers) (now scores)
+        × (at ≡ rankIn (above rule) (record { number = number; score = score }) (take len (linesOf (now numbers) (now scores))))
+        ⌝ }
+    ensures { λ r. ⌜
+        r ≡ newIn (above rule) (record { number = number; score = score }) (take len (linesOf (now (numbers .entry)) (now (scores .entry))))
+        ⌝ }
+{
+    if at < len {
+        return rule.above(number, score, numbers[at], scores[at]);
+    }
+    true
+}
+
+// An entry put at a place, and the lines from there to the last one moved one place back; the last one goes.
+fn slide<'a>(
+    numbers: &'a mut [u32; Lines::ROOM],
+    scores: &'a mut [i32; Lines::ROOM],
+    at: usize,
+    last: usize,
+    number: u32,
+    score: i32,
+)
+    requires { ⌜ (at ≤ last) × (last < room) × Roomy (now numbers) (now scores) ⌝ }
+    ensures { λ _. ⌜
+        (now (numbers .exit) ≡ slid at last number (now (numbers .entry)))
+        × (now (scores .exit) ≡ slid at last score (now (scores .entry)))
+        ⌝ }
+{
+    let mut i = last;
+    while at < i {
+        let before = i - 1;
+        numbers[i] = numbers[before];
+        scores[i] = scores[before];
+        i = before;
+    }
+    numbers[at] = number;
+    scores[at] = score;
+}
+
+// An unused place is 0.
+fn is_blank(number: u32, score: i32) -> bool
+    ensures { λ r. ⌜ r ≡ blank (record { number = number; score = score }) ⌝ }
+{
+    if number != 0 {
+        return false;
+    }
+    score == 0
+}

@@ -1,0 +1,213 @@
+-- Laws of a question's rule that those above cite: its rank order is strict and total, what its entries and its best k are, and what it means that a
+-- report which enters after all others has a place.
+-- Assumes nothing.
+use mathlib.Core.Path.{_≡_, refl, sym, ap, ap₂, _∙_, subst}
+use mathlib.Core.Bool.{Bool, true, false, not, cond, _||_}
+use mathlib.Core.List.{List, [], _∷_, _++_, Memᴰ·map, Memᴰ·of-map}
+use mathlib.Core.Logic.{_⊎_, inl, inr}
+use Prim.Native.Nat.{ℕ, min, _+_, _≤_, _<_}
+use native.Mathlib.Omega.{arith}
+use borrow.Author.Tests.{lt-ltb, eq-eqb, ne-eqb}
+use lib.Dec.{ltb}
+use lib.ListN.{length, take, length-map}
+use lib.IntN.{ℤ, pos}
+use lib.Signed.{ltZ}
+use Rattle.laws.specs.Lists.{_∈_, onLast}
+use Rattle.laws.specs.Whole.{equal as same}
+use Rattle.laws.proofs.Tests.{and-both, and-true}
+use Rattle.laws.proofs.Lists.{Same, Pairwise, Distinct, same-map, map-append, last-same}
+use Rattle.laws.proofs.Orders.{StrictTotal, one-way, ltb-strict}
+use Rattle.laws.proofs.Whole.{ltZ-strict, le-is, equal-is, equal-refl}
+use Rattle.search.specs.Best.{place}
+use Rattle.search.proofs.Best.{best-same, best-of, best-rule, best-cons, length-best}
+use Rattle.ranking.specs.Cells.{noRule, isNone, score, greater}
+use Rattle.ranking.specs.Standing.{Held, Entry, goesFirst, above, entry, entries, top, passes, hasPlace, placeBy}
+use Rattle.ranking.specs.declared.Rule.{Rule}
+use Rattle.ranking.proofs.Cells.{more, less, equal, Numbers, numbers, greater-by, less-by, greater-tie, greater-of, greater-strict}
+
+module _ (rule : Rule) where
+  -- ---- the rank order
+
+  pub first-strict : StrictTotal (goesFirst rule)
+  unfolding goesFirst
+  first-strict =
+      record {
+        irreflexive = ltb-strict .irreflexive;
+        transitive = λ x y z p q. ltb-strict .transitive z y x q p;
+        total = λ x y p q. ltb-strict .total x y q p;
+      }
+
+  -- entries are ranked strictly and totally
+  pub above-strict : StrictTotal (above rule)
+  unfolding above
+  above-strict =
+      greater-strict (λ (e : Entry). e .score) (λ e f. goesFirst rule (e .number) (f .number))
+      (record {
+        none = λ e. first-strict .irreflexive (e .number);
+        chain = λ d e f p q. first-strict .transitive (d .number) (e .number) (f .number) p q;
+        only-equal = λ e f p q r. both e f (first-strict .total (e .number) (f .number) q r) p;
+      })
+    where
+      both : (e f : Entry) → e .number ≡ f .number → e .score ≡ f .score → e ≡ f
+      both e f p q i = record { number = p i; score = q i }
+
+  -- a greater score ranks above, whatever the numbers
+  pub score-above : (e f : Entry) → ltZ (f .score) (e .score) ≡ true → above rule e f ≡ true
+  unfolding above
+  score-above e f h = greater-by (e .score) (f .score) (goesFirst rule (e .number) (f .number)) h
+
+  -- a lower one never does
+  pub score-below : (e f : Entry) → ltZ (e .score) (f .score) ≡ true → above rule e f ≡ false
+  unfolding above
+  score-below e f h = less-by (e .score) (f .score) (goesFirst rule (e .number) (f .number)) h
+
+  -- of equal ones the tie decides
+  pub score-tie : (e f : Entry) → e .score ≡ f .score → above rule e f ≡ goesFirst rule (e .number) (f .number)
+  unfolding above
+  score-tie e f h = greater-tie (e .score) (f .score) (goesFirst rule (e .number) (f .number)) h
+
+  -- what ranks above another has no lower score
+  pub above-score : (e f : Entry) → above rule e f ≡ true → (ltZ (f .score) (e .score) ≡ true) ⊎ (e .score ≡ f .score)
+  unfolding above
+  above-score e f h = go (greater-of (e .score) (f .score) (goesFirst rule (e .number) (f .number)) h)
+    where
+      go : (ltZ (f .score) (e .score) ≡ true) ⊎ ((e .score ≡ f .score) × (goesFirst rule (e .number) (f .number) ≡ true)) → (ltZ (f .score) (e .score) ≡ true) ⊎ (e .score ≡ f .score)
+      go (inl p) = inl p
+      go (inr p) = inr (p .0)
+
+  -- ---- entries
+
+  pub entries-none : entries rule [] ≡ []
+  unfolding entries
+  entries-none = refl
+
+  pub entries-one : (h : Held) → entries rule (h ∷ []) ≡ entry rule h ∷ []
+  unfolding entries
+  entries-one h = refl
+
+  pub entries-append : (xs ys : List Held) → entries rule (xs ++ ys) ≡ entries rule xs ++ entries rule ys
+  unfolding entries
+  entries-append xs ys = map-append (entry rule) xs ys
+
+  pub entries-in : {h : Held} {hs : List Held} → h ∈ hs → entry rule h ∈ entries rule hs
+  unfolding entries
+  entries-in m = Memᴰ·map (entry rule) m
+
+  pub entries-of : (hs : List Held) {e : Entry} → e ∈ entries rule hs → (h : Held) × (h ∈ hs) × (entry rule h ≡ e)
+  unfolding entries
+  entries-of hs m = Memᴰ·of-map (entry rule) hs m
+
+  pub entries-same : (l m : List Held) → Same l m → Same (entries rule l) (entries rule m)
+  unfolding entries
+  entries-same l m s = same-map (entry rule) l m s
+
+  -- reports of different numbers bring different entries
+  pub entries-distinct : (hs : List Held) → Pairwise (λ (g h : Held). g .number ≡ h .number → ⊥) hs → Distinct (entries rule hs)
+  unfolding entries
+  entries-distinct [] d = tt
+  entries-distinct (h ∷ hs) d = (
+    λ e m q.
+        let r = entries-of hs m in
+        d .0 (r .0) (r .1) (ap (λ (z : Entry). z .number) (q ∙ sym (r .2))),
+    entries-distinct hs (d .1),
+  )
+
+  pub length-entries : (hs : List Held) → length (entries rule hs) ≤ length hs
+  unfolding entries
+  length-entries hs = omega (arith, length-map hs (entry rule))
+
+  -- ---- the best k
+
+  pub top-same : (k : ℕ) (l m : List Held) → Same l m → top rule k l ≡ top rule k m
+  top-same k l m s = best-same (above rule) above-strict k (entries rule l) (entries rule m) (entries-same l m s)
+
+  -- each line is the entry of a report
+  pub top-of : (k : ℕ) (hs : List Held) {e : Entry} → e ∈ top rule k hs → (h : Held) × (h ∈ hs) × (entry rule h ≡ e)
+  top-of k hs {e} m = entries-of hs (best-of (above rule) above-strict k (entries rule hs) e m)
+
+  -- "the first min(k, reports held)"
+  pub length-top : (k : ℕ) (hs : List Held) → Pairwise (λ (g h : Held). g .number ≡ h .number → ⊥) hs → length (top rule k hs) ≡ min k (length hs)
+  unfolding entries
+  length-top k hs d = length-best (above rule) above-strict k (entries rule hs) (entries-distinct hs d) ∙ ap (min k) (length-map hs (entry rule))
+
+  -- there are no more of them
+  pub top-short : (k : ℕ) (hs : List Held) → Pairwise (λ (g h : Held). g .number ≡ h .number → ⊥) hs → length (top rule k hs) ≤ min k (length hs)
+  top-short k hs d = omega (arith, length-top k hs d)
+
+  -- ---- entering after all others
+
+  -- what passes, of a later number, ranks above
+  pub later-above : (e f : Entry) → f .number < e .number → passes rule (e .score) (f .score) ≡ above rule e f
+  unfolding above passes goesFirst
+  later-above e f h = sym (le-is (e .score) (f .score)) ∙ sym (go (numbers (e .score) (f .score)))
+    where
+      go : Numbers (e .score) (f .score) → greater (e .score) (f .score) (ltb (f .number) (e .number)) ≡ not (ltZ (e .score) (f .score))
+      go (more p) = greater-by (e .score) (f .score) (ltb (f .number) (e .number)) p ∙ sym (ap not (one-way ltZ ltZ-strict (f .score) (e .score) p))
+      go (less p) = less-by (e .score) (f .score) (ltb (f .number) (e .number)) p ∙ sym (ap not p)
+      go (equal p) =
+          greater-tie (e .score) (f .score) (ltb (f .number) (e .number)) p
+          ∙ lt-ltb (f .number) (e .number) h
+          ∙ sym (ap not (subst (λ z. ltZ z (f .score) ≡ false) (sym p) (ltZ-strict .irreflexive (f .score))))
+
+  -- so a place on the list is what the laws of best k ask
+  pub place-rule : (k : ℕ) (e : Entry) (l : List Entry) → ((f : Entry) → f ∈ l → f .number < e .number) → hasPlace rule k (length l) l (e .score) ≡ (ltb (length l) k || onLast (above rule e) l)
+  unfolding hasPlace
+  place-rule k e l newest =
+      ap (λ b. ltb (length l) k || b) (last-same (λ f. passes rule (e .score) (f .score)) (above rule e) l (λ f m. later-above e f (newest f m)))
+
+  module _ (k : ℕ) (h : Held) (hs : List Held) (newest : (g : Held) → g ∈ hs → g .number < h .number) where
+    older : (f : Entry) → f ∈ top rule k hs → f .number < h .number
+    older f m =
+        let r = top-of k hs m in
+        subst (λ (z : Entry). z .number < h .number) (r .2) (newest (r .0) (r .1))
+
+    new-one : entry rule h ∈ entries rule hs → ⊥
+    new-one m =
+        let r = entries-of hs m in
+        not-less (h .number) (subst (λ n. n < h .number) (ap (λ (z : Entry). z .number) (r .2)) (newest (r .0) (r .1)))
+      where
+        not-less : (n : ℕ) → n < n → ⊥
+        not-less n l = omega arith
+
+    -- a report that enters after all others is put in its rank and the list is cut to k where it has a place, and else nothing changes
+    pub top-enters : top rule k (h ∷ hs) ≡ cond (hasPlace rule k (length (top rule k hs)) (top rule k hs) (score rule (h .values))) (take k (place (above rule) (entry rule h) (top rule k hs))) (top rule k hs)
+    unfolding entries
+    top-enters =
+        best-rule (above rule) above-strict k (entry rule h) (entries rule hs) new-one
+        ∙ ap (λ b. cond b (take k (place (above rule) (entry rule h) (top rule k hs))) (top rule k hs))
+        (sym (place-rule k (entry rule h) (top rule k hs) older))
+
+  -- one report more, whether it has a place or not
+  pub top-cons : (k : ℕ) (h : Held) (hs : List Held) → top rule k (h ∷ hs) ≡ take k (place (above rule) (entry rule h) (top rule k hs))
+  unfolding entries
+  top-cons k h hs = best-cons (above rule) above-strict k (entry rule h) (entries rule hs)
+
+  -- ---- a place by the last entry's score
+
+  module _ (k len : ℕ) (s : ℤ) where
+    pub place-none : (last : ℤ) → len ≡ 0 → hasPlace rule k len [] s ≡ placeBy rule k len last s
+    unfolding hasPlace placeBy
+    place-none last e = rw (eq-eqb len 0 e)
+
+    pub place-last : (l : List Entry) (e : Entry) → 1 ≤ len → ((p : Entry → Bool) → onLast p l ≡ p e) → hasPlace rule k len l s ≡ placeBy rule k len (e .score) s
+    unfolding hasPlace placeBy
+    place-last l e some is =
+        let other : len ≡ 0 → ⊥ = λ z. absurd (omega arith) in
+        rw (ne-eqb len 0 other) (ap (λ b. ltb len k || b) (is (λ f. passes rule s (f .score))))
+
+    -- below the last entry of a full list there is no place
+    pub no-place : (l : List Entry) → ltb len k ≡ false → onLast (λ e. passes rule s (e .score)) l ≡ false → hasPlace rule k len l s ≡ false
+    unfolding hasPlace
+    no-place l full low = rw (full, low)
+
+-- ---- the rule of an empty slot
+
+pub none-is : (rule : Rule) → isNone rule ≡ true → rule ≡ noRule
+unfolding isNone
+none-is rule h =
+    let both = and-both (same (rule .weights .loss) (pos 0)) (same (rule .weights .shake) (pos 0)) h in
+    ap₂ (λ a b. record { weights = record { loss = a; shake = b } }) (equal-is _ _ (both .0)) (equal-is _ _ (both .1))
+
+pub is-none : isNone noRule ≡ true
+unfolding isNone
+is-none = and-true (equal-refl (pos 0)) (equal-refl (pos 0))

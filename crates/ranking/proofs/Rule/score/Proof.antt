@@ -1,0 +1,59 @@
+-- The score is the sum of its two parts, and fits since each value counts by its low 12 bits.
+-- Assumes nothing.
+use mathlib.Core.Path.{_≡_, ap, ap₂, _∙_}
+use borrow.Author.Needs.{needs}
+use lib.IntN.{pos, _+ℤ_, _*ℤ_}
+use mir.Facts.{toZ-ofZ}
+use mir.Syntax.{w16, w32}
+use mir.Val.{SFits, toZ, ofZ}
+use Rattle.laws.proofs.Words.{kept}
+use Rattle.values.specs.declared.Values.{Values}
+use Rattle.values.specs.Range.{low}
+use Rattle.values.proofs.Facts.{low-in}
+use Rattle.ranking.specs.Cells.{score}
+use Rattle.ranking.specs.declared.Rule.{Rule}
+use Rattle.ranking.proofs.Cells.{word-fits}
+use Rattle.ranking.proofs.Rule.score.Statement.{statement}
+use Rattle.ranking.proofs.Rule.score.Tie as tie
+
+module _ (c : tie.After-part2) where
+  rule : Rule
+  rule = c .before .before .before .before .before .args .self
+
+  counted : Values
+  counted = low (c .before .before .before .before .before .args .values)
+
+  loss-weight : SFits w16 (rule .weights .loss)
+  unfolding rule
+  loss-weight = record { sfits = c .before .before .before .struct-told .given .0 .1 }
+
+  shake-weight : SFits w16 (rule .weights .shake)
+  unfolding rule
+  shake-weight = record { sfits = c .before .before .before .struct-told .given .1 .0 .1 }
+
+  sum : toZ w32 (ofZ w32 (c .before .before .part .result)) +ℤ toZ w32 (ofZ w32 (c .part2 .result)) ≡ score rule counted
+  unfolding rule counted score
+  sum =
+      ap₂ (λ x y. x +ℤ y)
+      (kept w32 (c .before .before .part .result) (c .before .before .part .ok) ∙ c .before .before .part .ensures ∙ ap (λ z. z *ℤ pos (counted .loss)) (toZ-ofZ loss-weight))
+      (kept w32 (c .part2 .result) (c .part2 .ok) ∙ c .part2 .ensures ∙ ap (λ z. z *ℤ pos (counted .shake)) (toZ-ofZ shake-weight))
+
+  fits : SFits w32 (score rule counted)
+  unfolding counted
+  fits = word-fits rule counted loss-weight shake-weight (low-in _)
+
+part-requires : tie.Need-part-requires
+part-requires c κs = search needs
+
+part-requires-2 : tie.Need-part-requires-2
+part-requires-2 c κs = search needs
+
+add-result : tie.Need-add-result
+add-result c = rw (sum c) (fits c)
+
+returns : tie.Need-returns
+unfolding rule counted
+returns c = rw (sum c) (toZ-ofZ (fits c))
+
+pub score-spec : {M : Type 1} → statement M
+score-spec = tie.close (tie.spec part-requires part-requires-2 add-result returns)
