@@ -1,6 +1,7 @@
 // The reader of captures: the text of `candump -L` on standard input, the log items of its frames on standard output. Frames that a
 // log does not hold are counted, and a broken line is named, on standard error.
 use capture::Sort;
+use items::Item;
 use libc::STDERR_FILENO;
 use libc::STDIN_FILENO;
 use libc::STDOUT_FILENO;
@@ -153,7 +154,7 @@ fn read(fits: bool, line: &[u8]) -> Taken {
             going: true,
         };
     }
-    let mut room = [0u8; Sort::ITEM];
+    let mut room = [0u8; Item::FRAME_BYTES];
     let sort = capture::write(line, &mut room);
     let mut going = true;
     if let Sort::Frame = sort {
