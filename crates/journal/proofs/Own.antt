@@ -3,14 +3,13 @@
 -- Assumes nothing.
 use mathlib.Core.Path.{_≡_, refl, sym, ap, _∙_, subst}
 use mathlib.Core.Logic.{inl}
-use mathlib.Core.Bool.{Bool, true, false, cond, _&&_}
+use mathlib.Core.Bool.{Bool, true, false, cond, _&&_, false≢true}
 use mathlib.Core.List.{List, [], _∷_, _++_, append-nil}
 use Prim.Native.Nat.{ℕ, _≤_, _<_}
 use native.Mathlib.Omega.{arith}
 use borrow.Author.Tests.{eqb-true, eqb-false, ne-eqb}
 use lib.Dec.{eqb, ltb, leb}
 use lib.ListN.{length, getD, take, length-map, length-take, getD-replicate}
-use Rattle.wire.specs.Bytes.{number, part}
 use Rattle.ranking.specs.Cells.{inRange}
 use Rattle.ranking.specs.declared.Weights.{Weights}
 use Rattle.ranking.proofs.Tests.{Tested, passed, failed, tested, and-both}
@@ -51,9 +50,14 @@ use Rattle.joining.proofs.Driving.{sessions-more}
 use Rattle.text.specs.Text.{sLine, qLine}
 use Rattle.text.specs.Text as text
 use Rattle.text.proofs.Lengths.{listed-in-range}
+use Rattle.items.specs.declared.Setting.{Setting}
+use Rattle.items.specs.declared.Item.{Item}
+use Rattle.items.specs.declared.Item.the-variants.{Window, Set, Remove, Show, Unknown}
+use Rattle.items.specs.declared.Item.the-variants as item
+use Rattle.items.specs.Items.{dataIn, itemIn}
 use Rattle.journal.specs.declared.Log.{Log}
-use Rattle.journal.specs.Log.{Outcome, freshLog, counted, nextItem, withBoard, withSessions, quiet, unless, known, itemRefusal, windowItem, weightsIn, setItem, removeItem, showItem, sLines, enterItem, answered, frameIn, frameItem, byTag, itemDone}
-use Rattle.journal.specs.Reached.{frameOf, enteredBy}
+use Rattle.journal.specs.Log.{Outcome, freshLog, counted, nextItem, withBoard, withSessions, quiet, unless, early, itemRefusal, windowItem, weightsOf, setItem, removeItem, showItem, sLines, enterItem, answered, frameItem, byItem, itemDone}
+use Rattle.journal.specs.Reached.{framed, frameOf, enteredBy}
 use Rattle.journal.proofs.Printed.{Prints, nothing, refusal, search, searches, list}
 use Rattle.journal.proofs.Answers.{either, Fine, answer-fine, none-yet, answer, nothing-more, one-more, enter-refusal, enters-when}
 use Rattle.journal.proofs.Shown.{Small, slot-small, searched-few, entering-few, map-few}
@@ -98,17 +102,17 @@ pub fresh-empty : (n slot : ℕ) → slot < 32 → slotAt (freshBoard n .board) 
 unfolding freshBoard
 fresh-empty n slot h = getD-replicate 32 slot emptySlot noQuestion h
 
-window-does : {fs : List Frame} (log : Log) → Own fs log → fs ≡ [] → (v : List ℕ) → Does fs (log .items) (windowItem log v)
+window-does : {fs : List Frame} (log : Log) → Own fs log → fs ≡ [] → (n : ℕ) → Does fs (log .items) (windowItem log n)
 unfolding windowItem
-window-does {fs} log own first v = go (tested (eqb (made .refusal) 0))
+window-does {fs} log own first n = go (tested (eqb (made .refusal) 0))
   where
     made : NewBoard
-    made = freshBoard (number (part 0 2 v))
+    made = freshBoard n
 
     left : made .refusal ≡ 0 → Boarded fs (made .board)
     left e = window (board.fresh e) (reached-fit (board.fresh e) (λ slot h. inl (fresh-empty _ slot h))) (sym (ap enteredBy first ∙ none-yet))
 
-    go : Tested (eqb (made .refusal) 0) → Does fs (log .items) (windowItem log v)
+    go : Tested (eqb (made .refusal) 0) → Does fs (log .items) (windowItem log n)
     go (passed t) = does log (made .refusal) t (record { own = record { board-is = left (eqb-true _ 0 t); heard = own .heard }; prints = nothing refl })
     go (failed t) = refuses log (made .refusal) _ own (fresh-code _) t
 
@@ -178,18 +182,18 @@ module _ (fs : List Frame) (log : Log) (heard : log .sessions ≡ sessionsAt fre
   owns : {c : Board} → Boarded fs c → Own fs (withBoard log c)
   owns is = record { board-is = is; heard = heard }
 
-  set-does : (v : List ℕ) → Boarded fs (setWork b (getD v 0 0) (getD v 1 0) (weightsIn v) .board) → Does fs (log .items) (setItem log v)
+  set-does : (s : Setting) → Boarded fs (setWork b (s .slot) (s .k) (weightsOf s) .board) → Does fs (log .items) (setItem log s)
   unfolding setItem setWork
-  set-does v = go (tested (eqb (setRefusal b slot k ws) 0))
+  set-does s = go (tested (eqb (setRefusal b slot k ws) 0))
     where
       slot : ℕ
-      slot = getD v 0 0
+      slot = s .slot
 
       k : ℕ
-      k = getD v 1 0
+      k = s .k
 
       ws : Weights
-      ws = weightsIn v
+      ws = weightsOf s
 
       P : Placed → Type 0
       P r = Boarded fs (r .board) → Does fs (log .items) (unless log (r .refusal) (record { text = sLine (log .items) slot (r .steps); log = withBoard log (r .board) }))
@@ -202,16 +206,16 @@ module _ (fs : List Frame) (log : Log) (heard : log .sessions ≡ sessionsAt fre
           (record { own = owns is; prints = search slot _ (settable b slot k ws (eqb-true _ 0 t) .there) (searched-few (asked k ws [] 0) (b .window)) refl }))
       go (failed t) = subst P (sym (if-not _ _ t)) (λ is. refuses log (setRefusal b slot k ws) _ (owns is) (set-code b slot k ws) t)
 
-  remove-does : (v : List ℕ) → Boarded fs (removeWork b (getD v 0 0) .board) → Does fs (log .items) (removeItem log v)
+  remove-does : (slot : ℕ) → Boarded fs (removeWork b slot .board) → Does fs (log .items) (removeItem log slot)
   unfolding removeItem removeWork
-  remove-does v = go (tested (eqb (slotRefusal b (getD v 0 0)) 0))
+  remove-does slot = go (tested (eqb (slotRefusal b slot) 0))
     where
       P : Removed → Type 0
       P r = Boarded fs (r .board) → Does fs (log .items) (unless log (r .refusal) (quiet (withBoard log (r .board))))
 
-      go : Tested (eqb (slotRefusal b (getD v 0 0)) 0) → P (removeWork b (getD v 0 0))
+      go : Tested (eqb (slotRefusal b slot) 0) → P (removeWork b slot)
       go (passed t) = subst P (sym (if-so _ _ t)) (λ is. does log 0 refl (record { own = owns is; prints = nothing refl }))
-      go (failed t) = subst P (sym (if-not _ _ t)) (λ is. refuses log (slotRefusal b (getD v 0 0)) _ (owns is) (slot-code b (getD v 0 0)) t)
+      go (failed t) = subst P (sym (if-not _ _ t)) (λ is. refuses log (slotRefusal b slot) _ (owns is) (slot-code b slot) t)
 
   enter-does : length (b .slots) ≡ 32 → (loss shake : ℕ) → Boarded fs (enterWork b loss shake .board) → Does fs (log .items) (enterItem log loss shake)
   unfolding enterItem enterWork
@@ -234,13 +238,10 @@ module _ (fs : List Frame) (log : Log) (heard : log .sessions ≡ sessionsAt fre
           }))
       go (failed t) = subst P (sym (if-not _ _ t)) (λ is. refuses log (enterRefusal (b .window .entered) loss shake) _ (owns is) (enter-code (b .window .entered) loss shake) t)
 
-  show-does : (v : List ℕ) → Boarded fs b → ((slot : ℕ) → slot < 32 → Small (slotAt b slot)) → Does fs (log .items) (showItem log v)
+  show-does : (slot : ℕ) → Boarded fs b → ((slot : ℕ) → slot < 32 → Small (slotAt b slot)) → Does fs (log .items) (showItem log slot)
   unfolding showItem readWork
-  show-does v is each = go (tested (eqb (slotRefusal b slot) 0))
+  show-does slot is each = go (tested (eqb (slotRefusal b slot) 0))
     where
-      slot : ℕ
-      slot = getD v 0 0
-
       P : Shown → Type 0
       P r = Does fs (log .items) (unless log (r .refusal) (record { text = qLine slot (take (r .len) (text.listed (r .numbers) (r .scores))); log = log }))
 
@@ -267,33 +268,34 @@ module _ (fs : List Frame) (f : Frame) (log : Log) (heard : log .sessions ≡ se
       enter-does (fs ++ f ∷ []) log heard (kept reached .many) (r .loss) (r .shake) (enter-board (log .board) reached fits fs same f r e (h .0) (h .1))
 
 frame-does : (fs : List Frame) (log : Log) → log .sessions ≡ sessionsAt freshSessions fs → {n : ℕ} {past : List Values} → board.Reached n past (log .board) → fitBoard (log .board) ≡ true
-    → past ≡ enteredBy fs → (v : List ℕ) → Does (fs ++ frameIn v ∷ []) (log .items) (frameItem log v)
+    → past ≡ enteredBy fs → (f : Frame) → Does (fs ++ f ∷ []) (log .items) (frameItem log f)
 unfolding frameItem answer
-frame-does fs log heard reached fits same v =
-    let f = frameIn v in
+frame-does fs log heard reached fits same f =
     answered-does fs f (withSessions log (sessionsAfter (log .sessions) f)) (ap (λ (ss : List Session). sessionsAfter ss f) heard ∙ sym (sessions-more freshSessions fs f)) reached fits same
     (answerTo (log .sessions) f) (ap (λ (ss : List Session). answerTo ss f) (sym heard)) (answer-fine fs (log .sessions) heard f)
 
 -- ---- an item
 
 -- An item that passes is the window's where there is none yet, and any other where there is one.
-placed : (log : Log) (tag size : ℕ) → itemRefusal log tag size ≡ 0 → eqb (log .board .window .size) 0 ≡ eqb tag 16
-unfolding itemRefusal
-placed log tag size = go (known tag size) (eqb tag 16) (eqb (log .board .window .size) 0)
-  where
-    go : (k t z : Bool) → _≡_ {A = ℕ} (cond k (cond t (cond z 0 23) (cond z 23 0)) 22) 0 → z ≡ t
-    go false t z e = absurd (omega arith)
-    go true true true e = refl
-    go true true false e = absurd (omega arith)
-    go true false true e = absurd (omega arith)
-    go true false false e = refl
+first-one : (z : Bool) → _≡_ {A = ℕ} (cond z 0 23) 0 → z ≡ true
+first-one true e = refl
+first-one false e = absurd (omega arith)
 
-item-code : (log : Log) (tag size : ℕ) → itemRefusal log tag size ≤ 23
+later-one : (z : Bool) → _≡_ {A = ℕ} (cond z 23 0) 0 → z ≡ false
+later-one true e = absurd (omega arith)
+later-one false e = refl
+
+early-code : (log : Log) → early log ≤ 23
+early-code log = code (eqb (log .board .window .size) 0) 0 {x = 23} (omega arith) (omega arith)
+
+item-code : (log : Log) (i : Item) → itemRefusal log i ≤ 23
 unfolding itemRefusal
-item-code log tag size =
-    let z = eqb (log .board .window .size) 0 in
-    code (known tag size) 22 (omega arith)
-    (either (λ (m : ℕ). m ≤ 23) (eqb tag 16) (λ t. code z 23 {x = 0} (omega arith) (omega arith)) (λ t. code z 0 {x = 23} (omega arith) (omega arith)))
+item-code log Unknown = omega arith
+item-code log (Window n) = code (eqb (log .board .window .size) 0) 23 {x = 0} (omega arith) (omega arith)
+item-code log (Set s) = early-code log
+item-code log (item.Frame id) = early-code log
+item-code log (Remove slot) = early-code log
+item-code log (Show slot) = early-code log
 
 pub no-window : freshBoard 0 .board .window .size ≡ 0
 unfolding freshBoard freshWindow
@@ -306,39 +308,36 @@ has-window b fits =
     let ranges = fit-facts (b .window) (and-both (fitWindow (b .window)) (allOf (slotFit (b .window)) (b .slots)) fits .0) .ranges in
     ne-eqb (b .window .size) 0 (λ e. omega (arith, ranges .ring .some))
 
-module _ (fs : List Frame) (log : Log) (own : Own fs log) (tag : ℕ) (v : List ℕ) where
-  -- The frames after an item that passes.
-  after : List Frame
-  after = fs ++ cond (eqb tag 18) (frameIn v ∷ []) []
-
-  no-frame : {o : Outcome} → eqb tag 18 ≡ false → Does fs (log .items) o → Does after (log .items) o
-  unfolding after
-  no-frame {o} e d = subst (λ gs. Does gs (log .items) o) (sym (ap (λ t. fs ++ cond t (frameIn v ∷ []) []) e ∙ append-nil fs)) d
-
-  other : (n : ℕ) → eqb n 18 ≡ false → eqb tag n ≡ true → eqb tag 18 ≡ false
-  other n e t = ap (λ m. eqb m 18) (eqb-true tag n t) ∙ e
-
-  by-tag-does : eqb (log .board .window .size) 0 ≡ eqb tag 16 → Does after (log .items) (byTag log tag v)
-  unfolding byTag after
-  by-tag-does place = go (own .board-is)
+module _ (fs : List Frame) (log : Log) (own : Own fs log) where
+  -- Where there is a window, the board is one that the board's calls lead to.
+  standing : {P : Type 0} → early log ≡ 0
+      → ((n : ℕ) (past : List Values) → board.Reached n past (log .board) → fitBoard (log .board) ≡ true → past ≡ enteredBy fs → P) → P
+  standing {P} passes each = go (own .board-is)
     where
-      A : Outcome → Type 0
-      A o = Does after (log .items) o
-
-      go : Boarded fs (log .board) → A (byTag log tag v)
+      go : Boarded fs (log .board) → P
       go (none first e) =
-          let t : eqb tag 16 ≡ true = sym place ∙ ap (λ (b : Board). eqb (b .window .size) 0) e ∙ ap (λ m. eqb m 0) no-window in
-          subst A (sym (if-so _ _ t)) (no-frame (other 16 refl t) (window-does log own first v))
-      go (window r fits same) =
-          subst A (sym (if-not _ _ (sym place ∙ has-window (log .board) fits)))
-          (either A (eqb tag 17) (λ t. no-frame (other 17 refl t) (set-does fs log (own .heard) v (set-board (log .board) r fits fs same _ _ _)))
-          (λ t.
-          either A (eqb tag 18)
-          (λ u. subst (λ gs. Does gs (log .items) (frameItem log v)) (ap (λ x. fs ++ cond x (frameIn v ∷ []) []) (sym u)) (frame-does fs log (own .heard) r fits same v))
-          (λ u.
-          no-frame u
-          (either (Does fs (log .items)) (eqb tag 19) (λ x. remove-does fs log (own .heard) v (remove-board (log .board) r fits fs same _))
-          (λ x. show-does fs log (own .heard) v (own .board-is) (slots-small (log .board) r fits))))))
+          absurd (false≢true (sym (later-one _ passes) ∙ ap (λ (b : Board). eqb (b .window .size) 0) e ∙ ap (λ m. eqb m 0) no-window))
+      go (window {n} {past} r fits same) = each n past r fits same
+
+  -- And before there is one, no frame has been taken.
+  not-yet : eqb (log .board .window .size) 0 ≡ true → fs ≡ []
+  not-yet z = go (own .board-is)
+    where
+      go : Boarded fs (log .board) → fs ≡ []
+      go (none first e) = first
+      go (window r fits same) = absurd (false≢true (sym (has-window (log .board) fits) ∙ z))
+
+  no-frame : {o : Outcome} → Does fs (log .items) o → Does (fs ++ []) (log .items) o
+  no-frame {o} d = subst (λ gs. Does gs (log .items) o) (sym (append-nil fs)) d
+
+  by-item-does : (i : Item) (ds : List ℕ) → itemRefusal log i ≡ 0 → Does (fs ++ framed i ds) (log .items) (byItem log i ds)
+  unfolding itemRefusal byItem
+  by-item-does Unknown ds passes = absurd (omega arith)
+  by-item-does (Window n) ds passes = no-frame (window-does log own (not-yet (first-one _ passes)) n)
+  by-item-does (Set s) ds passes = standing passes (λ n past r fits same. no-frame (set-does fs log (own .heard) s (set-board (log .board) r fits fs same (s .slot) (s .k) (weightsOf s))))
+  by-item-does (item.Frame id) ds passes = standing passes (λ n past r fits same. frame-does fs log (own .heard) r fits same (record { identifier = id; data-bytes = ds }))
+  by-item-does (Remove slot) ds passes = standing passes (λ n past r fits same. no-frame (remove-does fs log (own .heard) slot (remove-board (log .board) r fits fs same slot)))
+  by-item-does (Show slot) ds passes = standing passes (λ n past r fits same. no-frame (show-does fs log (own .heard) slot (own .board-is) (slots-small (log .board) r fits)))
 
 pub fresh-own : Own [] freshLog
 unfolding freshLog sessionsAt
@@ -346,11 +345,14 @@ fresh-own = record { board-is = none refl refl; heard = refl }
 
 -- Every item keeps what the log holds its own, and prints what an item can print.
 pub item-does : (fs : List Frame) (log : Log) → Own fs log → (tag : ℕ) (v : List ℕ) → Does (fs ++ frameOf log tag v) (nextItem (log .items)) (itemDone log tag v)
-unfolding itemDone after
+unfolding itemDone
 item-does fs log own tag v = go (tested (eqb code-of 0))
   where
+    i : Item
+    i = itemIn tag v
+
     code-of : ℕ
-    code-of = itemRefusal (counted log) tag (length v)
+    code-of = itemRefusal (counted log) i
 
     more : Own fs (counted log)
     more = record { board-is = own .board-is; heard = own .heard }
@@ -359,7 +361,7 @@ item-does fs log own tag v = go (tested (eqb code-of 0))
     A gs = Does gs (nextItem (log .items)) (itemDone log tag v)
 
     go : Tested (eqb code-of 0) → A (fs ++ frameOf log tag v)
-    go (failed t) = subst A (sym (ap (λ x. fs ++ cond (x && eqb tag 18) (frameIn v ∷ []) []) t ∙ append-nil fs)) (refuses (counted log) code-of _ more (item-code (counted log) tag (length v)) t)
+    go (failed t) = subst A (sym (ap (λ x. fs ++ cond x (framed i (dataIn v)) []) t ∙ append-nil fs)) (refuses (counted log) code-of _ more (item-code (counted log) i) t)
     go (passed t) =
-        subst A (sym (ap (λ x. fs ++ cond (x && eqb tag 18) (frameIn v ∷ []) []) t))
-        (does (counted log) code-of t (by-tag-does fs (counted log) more tag v (placed (counted log) tag (length v) (eqb-true _ 0 t))))
+        subst A (sym (ap (λ x. fs ++ cond x (framed i (dataIn v)) []) t))
+        (does (counted log) code-of t (by-item-does fs (counted log) more i (dataIn v) (eqb-true _ 0 t)))

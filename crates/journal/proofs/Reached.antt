@@ -7,7 +7,7 @@ use mathlib.Core.Bool.{true, false}
 use mathlib.Core.List.{List, [], _∷_, map}
 use Prim.Native.Nat.{ℕ, zero, suc, _-_, _^_, _≤_, _<_}
 use native.Mathlib.Omega.{arith}
-use borrow.Author.Tests.{lt-ltb, ne-eqb}
+use borrow.Author.Tests.{lt-ltb, ne-eqb, eqb-false}
 use lib.Dec.{eqb}
 use lib.IntN.{ℤ}
 use lib.ListN.{length, take}
@@ -32,10 +32,11 @@ use Rattle.joining.specs.declared.Session.{Session}
 use Rattle.joining.proofs.Reached.{reached-fit}
 use Rattle.text.specs.Text.{Entry, rLine, qLine, listed}
 use Rattle.journal.specs.declared.Log.{Log}
-use Rattle.journal.specs.Log.{nextItem, itemDone, itemRefusal, known, byTag, showItem, unless}
+use Rattle.journal.specs.Log.{Outcome, nextItem, itemDone, showItem, unless}
 use Rattle.journal.specs.Reached.{Reached, fresh, item, framesOf, enteredBy, shownAs}
 use Rattle.journal.proofs.Printed.{at-most, never-24}
 use Rattle.journal.proofs.Answers.{none-yet}
+use Rattle.journal.proofs.Items.{show-done}
 use Rattle.journal.proofs.Own.{Own, Boarded, none, window, fresh-own, item-does, fresh-empty, no-window, has-window, slot-ended}
 
 pub own : {log : Log} → (r : Reached log) → Own (framesOf r) log
@@ -64,8 +65,9 @@ shown-lines (suc n) (x ∷ ns) (s ∷ ss) = ap (λ (l : List Entry). record { nu
 
 show-text : (log : Log) (slot : ℕ) → eqb (log .board .window .size) 0 ≡ false → slot < 32 → (slotAt (log .board) slot .k ≡ 0 → ⊥)
     → itemDone log 20 (slot ∷ []) .text ≡ qLine slot (take (slotAt (log .board) slot .len) (listed (slotAt (log .board) slot .numbers) (slotAt (log .board) slot .scores)))
-unfolding itemDone itemRefusal known byTag showItem readWork slotRefusal unless
-show-text log slot there h used = rw (there, lt-ltb slot 32 h, ne-eqb (slotAt (log .board) slot .k) 0 used)
+unfolding showItem readWork slotRefusal unless
+show-text log slot there h used =
+    ap (λ (o : Outcome). o .text) (show-done log (eqb-false (log .board .window .size) 0 there) slot) ∙ rw (lt-ltb slot 32 h, ne-eqb (slotAt (log .board) slot .k) 0 used)
 
 module _ {log : Log} (reached : Reached log) where
   -- `Waiting::MOST`: what any next item prints.

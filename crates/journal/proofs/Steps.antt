@@ -4,8 +4,6 @@ use mathlib.Core.Path.{_≡_, refl, sym, ap, _∙_, subst}
 use mathlib.Core.Bool.{true, false}
 use mathlib.Core.List.{List}
 use Prim.Native.Nat.{ℕ, _<_}
-use borrow.Author.Tests.{ne-eqb}
-use lib.Dec.{eqb}
 use lib.ListN.{length, getD}
 use Rattle.window.specs.Rows.{added}
 use Rattle.board.specs.Work.{slotAt, setRefusal, enterRefusal, setWork}
@@ -20,23 +18,15 @@ use Rattle.joining.specs.Run.{sessionsAfter, answerTo}
 use Rattle.joining.specs.declared.Answer.the-variants.{Complete}
 use Rattle.text.specs.Text.{sLine}
 use Rattle.journal.specs.declared.Log.{Log}
-use Rattle.journal.specs.Log.{Outcome, nextItem, counted, withBoard, withSessions, unless, known, itemRefusal, weightsIn, setItem, sLines, enterItem, answered, frameIn, frameItem, byTag, itemDone}
+use Rattle.journal.specs.Log.{Outcome, nextItem, counted, withBoard, withSessions, unless, weightsIn, setItem, sLines, enterItem, answered, frameIn, frameItem, itemDone}
 use Rattle.journal.specs.Reached.{Reached}
 use Rattle.journal.proofs.Answers.{enter-refusal}
+use Rattle.journal.proofs.Items.{set-done, frame-done}
 use Rattle.journal.proofs.Reached.{log-board, same-answers}
-
--- An item that isn't refused before its call.
-passes : (log : Log) (tag : ℕ) (v : List ℕ) → itemRefusal (counted log) tag (length v) ≡ 0 → itemDone log tag v ≡ byTag (counted log) tag v
-unfolding itemDone unless
-passes log tag v e = zero-is _ _ e
 
 module _ {log : Log} (reached : Reached log) (there : log .board .window .size ≡ 0 → ⊥) (v : List ℕ) where
   abbrev b : Board
   b = log .board
-
-  no-refusal : (tag size : ℕ) → known tag size ≡ true → eqb tag 16 ≡ false → length v ≡ size → itemRefusal (counted log) tag (length v) ≡ 0
-  unfolding itemRefusal
-  no-refusal tag size k t e = rw (e, k, t, ne-eqb (b .window .size) 0 there)
 
   -- ---- setting
 
@@ -50,11 +40,11 @@ module _ {log : Log} (reached : Reached log) (there : log .board .window .size �
   module _ (six : length v ≡ 6) (taken : setRefusal b slot (getD v 1 0) (weightsIn v) ≡ 0) where
     -- It prints the steps of its search.
     pub set-prints : itemDone log 17 v ≡ record { text = sLine (nextItem (log .items)) slot (placed .steps); log = withBoard (counted log) (placed .board) }
-    unfolding byTag setItem setWork unless known
+    unfolding setItem setWork unless
     set-prints =
         let done : Placed → Outcome = λ r. record { text = sLine (nextItem (log .items)) slot (r .steps); log = withBoard (counted log) (r .board) } in
         let work = zero-is _ _ taken in
-        passes log 17 v (no-refusal 17 6 refl refl six) ∙ ap (λ (r : Placed). unless (counted log) (r .refusal) (done r)) work
+        set-done log there v six ∙ ap (λ (r : Placed). unless (counted log) (r .refusal) (done r)) work
         ∙ sym (ap done (same-answers reached there .set slot (getD v 1 0) (weightsIn v) ∙ work))
 
     -- And that search is exact.
@@ -77,11 +67,11 @@ module _ {log : Log} (reached : Reached log) (there : log .board .window .size �
           text = sLines (nextItem (log .items)) 0 (entered .searched) (entered .steps);
           log = withBoard (withSessions (counted log) (sessionsAfter (log .sessions) (frameIn v))) (entered .board);
         }
-    unfolding byTag frameItem enterItem unless known
+    unfolding frameItem enterItem unless
     enter-prints =
         let next = withSessions (counted log) (sessionsAfter (log .sessions) (frameIn v)) in
         let done : Entered → Outcome = λ x. record { text = sLines (nextItem (log .items)) 0 (x .searched) (x .steps); log = withBoard next (x .board) } in
-        passes log 18 v (no-refusal 18 12 refl refl twelve) ∙ ap (answered next) completes
+        frame-done log there v twelve ∙ ap (answered next) completes
         ∙ zero-is _ _ (enter-refusal b (r .loss) (r .shake) ∙ taken)
         ∙ sym (ap done (same-answers reached there .enter (r .loss) (r .shake)))
 

@@ -1,9 +1,12 @@
 -- Which logs are reached (document 01, "Refusal numbers": "states reached from fresh ones"), by which frames, and what these entered.
 use Prim.Native.Nat.{ℕ}
-use mathlib.Core.Bool.{cond, _&&_}
+use mathlib.Core.Bool.{cond}
 use mathlib.Core.List.{List, [], _∷_, _++_, map}
-use lib.ListN.{length, take}
+use lib.ListN.{take}
 use lib.Dec.{eqb}
+use Rattle.items.specs.declared.Item.{Item}
+use Rattle.items.specs.declared.Item.the-variants as said
+use Rattle.items.specs.Items.{dataIn, itemIn}
 use Rattle.ranking.specs.Standing as ranked
 use Rattle.window.specs.History.{Values}
 use Rattle.text.specs.Text.{Entry}
@@ -12,16 +15,25 @@ use Rattle.joining.specs.Run.{freshSessions, answersAt}
 use Rattle.joining.specs.declared.Answer.{Answer}
 use Rattle.joining.specs.declared.Answer.the-variants.{Refused, Kept, Complete}
 use Rattle.journal.specs.declared.Log.{Log}
-use Rattle.journal.specs.Log.{freshLog, counted, itemRefusal, frameIn, itemDone}
+use Rattle.journal.specs.Log.{freshLog, counted, itemRefusal, itemDone}
 
 -- A fresh one, and what any whole item of any tag leaves of a reached one, also where it is skipped.
 pub data Reached : Log → Type 0 where
   fresh : Reached freshLog
   item : {log : Log} → Reached log → (tag : ℕ) (v : List ℕ) → Reached (itemDone log tag v .log)
 
+-- The frame that an item is, if it is one, with its data bytes beside it.
+abbrev pub framed : Item → List ℕ → List Frame
+framed (said.Frame id) ds = record { identifier = id; data-bytes = ds } ∷ []
+framed (said.Window n) ds = []
+framed (said.Set s) ds = []
+framed (said.Remove slot) ds = []
+framed (said.Show slot) ds = []
+framed said.Unknown ds = []
+
 -- The frame of an item that isn't skipped, if it is one.
 abbrev pub frameOf : Log → ℕ → List ℕ → List Frame
-frameOf log tag v = cond (eqb (itemRefusal (counted log) tag (length v)) 0 && eqb tag 18) (frameIn v ∷ []) []
+frameOf log tag v = cond (eqb (itemRefusal (counted log) (itemIn tag v)) 0) (framed (itemIn tag v) (dataIn v)) []
 
 -- The frames of all items that led to a log, in their order.
 abbrev pub framesOf : {log : Log} → Reached log → List Frame
