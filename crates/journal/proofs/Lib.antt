@@ -2,6 +2,7 @@
 pub mod Calls
 pub mod Searches
 pub mod Frames
+pub mod Items
 pub mod Cutting
 pub mod Outcomes
 pub mod Printed
