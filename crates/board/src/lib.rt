@@ -342,9 +342,10 @@ impl Arrival {
                 oldest: 0,
             };
         }
+        let number = counts.entered + 1;
         Arrival {
             refusal: 0,
-            number: counts.entered + 1,
+            number,
             oldest: leaving(counts),
         }
     }

@@ -3,6 +3,7 @@ pub mod Placed
 pub mod Sliding
 pub mod Placing
 pub mod Walking
+pub mod Blank
 pub mod Bars
 pub mod Gathering
 pub mod Outcomes

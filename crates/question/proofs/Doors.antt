@@ -1,49 +1,47 @@
 -- What a step and a beginning answer, case by case in the order of refusals, and that the rows of a fit window serve as its held reports.
 -- Assumes nothing.
 use mathlib.Core.Path.{_≡_, refl, sym, ap, _∙_, subst}
-use mathlib.Core.Logic.{⊎-elim}
 use mathlib.Core.Bool.{Bool, true, false, _&&_, and-false}
-use mathlib.Core.List.{List, map, _++_, Memᴰ·append-left, Memᴰ·append-right, Memᴰ·map, Memᴰ·of-map, List·Memᴰ·append-cases}
+use mathlib.Core.List.{List, _++_}
 use Prim.Native.Nat.{ℕ, _+_, min, _≤_, _<_}
 use native.Mathlib.Omega.{arith}
 use borrow.Author.Tests.{leb-true, leb-false}
-use lib.Dec.{leb, eqb}
+use lib.Dec.{leb}
 use lib.ListN.{drop}
 use Rattle.laws.specs.Lists.{only}
-use Rattle.ranking.specs.Cells.{cell, placeOf, cellAt}
-use Rattle.values.specs.Range.{inRange}
-use Rattle.ranking.specs.Standing.{Held, Entry, above, entry}
+use Rattle.laws.proofs.Lists.{_⊆_, Same, only-in, only-of}
 use Rattle.laws.proofs.Tests.{Tested, passed, failed, tested, clash, and-both}
-use Rattle.laws.proofs.Lists.{_⊆_, Same, moved, only-in, only-of}
 use Rattle.search.proofs.Best.{best-same}
-use Rattle.ranking.proofs.Entries.{above-strict}
+use Rattle.ranking.specs.Cells.{fitRule, placeOf, cellAt}
+use Rattle.ranking.specs.Standing.{Held, Entry, above, entries}
+use Rattle.ranking.proofs.Entries.{above-strict, entries-same}
 use Rattle.window.specs.declared.Window.{Window}
 use Rattle.window.specs.Rows.{heldReports, fitWindow}
 use Rattle.window.proofs.Standing.{standing-held}
-use Rattle.question.specs.declared.Question.{Question}
 use Rattle.list.specs.Lines.{linesOf, allOf, falls, blank}
-use Rattle.question.specs.Lines.{lines, asked, finished, begun, stepped, inRows, stepOn}
+use Rattle.question.specs.declared.Question.{Question}
+use Rattle.question.specs.Lines.{lines, asked, inCell, finished, begun, stepped, inRows, stepOn}
 use Rattle.question.specs.Calls.{heldAs, rangesFit, fitQuestion, stepCall, beginCall}
 use Rattle.question.specs.Inner.{stepRefusal}
-use Rattle.question.proofs.Taking.{step-is}
+use Rattle.question.proofs.Taking.{same-behind, step-is}
 use Rattle.question.proofs.Ending.{finished-none}
 
 -- ---- fitness
 
 module _ (w : Window) (q : Question) where
-  pub unfit-ranges : rangesFit q (w .held) ≡ false → fitQuestion w q ≡ false
+  pub unfit-ranges : rangesFit q (w .counts .held) ≡ false → fitQuestion w q ≡ false
   unfolding fitQuestion
   unfit-ranges e = rw e
 
-  pub unfit-lines : rangesFit q (w .held) ≡ true → allOf (heldAs w (q .weights)) (lines q) ≡ false → fitQuestion w q ≡ false
+  pub unfit-lines : rangesFit q (w .counts .held) ≡ true → allOf (heldAs w (q .rule)) (lines q) ≡ false → fitQuestion w q ≡ false
   unfolding fitQuestion
   unfit-lines e f = rw (e, f)
 
-  pub unfit-fall : rangesFit q (w .held) ≡ true → allOf (heldAs w (q .weights)) (lines q) ≡ true → falls above (lines q) ≡ false → fitQuestion w q ≡ false
+  pub unfit-fall : rangesFit q (w .counts .held) ≡ true → allOf (heldAs w (q .rule)) (lines q) ≡ true → falls (above (q .rule)) (lines q) ≡ false → fitQuestion w q ≡ false
   unfolding fitQuestion
   unfit-fall e f g = rw (e, f, g)
 
-  pub fit-rest : rangesFit q (w .held) ≡ true → allOf (heldAs w (q .weights)) (lines q) ≡ true → falls above (lines q) ≡ true → fitQuestion w q ≡ allOf blank (drop (q .len) (linesOf (q .numbers) (q .scores)))
+  pub fit-rest : rangesFit q (w .counts .held) ≡ true → allOf (heldAs w (q .rule)) (lines q) ≡ true → falls (above (q .rule)) (lines q) ≡ true → fitQuestion w q ≡ allOf blank (drop (q .len) (linesOf (q .numbers) (q .scores)))
   unfolding fitQuestion
   fit-rest e f g = rw (e, f, g)
 
@@ -51,69 +49,61 @@ module _ (w : Window) (q : Question) where
 pub record Ranges (q : Question) (held : ℕ) : Type 0 where
   pub some : 1 ≤ q .k
   pub small : q .k ≤ 16
-  pub loss-range : inRange (q .weights .loss) ≡ true
-  pub shake-range : inRange (q .weights .shake) ≡ true
+  pub rule-fits : fitRule (q .rule) ≡ true
   pub cell-range : q .next ≤ 256
   pub short : q .len ≤ min (q .k) held
 
 pub ranges : (q : Question) (held : ℕ) → rangesFit q held ≡ true → Ranges q held
 unfolding rangesFit
 ranges q held h =
-    let ws = inRange (q .weights .loss) && inRange (q .weights .shake) in
-    let a = and-both (leb 1 (q .k) && leb (q .k) 16 && ws && leb (q .next) 256) (leb (q .len) (min (q .k) held)) h in
-    let b = and-both (leb 1 (q .k) && leb (q .k) 16 && ws) (leb (q .next) 256) (a .0) in
-    let c = and-both (leb 1 (q .k) && leb (q .k) 16) ws (b .0) in
+    let a = and-both (leb 1 (q .k) && leb (q .k) 16 && fitRule (q .rule) && leb (q .next) 256) (leb (q .len) (min (q .k) held)) h in
+    let b = and-both (leb 1 (q .k) && leb (q .k) 16 && fitRule (q .rule)) (leb (q .next) 256) (a .0) in
+    let c = and-both (leb 1 (q .k) && leb (q .k) 16) (fitRule (q .rule)) (b .0) in
     let d = and-both (leb 1 (q .k)) (leb (q .k) 16) (c .0) in
-    let e = and-both (inRange (q .weights .loss)) (inRange (q .weights .shake)) (c .1) in
     record {
       some = leb-true 1 (q .k) (d .0);
       small = leb-true (q .k) 16 (d .1);
-      loss-range = e .0;
-      shake-range = e .1;
+      rule-fits = c .1;
       cell-range = leb-true (q .next) 256 (b .1);
       short = leb-true (q .len) (min (q .k) held) (a .1);
     }
 
 -- and of the list
 pub record Fit (w : Window) (q : Question) : Type 0 where
-  pub numbers : Ranges q (w .held)
-  pub listed : allOf (heldAs w (q .weights)) (lines q) ≡ true
-  pub falling : falls above (lines q) ≡ true
+  pub numbers : Ranges q (w .counts .held)
+  pub listed : allOf (heldAs w (q .rule)) (lines q) ≡ true
+  pub falling : falls (above (q .rule)) (lines q) ≡ true
   pub rest : allOf blank (drop (q .len) (linesOf (q .numbers) (q .scores))) ≡ true
 
 pub fit-facts : (w : Window) (q : Question) → fitQuestion w q ≡ true → Fit w q
 unfolding fitQuestion
 fit-facts w q h =
-    let A = rangesFit q (w .held) in
-    let B = allOf (heldAs w (q .weights)) (lines q) in
-    let C = falls above (lines q) in
+    let A = rangesFit q (w .counts .held) in
+    let B = allOf (heldAs w (q .rule)) (lines q) in
+    let C = falls (above (q .rule)) (lines q) in
     let a = and-both (A && B && C) (allOf blank (drop (q .len) (linesOf (q .numbers) (q .scores)))) h in
     let b = and-both (A && B) C (a .0) in
     let c = and-both A B (b .0) in
-    record { numbers = ranges q (w .held) (c .0); listed = c .1; falling = b .1; rest = a .1 }
+    record { numbers = ranges q (w .counts .held) (c .0); listed = c .1; falling = b .1; rest = a .1 }
 
 -- ---- a step depends on which reports there are
 
 pub stepped-same : (q : Question) (hs hs′ : List Held) → Same hs hs′ → stepped q hs ≡ stepped q hs′
 unfolding stepped
 stepped-same q hs hs′ s =
-    ap (λ l. asked (q .k) (q .weights) l (cellAt (q .weights) (placeOf (q .weights) (q .next) + 1)))
-    (best-same above above-strict (q .k) (lines q ++ new hs) (lines q ++ new hs′) (over hs hs′ (s .0), over hs′ hs (s .1)))
+    ap (λ l. asked (q .k) (q .rule) l (cellAt (q .rule) (placeOf (q .rule) (q .next) + 1)))
+    (best-same (above (q .rule)) (above-strict (q .rule)) (q .k) (lines q ++ new hs) (lines q ++ new hs′) (same-behind (lines q) (new hs) (new hs′) both))
   where
-    here : Held → Bool
-    here h = eqb (cell (h .loss) (h .shake)) (q .next)
-
     new : List Held → List Entry
-    new rs = map (entry (q .weights)) (only here rs)
+    new rs = entries (q .rule) (only (inCell (q .next)) rs)
 
-    over : (rs rs′ : List Held) → rs ⊆ rs′ → (lines q ++ new rs) ⊆ (lines q ++ new rs′)
-    over rs rs′ f e m =
-        ⊎-elim (λ k. Memᴰ·append-left (new rs′) k)
-        (λ k.
-        let r = Memᴰ·of-map (entry (q .weights)) (only here rs) k in
-        let o = only-of here rs (r .1) in
-        Memᴰ·append-right (lines q) (moved (r .2) (Memᴰ·map (entry (q .weights)) (only-in here rs′ (f (r .0) (o .0)) (o .1)))))
-        (List·Memᴰ·append-cases (lines q) m)
+    here : (rs rs′ : List Held) → rs ⊆ rs′ → only (inCell (q .next)) rs ⊆ only (inCell (q .next)) rs′
+    here rs rs′ f h m = let o = only-of (inCell (q .next)) rs m in only-in (inCell (q .next)) rs′ (f h (o .0)) (o .1)
+
+    both : Same (new hs) (new hs′)
+    both =
+        entries-same (q .rule) (only (inCell (q .next)) hs) (only (inCell (q .next)) hs′)
+        (here hs hs′ (s .0), here hs′ hs (s .1))
 
 pub rows-held : (w : Window) → fitWindow w ≡ true → Same (inRows w) (heldReports w)
 unfolding inRows

@@ -35,10 +35,10 @@ module _ (q : Question) where
         go (passed t) =
             rw (lt-leb 256 (q .next) h, no-lines q (bar-open (listOf q) (q .k) e (eqb-true (q .len) (q .k) t))) (and-false (eqb (q .len) (q .k)))
 
-    pub finished-full : Roomy (q .numbers) (q .scores) → barOf q .full ≡ true → finished q ≡ ltZ (bestScore (q .weights) (q .next)) (barOf q .score)
+    pub finished-full : Roomy (q .numbers) (q .scores) → barOf q .full ≡ true → finished q ≡ ltZ (bestScore (q .rule) (q .next)) (barOf q .score)
     unfolding finished
     finished-full r e =
         let full = bar-full (listOf q) (q .k) r e in
-        ap₂ (λ a b. a || b && onLast (λ z. not (reaches (q .weights) (q .next) z)) (lines q)) (lt-leb 256 (q .next) h) (eq-eqb (q .len) (q .k) (full .as-many))
-        ∙ full .last (λ z. not (reaches (q .weights) (q .next) z))
-        ∙ Bool·not-not (ltZ (bestScore (q .weights) (q .next)) (barOf q .score))
+        ap₂ (λ a b. a || b && onLast (λ z. not (reaches (q .rule) (q .next) z)) (lines q)) (lt-leb 256 (q .next) h) (eq-eqb (q .len) (q .k) (full .as-many))
+        ∙ full .last (λ z. not (reaches (q .rule) (q .next) z))
+        ∙ Bool·not-not (ltZ (bestScore (q .rule) (q .next)) (barOf q .score))

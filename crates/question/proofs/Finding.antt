@@ -3,36 +3,36 @@
 use mathlib.Core.Path.{_≡_, refl, sym, ap, ap₂, _∙_, subst}
 use mathlib.Core.Logic.{_⊎_, inl, inr, ⊎-elim}
 use mathlib.Core.Bool.{true, false, cond}
-use mathlib.Core.List.{List, _∷_, map, List·Memᴰ·not-nil, List·Memᴰ·cases-cons}
-use Prim.Native.Nat.{ℕ, zero, suc, _%_, min, _≤_, _<_}
+use mathlib.Core.List.{List, _∷_, List·Memᴰ·not-nil, List·Memᴰ·cases-cons}
+use Prim.Native.Nat.{ℕ, zero, suc, _≤_, _<_}
 use native.Mathlib.Omega.{arith}
 use borrow.Author.Tests.{eqb-true, eqb-false, le-leb, lt-leb}
 use lib.Dec.{eqb, leb}
 use lib.ListN.{length, getD}
 use Rattle.laws.specs.Lists.{_∈_, onLast}
-use Rattle.search.specs.Best.{best}
-use Rattle.ranking.specs.Cells.{cellAt, visiting, reaching, reachOf}
-use Rattle.search.specs.Search.{steps, found}
-use Rattle.ranking.specs.Standing.{Held, Entry, above, entry, searchOf, Permitted}
-use Rattle.ranking.specs.declared.Reach.{Reach}
-use Rattle.laws.proofs.Tests.{Tested, passed, failed, tested}
 use Rattle.laws.proofs.Lists.{getD-past}
+use Rattle.laws.proofs.Tests.{Tested, passed, failed, tested, if-so, if-not}
+use Rattle.search.specs.Search.{steps, found}
 use Rattle.search.proofs.Search.{All}
-use Rattle.ranking.proofs.Scan.{left-none}
+use Rattle.values.specs.Range.{low}
+use Rattle.values.proofs.Facts.{low-in}
+use Rattle.ranking.specs.declared.Reach.{Reach}
+use Rattle.ranking.specs.Cells.{cellAt, visiting, reaching, reachOf}
+use Rattle.ranking.specs.Standing.{Held, Entry, above, entries, top, searchOf, Permitted}
 use Rattle.ranking.proofs.Entries.{above-strict}
+use Rattle.ranking.proofs.Scan.{left-none}
 use Rattle.ranking.proofs.Standing.{found-best, steps-all, steps-full}
 use Rattle.window.specs.declared.Window.{Window}
-use Rattle.window.specs.Rows.{reportIn, standing}
+use Rattle.window.specs.Rows.{valuesIn, reportIn, standing}
 use Rattle.list.specs.declared.Bar.{Bar}
 use Rattle.list.specs.Lines.{stored}
-use Rattle.list.specs.Rows.{rowsOf, gathered}
-use Rattle.list.proofs.Choices.{if-so, if-not}
+use Rattle.list.specs.Rows.{rowsOf}
 use Rattle.list.proofs.Stored.{roomy-stored, length-shown}
 use Rattle.list.proofs.Placing.{best-back}
 use Rattle.list.proofs.Bars.{bar-full, bar-open}
 use Rattle.question.specs.declared.Question.{Question}
 use Rattle.question.specs.declared.Searched.{Searched}
-use Rattle.question.specs.Lines.{listOf, lines, asked, withList, searched, searchedIn, inRows, searchedOn, searchedFirst}
+use Rattle.question.specs.Lines.{lines, asked, withList, searched, searchedIn, inRows, searchedOn, searchedFirst}
 use Rattle.question.specs.Inner.{shown, at, barOf, endedOf}
 
 -- ---- the end
@@ -42,14 +42,11 @@ standing-permitted : (w : Window) (n : ℕ) → All Permitted (standing w n)
 standing-permitted w zero r m = absurd (List·Memᴰ·not-nil m)
 standing-permitted w (suc n) r m = go (tested (eqb (getD (w .numbers) n 0) 0)) (standing-permitted w n r)
   where
-    low : (v : ℕ) → v % 4096 ≤ 4095
-    low v = omega arith
-
     go : Tested (eqb (getD (w .numbers) n 0) 0) → (r ∈ standing w n → Permitted r) → Permitted r
     go (passed z) ih = ih (subst (λ l. r ∈ l) (if-so (standing w n) (reportIn w n ∷ standing w n) z) m)
     go (failed z) ih =
         ⊎-elim
-        (λ e. subst Permitted (sym e) (record { loss-fits = low (getD (w .losses) n 0); shake-fits = low (getD (w .shakes) n 0) })) ih
+        (λ e. subst Permitted (sym e) (low-in (valuesIn w n))) ih
         (List·Memᴰ·cases-cons (subst (λ l. r ∈ l) (if-not (standing w n) (reportIn w n ∷ standing w n) z) m))
 
 module _ (q : Question) (small : q .k ≤ 16) (w : Window) (n : ℕ) where
@@ -57,32 +54,32 @@ module _ (q : Question) (small : q .k ≤ 16) (w : Window) (n : ℕ) where
   hs = standing w n
 
   abbrev list : List Entry
-  list = gathered (q .weights) (q .k) w n
+  list = top (q .rule) (q .k) (standing w n)
 
   -- the question with the list that was found
   abbrev with-it : Question
-  with-it = withList q (gathered (q .weights) (q .k) w n)
+  with-it = withList q (top (q .rule) (q .k) (standing w n))
 
-  back : lines (withList q (gathered (q .weights) (q .k) w n)) ≡ gathered (q .weights) (q .k) w n
-  back = best-back above above-strict (q .k) small (map (entry (q .weights)) (standing w n))
+  back : lines (withList q (top (q .rule) (q .k) (standing w n))) ≡ top (q .rule) (q .k) (standing w n)
+  back = best-back (above (q .rule)) (above-strict (q .rule)) (q .k) small (entries (q .rule) (standing w n))
 
-  all-found : found (searchOf (q .weights)) (q .k) hs ≡ list
-  all-found = found-best (q .weights) hs (standing-permitted w n) (q .k)
+  all-found : found (searchOf (q .rule)) (q .k) hs ≡ list
+  all-found = found-best (q .rule) hs (standing-permitted w n) (q .k)
 
   ending : ℕ → Searched
-  ending m = record { steps = m; question = at with-it (cellAt (q .weights) m) }
+  ending m = record { steps = m; question = at with-it (cellAt (q .rule) m) }
 
   -- a search by its number of steps
-  by-steps : (m : ℕ) → steps (searchOf (q .weights)) (q .k) hs ≡ m → ending m ≡ searchedIn q hs
+  by-steps : (m : ℕ) → steps (searchOf (q .rule)) (q .k) hs ≡ m → ending m ≡ searchedIn q hs
   unfolding ending searched
   by-steps m e =
-      ap₂ (λ j l. record { steps = j; question = asked (q .k) (q .weights) l (cellAt (q .weights) j) }) (sym e) (sym all-found)
+      ap₂ (λ j l. record { steps = j; question = asked (q .k) (q .rule) l (cellAt (q .rule) j) }) (sym e) (sym all-found)
 
-  all-taken : cellAt (q .weights) 256 ≡ 256
-  all-taken = getD-past 256 (visiting (q .weights)) 256 (left-none (q .weights) 256 (omega arith))
+  all-taken : cellAt (q .rule) 256 ≡ 256
+  all-taken = getD-past 256 (visiting (q .rule)) 256 (left-none (q .rule) 256 (omega arith))
 
   -- the list says where its search ended
-  pub ended-searched : endedOf (withList q (gathered (q .weights) (q .k) w n)) ≡ searchedIn q (standing w n)
+  pub ended-searched : endedOf (withList q (top (q .rule) (q .k) (standing w n))) ≡ searchedIn q (standing w n)
   unfolding endedOf ending
   ended-searched = go (tested (barOf with-it .full))
     where
@@ -94,13 +91,13 @@ module _ (q : Question) (small : q .k ≤ 16) (w : Window) (n : ℕ) where
           let full = bar-full (stored list) (q .k) (roomy-stored list) t in
           let bar = barOf with-it in
           if-so _ _ t
-          ∙ by-steps (reaching (q .weights) (bar .score))
-          (steps-full (q .weights) hs (standing-permitted w n) (q .k) (full .some) (full .as-many) (record { number = bar .number; score = bar .score })
+          ∙ by-steps (reaching (q .rule) (bar .score))
+          (steps-full (q .rule) hs (standing-permitted w n) (q .k) (full .some) (full .as-many) (record { number = bar .number; score = bar .score })
           (λ p. ap (onLast p) (sym back) ∙ full .last p))
       go (failed t) =
           if-not _ _ t
           ∙ ap (λ c. record { steps = 256; question = at with-it c }) (sym all-taken)
-          ∙ by-steps 256 (steps-all (q .weights) hs (standing-permitted w n) (q .k) (open-list (tested (eqb (length list) (q .k)))))
+          ∙ by-steps 256 (steps-all (q .rule) hs (standing-permitted w n) (q .k) (open-list (tested (eqb (length list) (q .k)))))
         where
           open-list : Tested (eqb (length list) (q .k)) → (length list ≡ q .k → ⊥) ⊎ (length list ≡ 0)
           open-list (passed m) = inr (sym few-lines ∙ bar-open (stored list) (q .k) t (eqb-true (length list) (q .k) m))
@@ -108,11 +105,11 @@ module _ (q : Question) (small : q .k ≤ 16) (w : Window) (n : ℕ) where
 
 -- as the code tells it
 module _ (q : Question) (bar : Bar) (is : bar ≡ barOf q) where
-  pub ended-full : bar .full ≡ true → (r : Reach) → r ≡ reachOf (q .weights) (bar .score) → record { steps = r .cells; question = at q (r .next) } ≡ endedOf q
+  pub ended-full : bar .full ≡ true → (r : Reach) → r ≡ reachOf (q .rule) (bar .score) → record { steps = r .cells; question = at q (r .next) } ≡ endedOf q
   unfolding endedOf reachOf
   ended-full t r e =
       ap (λ (z : Reach). record { steps = z .cells; question = at q (z .next) }) e
-      ∙ ap (λ s. record { steps = reaching (q .weights) s; question = at q (cellAt (q .weights) (reaching (q .weights) s)) }) (ap (λ (b : Bar). b .score) is)
+      ∙ ap (λ s. record { steps = reaching (q .rule) s; question = at q (cellAt (q .rule) (reaching (q .rule) s)) }) (ap (λ (b : Bar). b .score) is)
       ∙ sym (if-so _ _ (sym (ap (λ (b : Bar). b .full) is) ∙ t))
 
   pub ended-open : bar .full ≡ false → record { steps = 256; question = at q 256 } ≡ endedOf q
@@ -126,7 +123,7 @@ module _ (q : Question) (w : Window) where
   unfolding searchedFirst
   first-wide h n = if-not (searchedIn q (standing w n)) (record { steps = 0; question = q }) (lt-leb (q .k) 16 h)
 
-  pub first-small : q .k ≤ 16 → (n : ℕ) → endedOf (withList q (gathered (q .weights) (q .k) w n)) ≡ searchedFirst q w n
+  pub first-small : q .k ≤ 16 → (n : ℕ) → endedOf (withList q (top (q .rule) (q .k) (standing w n))) ≡ searchedFirst q w n
   unfolding searchedFirst
   first-small h n = ended-searched q h w n ∙ sym (if-so (searchedIn q (standing w n)) (record { steps = 0; question = q }) (le-leb (q .k) 16 h))
 
@@ -139,7 +136,7 @@ module _ (q : Question) (w : Window) where
 standing-same : (w v : Window) → w .losses ≡ v .losses → w .shakes ≡ v .shakes → w .numbers ≡ v .numbers → (n : ℕ) → standing w n ≡ standing v n
 standing-same w v a b c zero = refl
 standing-same w v a b c (suc n) =
-    ap₂ (λ (h : Held) l. cond (eqb (h .number) 0) l (h ∷ l)) (λ i. record { number = getD (c i) n 0; loss = getD (a i) n 0 % 4096; shake = getD (b i) n 0 % 4096 })
+    ap₂ (λ (h : Held) l. cond (eqb (h .number) 0) l (h ∷ l)) (λ i. record { number = getD (c i) n 0; values = low (record { loss = getD (a i) n 0; shake = getD (b i) n 0 }) })
     (standing-same w v a b c n)
 
 pub searched-arrays : (q : Question) (w : Window) → searchedOn q (rowsOf (w .losses) (w .shakes) (w .numbers)) ≡ searchedOn q w

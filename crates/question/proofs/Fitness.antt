@@ -8,8 +8,9 @@ use native.Mathlib.Omega.{arith}
 use borrow.Author.Tests.{leb-true, leb-false, le-leb, lt-leb, ltb-true}
 use lib.Dec.{leb, ltb}
 use Rattle.laws.proofs.Tests.{Tested, passed, failed, tested, and-both}
+use Rattle.window.specs.declared.Counts.{Counts}
 use Rattle.window.specs.Rows.{sized, rowOf}
-pub use Rattle.list.proofs.Walking.{equal-same, equal-other}
+use Rattle.window.proofs.Fitness.{size-range}
 use Rattle.question.specs.Calls.{holdsNumber}
 
 -- ---- tests in a row
@@ -25,30 +26,30 @@ fifth-decides e p q r s = rw (p, q, r, s)
 
 -- ---- numbers that are held
 
-pub record Holds (size entered held m : ℕ) : Type 0 where
-  pub some : 1 ≤ size
-  pub within : size ≤ 1024
+pub record Holds (c : Counts) (m : ℕ) : Type 0 where
+  pub some : 1 ≤ c .size
+  pub within : c .size ≤ 1024
   pub first : 1 ≤ m
-  pub was-entered : m ≤ entered
-  pub late : entered < m + held
+  pub was-entered : m ≤ c .entered
+  pub late : c .entered < m + c .held
 
-pub holds : (size entered held m : ℕ) → holdsNumber size entered held m ≡ true → Holds size entered held m
+pub holds : (c : Counts) (m : ℕ) → holdsNumber c m ≡ true → Holds c m
 unfolding holdsNumber
-holds size entered held m h =
-    let a = and-both (sized size && leb 1 m && leb m entered) (ltb entered (m + held)) h in
-    let b = and-both (sized size && leb 1 m) (leb m entered) (a .0) in
-    let c = and-both (sized size) (leb 1 m) (b .0) in
-    let d = and-both (leb 1 size) (leb size 1024) (c .0) in
+holds c m h =
+    let a = and-both (sized (c .size) && leb 1 m && leb m (c .entered)) (ltb (c .entered) (m + c .held)) h in
+    let b = and-both (sized (c .size) && leb 1 m) (leb m (c .entered)) (a .0) in
+    let d = and-both (sized (c .size)) (leb 1 m) (b .0) in
+    let e = size-range (c .size) (d .0) in
     record {
-      some = leb-true 1 size (d .0);
-      within = leb-true size 1024 (d .1);
-      first = leb-true 1 m (c .1);
-      was-entered = leb-true m entered (b .1);
-      late = ltb-true entered (m + held) (a .1);
+      some = e .0;
+      within = e .1;
+      first = leb-true 1 m (d .1);
+      was-entered = leb-true m (c .entered) (b .1);
+      late = ltb-true (c .entered) (m + c .held) (a .1);
     }
 
-pub row-within : {size entered held m : ℕ} → Holds size entered held m → rowOf size m < 1024
-row-within {size} {entered} {held} {m} h = omega (arith, mod-lt (m - 1) (h .some), h .within)
+pub row-within : {c : Counts} {m : ℕ} → Holds c m → rowOf (c .size) m < 1024
+row-within {c} {m} h = omega (arith, mod-lt (m - 1) (h .some), h .within)
 
 -- a list no longer than k is no longer than the smaller of k and what is held
 pub min-test : (len k held : ℕ) → len ≤ k → leb len (min k held) ≡ leb len held

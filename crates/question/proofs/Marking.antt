@@ -21,38 +21,38 @@ use Rattle.question.specs.declared.Question.{Question}
 use Rattle.question.specs.Lines.{stepsTaken, marked, isMarked, marksOf}
 
 module _ (q : Question) where
-  pub steps-left : q .next < 256 → stepsTaken q ≡ placeOf (q .weights) (q .next)
+  pub steps-left : q .next < 256 → stepsTaken q ≡ placeOf (q .rule) (q .next)
   unfolding stepsTaken
-  steps-left h = if-so (placeOf (q .weights) (q .next)) 256 (lt-ltb (q .next) 256 h)
+  steps-left h = if-so (placeOf (q .rule) (q .next)) 256 (lt-ltb (q .next) 256 h)
 
   pub steps-all : 256 ≤ q .next → stepsTaken q ≡ 256
   unfolding stepsTaken
-  steps-all h = if-not (placeOf (q .weights) (q .next)) 256 (le-ltb (q .next) 256 h)
+  steps-all h = if-not (placeOf (q .rule) (q .next)) 256 (le-ltb (q .next) 256 h)
 
   taken : ℕ → List ℕ
-  taken n = take n (visiting (q .weights))
+  taken n = take n (visiting (q .rule))
 
-  pub marked-left : q .next < 256 → (c : ℕ) → c < 256 → isMarked q c ≡ before (q .weights) c (q .next)
+  pub marked-left : q .next < 256 → (c : ℕ) → c < 256 → isMarked q c ≡ before (q .rule) c (q .next)
   unfolding isMarked marked taken
   marked-left h c g =
-      one-test (isMarked q c) (before (q .weights) c (q .next))
-      (λ t. subst (λ d. before (q .weights) c d ≡ true) (place .1) (is .0 (subst (λ n. c ∈ taken n) (steps-left h) (has-in c (marked q) t))))
-      (λ b. in-has c (marked q) (subst (λ n. c ∈ taken n) (sym (steps-left h)) (is .1 (subst (λ d. before (q .weights) c d ≡ true) (sym (place .1)) b))))
+      one-test (isMarked q c) (before (q .rule) c (q .next))
+      (λ t. subst (λ d. before (q .rule) c d ≡ true) (place .1) (is .0 (subst (λ n. c ∈ taken n) (steps-left h) (has-in c (marked q) t))))
+      (λ b. in-has c (marked q) (subst (λ n. c ∈ taken n) (sym (steps-left h)) (is .1 (subst (λ d. before (q .rule) c d ≡ true) (sym (place .1)) b))))
     where
-      place : (placeOf (q .weights) (q .next) < 256) × (cellAt (q .weights) (placeOf (q .weights) (q .next)) ≡ q .next)
-      place = at-place (q .weights) (q .next) h
+      place : (placeOf (q .rule) (q .next) < 256) × (cellAt (q .rule) (placeOf (q .rule) (q .next)) ≡ q .next)
+      place = at-place (q .rule) (q .next) h
 
-      is : c ∈ take (placeOf (q .weights) (q .next)) (visiting (q .weights)) ↔ before (q .weights) c (cellAt (q .weights) (placeOf (q .weights) (q .next))) ≡ true
-      is = taken-before (q .weights) (placeOf (q .weights) (q .next)) c (place .0) g
+      is : c ∈ take (placeOf (q .rule) (q .next)) (visiting (q .rule)) ↔ before (q .rule) c (cellAt (q .rule) (placeOf (q .rule) (q .next))) ≡ true
+      is = taken-before (q .rule) (placeOf (q .rule) (q .next)) c (place .0) g
 
   pub marked-all : 256 ≤ q .next → (c : ℕ) → c < 256 → isMarked q c ≡ true
   unfolding isMarked marked taken
-  marked-all h c g = in-has c (marked q) (subst (λ l. c ∈ l) (sym all) (visiting-in (q .weights) c g))
+  marked-all h c g = in-has c (marked q) (subst (λ l. c ∈ l) (sym all) (visiting-in (q .rule) c g))
     where
-      all : marked q ≡ visiting (q .weights)
+      all : marked q ≡ visiting (q .rule)
       all =
-          ap taken (steps-all h ∙ sym (length-visiting (q .weights)))
-          ∙ take-length (visiting (q .weights))
+          ap taken (steps-all h ∙ sym (length-visiting (q .rule)))
+          ∙ take-length (visiting (q .rule))
 
 count-append : (n : ℕ) (rest : List ℕ) → count n rest ≡ count n [] ++ rest
 count-append zero rest = refl

@@ -9,35 +9,34 @@ use native.Mathlib.Nat.{le-of-eq}
 use native.Mathlib.Numerals.{add-one}
 use native.Mathlib.Omega.{arith}
 use borrow.Author.Tests.{ltb-true, ltb-false, le-leb}
-use lib.Dec.{eqb, ltb}
+use lib.Dec.{ltb}
 use lib.ListN.{length, take}
 use lib.Seq.{take-suc}
 use Rattle.laws.specs.Lists.{_∈_, only}
-use Rattle.search.specs.Best.{best}
-use Rattle.values.specs.Range.{inRange}
-use Rattle.ranking.specs.Cells.{cell, cells, visiting, placeOf, cellAt}
-use Rattle.search.specs.Search.{entries, heldIn, listAfter, steps, marks, has}
-use Rattle.ranking.specs.Standing.{Held, Entry, above, entry, searchOf, Wanted}
-use Rattle.ranking.specs.declared.Weights.{Weights}
+use Rattle.laws.proofs.Lists.{Same, _⊆_, moved, lt-or-eq, getD-past, only-in, only-of, pairwise-only}
 use Rattle.laws.proofs.Tests.{Tested, passed, failed, tested, if-so}
-use Rattle.laws.proofs.Lists.{Same, _⊆_, lt-or-eq, getD-past, only-in, only-of, pairwise-only}
-use Rattle.search.proofs.Best.{Falling, best-of, best-falling, length-best-le}
-use Rattle.search.proofs.Search.{has-in, in-has, held-part, ends, goes-on}
+use Rattle.search.specs.Best.{best}
+use Rattle.search.specs.Search.{heldIn, listAfter, steps, marks, has}
+use Rattle.search.proofs.Best.{Falling, best-falling, length-best-le}
+use Rattle.search.proofs.Search.{has-in, in-has, ends, goes-on}
+use Rattle.ranking.specs.declared.Rule.{Rule}
+use Rattle.ranking.specs.Cells.{fitRule, cell, cells, visiting, placeOf, cellAt}
+use Rattle.ranking.specs.Standing.{Held, Entry, above, entry, entries, top, searchOf, Wanted}
 use Rattle.ranking.proofs.Cells.{length-visiting}
+use Rattle.ranking.proofs.Entries.{above-strict, entries-in, top-of, length-top, top-short}
 use Rattle.ranking.proofs.Scan.{place-at, at-place, cell-at, left-none}
-use Rattle.ranking.proofs.Entries.{above-strict}
-use Rattle.ranking.proofs.Standing.{steps-bounded, local, Alike, demand-3, Exact, length-list}
+use Rattle.ranking.proofs.Standing.{steps-bounded, local, Alike, Numbered, demand-3, Exact}
 use Rattle.window.specs.declared.Window.{Window}
 use Rattle.window.specs.Rows.{heldReports, fitWindow}
 use Rattle.window.proofs.Fitness as window
 use Rattle.window.proofs.Reports.{length-held, held-distinct, held-latest}
 use Rattle.window.proofs.Standing.{held-permitted}
 use Rattle.question.specs.declared.Question.{Question}
-use Rattle.question.specs.Lines.{lines, asked, stepsTaken, marked, isMarked, finished, begun, stepped, takes, searched, searchedIn, inRows, searchedOn}
+use Rattle.question.specs.Lines.{lines, asked, stepsTaken, marked, isMarked, finished, begun, inCell, taken, stepped, takes, searched, searchedIn, inRows, searchedOn}
 use Rattle.question.specs.Calls.{fitQuestion, stepCall}
 use Rattle.question.proofs.Stored.{lines-asked}
 use Rattle.question.proofs.Marking.{steps-left, steps-all}
-use Rattle.question.proofs.Steps.{reached, reached-lines, reached-none, reached-more, reached-end}
+use Rattle.question.proofs.Steps.{reached, reached-lines, reached-none, reached-more, reached-end, after-top}
 use Rattle.question.proofs.Doors.{rows-held, step-ended, step-goes, step-held}
 use Rattle.question.proofs.Listed.{fit-asked}
 
@@ -53,26 +52,26 @@ steps-few q = go (tested (ltb (q .next) 256))
     go : Tested (ltb (q .next) 256) → stepsTaken q ≤ 256
     go (passed t) =
         let h = ltb-true (q .next) 256 t in
-        rw (steps-left q h) (below (at-place (q .weights) (q .next) h .0))
+        rw (steps-left q h) (below (at-place (q .rule) (q .next) h .0))
     go (failed t) = le-of-eq (steps-all q (ltb-false (q .next) 256 t))
 
 -- a question whose next cell is at the place n has taken n steps
-pub steps-at : (q : Question) (n : ℕ) → n ≤ 256 → q .next ≡ cellAt (q .weights) n → stepsTaken q ≡ n
+pub steps-at : (q : Question) (n : ℕ) → n ≤ 256 → q .next ≡ cellAt (q .rule) n → stepsTaken q ≡ n
 steps-at q n h e = ⊎-elim some none (lt-or-eq h)
   where
     some : n < 256 → stepsTaken q ≡ n
     some l =
-        steps-left q (subst (λ c. c < 256) (sym e) (cell-at (q .weights) n l))
-        ∙ ap (placeOf (q .weights)) e
-        ∙ place-at (q .weights) n l
+        steps-left q (subst (λ c. c < 256) (sym e) (cell-at (q .rule) n l))
+        ∙ ap (placeOf (q .rule)) e
+        ∙ place-at (q .rule) n l
 
     none : n ≡ 256 → stepsTaken q ≡ n
-    none l = steps-all q (le-of-eq (sym (e ∙ getD-past 256 (visiting (q .weights)) n (left-none (q .weights) n (le-of-eq (sym l)))))) ∙ sym l
+    none l = steps-all q (le-of-eq (sym (e ∙ getD-past 256 (visiting (q .rule)) n (left-none (q .rule) n (le-of-eq (sym l)))))) ∙ sym l
 
 -- Step, for every question with a cell left: "the next cell is marked, and the list becomes the best k of its old entries and that cell's held reports, each once".
 pub record Step (q : Question) (hs : List Held) : Type 0 where
-  pub list : lines (stepped q hs) ≡ best above (q .k) (lines q ++ map (entry (q .weights)) (only (λ h. eqb (cell (h .loss) (h .shake)) (q .next)) hs))
-  pub each-once : Falling above (lines (stepped q hs))
+  pub list : lines (stepped q hs) ≡ taken q hs
+  pub each-once : Falling (above (q .rule)) (lines (stepped q hs))
   pub next-marked : marked (stepped q hs) ≡ marked q ++ (q .next ∷ [])
   pub counted : stepsTaken (stepped q hs) ≡ stepsTaken q + 1
 
@@ -81,13 +80,13 @@ unfolding stepped marked
 one-step q hs small left =
     record {
       list = listed;
-      each-once = subst (Falling above) (sym listed) (best-falling above above-strict (q .k) l);
+      each-once = subst (Falling (above (q .rule))) (sym listed) (best-falling (above (q .rule)) (above-strict (q .rule)) (q .k) l);
       next-marked = then-marked;
       counted = then;
     }
   where
-    w : Weights
-    w = q .weights
+    w : Rule
+    w = q .rule
 
     n : ℕ
     n = placeOf w (q .next)
@@ -96,10 +95,10 @@ one-step q hs small left =
     place = at-place w (q .next) left
 
     l : List Entry
-    l = lines q ++ map (entry w) (only (λ h. eqb (cell (h .loss) (h .shake)) (q .next)) hs)
+    l = lines q ++ entries w (only (inCell (q .next)) hs)
 
-    listed : lines (stepped q hs) ≡ best above (q .k) l
-    listed = lines-asked (q .k) w (best above (q .k) l) (cellAt w (n + 1)) (omega (arith, length-best-le above above-strict (q .k) l))
+    listed : lines (stepped q hs) ≡ best (above (q .rule)) (q .k) l
+    listed = lines-asked (q .k) w (best (above (q .rule)) (q .k) l) (cellAt w (n + 1)) (omega (arith, length-best-le (above (q .rule)) (above-strict (q .rule)) (q .k) l))
 
     then : stepsTaken (stepped q hs) ≡ stepsTaken q + 1
     then = steps-at (stepped q hs) (n + 1) (more (place .0)) refl ∙ ap (λ m. m + 1) (sym (steps-left q left))
@@ -123,20 +122,20 @@ pub beginning : (q : Question) → Beginning q
 unfolding marked
 beginning q =
     let none = steps-at (begun q) 0 (omega arith) refl in
-    record { no-lines = refl; no-marks = ap (λ n. take n (visiting (q .weights))) none; no-steps = none }
+    record { no-lines = refl; no-marks = ap (λ n. take n (visiting (q .rule))) none; no-steps = none }
 
 -- ---- n steps
 
 -- "After n steps the list is the best k of the reports in the first n cells, and those n cells are marked."
 pub record After (q : Question) (hs : List Held) (n : ℕ) (p : Question) : Type 0 where
-  pub list : lines p ≡ listAfter (searchOf (q .weights)) (q .k) hs n
-  pub marks-are : marked p ≡ take n (visiting (q .weights))
+  pub list : lines p ≡ listAfter (searchOf (q .rule)) (q .k) hs n
+  pub marks-are : marked p ≡ take n (visiting (q .rule))
   pub counted : stepsTaken p ≡ n
-  pub stored : p ≡ asked (q .k) (q .weights) (lines p) (cellAt (q .weights) n)
+  pub stored : p ≡ asked (q .k) (q .rule) (lines p) (cellAt (q .rule) n)
 
 module _ (q : Question) (small : q .k ≤ 16) (hs : List Held) where
-  abbrev w : Weights
-  w = q .weights
+  abbrev w : Rule
+  w = q .rule
 
   pub takes-reached : (n : ℕ) → n ≤ 256 → takes n (begun q) hs ≡ reached (q .k) w hs n
   unfolding takes
@@ -195,9 +194,9 @@ module _ (q : Question) (small : q .k ≤ 16) (hs : List Held) where
 
 -- Demands 2 and 3 at the end of a search, for a fit window: the list is the best k of all that is held, a cell is marked exactly where it is wanted, and the steps are the number of the marked cells.
 pub record Found (w : Window) (q p : Question) : Type 0 where
-  pub list : lines p ≡ best above (q .k) (map (entry (q .weights)) (heldReports w))
-  pub length-is : length (lines p) ≡ min (q .k) (w .held)
-  pub marks-are : (c : ℕ) → c < 256 → isMarked p c ≡ true ↔ Wanted (q .weights) (q .k) (heldReports w) (w .entered + 1) c
+  pub list : lines p ≡ top (q .rule) (q .k) (heldReports w)
+  pub length-is : length (lines p) ≡ min (q .k) (w .counts .held)
+  pub marks-are : (c : ℕ) → c < 256 → isMarked p c ≡ true ↔ Wanted (q .rule) (q .k) (heldReports w) (w .counts .entered) c
   pub steps-are : stepsTaken p ≡ length (only (isMarked p) cells)
 
 pub search-finds : (w : Window) → fitWindow w ≡ true → (q : Question) → 1 ≤ q .k → q .k ≤ 16 → Found w q (searched q (heldReports w))
@@ -205,7 +204,7 @@ unfolding isMarked
 search-finds w fit q some small =
     record {
       list = list;
-      length-is = ap length list ∙ length-list (q .weights) (q .k) hs (held-distinct w) ∙ ap (min (q .k)) (length-held w);
+      length-is = ap length list ∙ length-top (q .rule) (q .k) hs (held-distinct w) ∙ ap (min (q .k)) (length-held w);
       marks-are = is;
       steps-are = come .counted ∙ exact .number (isMarked p) is;
     }
@@ -216,19 +215,22 @@ search-finds w fit q some small =
     p : Question
     p = searched q hs
 
-    newer : (r : Held) → r ∈ hs → r .number < w .entered + 1
-    newer r m = omega (arith, held-latest w (window.fit-facts w fit .ranges) r m .1)
+    known : Numbered (w .counts .entered) hs
+    known r m =
+        let ranges = window.fit-facts w fit .ranges in
+        let late = held-latest w ranges r m in
+        (omega (arith, late .0, ranges .ring .were-entered), late .1)
 
-    exact : Exact (q .weights) (q .k) hs (w .entered + 1)
-    exact = demand-3 (q .weights) (q .k) some hs (held-permitted w fit) (w .entered + 1) newer
+    exact : Exact (q .rule) (q .k) hs (w .counts .entered)
+    exact = demand-3 (q .rule) (q .k) some hs (held-permitted w fit) (w .counts .entered) known
 
-    come : After q hs (steps (searchOf (q .weights)) (q .k) hs) p
+    come : After q hs (steps (searchOf (q .rule)) (q .k) hs) p
     come = whole-search q small hs .come-to
 
-    list : lines p ≡ best above (q .k) (map (entry (q .weights)) hs)
+    list : lines p ≡ top (q .rule) (q .k) hs
     list = come .list ∙ exact .list
 
-    is : (c : ℕ) → c < 256 → isMarked p c ≡ true ↔ Wanted (q .weights) (q .k) hs (w .entered + 1) c
+    is : (c : ℕ) → c < 256 → isMarked p c ≡ true ↔ Wanted (q .rule) (q .k) hs (w .counts .entered) c
     is c h = (
       λ t. exact .marks-are c h .0 (subst (λ l. c ∈ l) (come .marks-are) (has-in c (marked p) t)),
       λ v. in-has c (marked p) (subst (λ l. c ∈ l) (sym (come .marks-are)) (exact .marks-are c h .1 v)),
@@ -237,13 +239,13 @@ search-finds w fit q some small =
 -- ---- which windows give the same
 
 -- Locality: any reports that are the same in the marked cells, and others only in unmarked cells, give the same search.
-pub same-search : (q : Question) (hs hs′ : List Held) → Same (heldIn (searchOf (q .weights)) (marks (searchOf (q .weights)) (q .k) hs) hs) (heldIn (searchOf (q .weights)) (marks (searchOf (q .weights)) (q .k) hs) hs′) → searchedIn q hs ≡ searchedIn q hs′
+pub same-search : (q : Question) (hs hs′ : List Held) → Same (heldIn (searchOf (q .rule)) (marks (searchOf (q .rule)) (q .k) hs) hs) (heldIn (searchOf (q .rule)) (marks (searchOf (q .rule)) (q .k) hs) hs′) → searchedIn q hs ≡ searchedIn q hs′
 unfolding searched
 same-search q hs hs′ same =
-    ap₂ (λ n l. record { steps = n; question = asked (q .k) (q .weights) l (cellAt (q .weights) n) }) (alike .same-steps) (alike .same-list)
+    ap₂ (λ n l. record { steps = n; question = asked (q .k) (q .rule) l (cellAt (q .rule) n) }) (alike .same-steps) (alike .same-list)
   where
-    alike : Alike (q .weights) (q .k) hs hs′
-    alike = local (q .weights) (q .k) hs hs′ same
+    alike : Alike (q .rule) (q .k) hs hs′
+    alike = local (q .rule) (q .k) hs hs′ same
 
 -- What stands in the rows of a fit window is searched as what it holds.
 pub searched-held : (w : Window) → fitWindow w ≡ true → (q : Question) → q .k ≤ 16 → searchedOn q w ≡ searchedIn q (heldReports w)
@@ -256,7 +258,7 @@ searched-held w fit q small =
     same = rows-held w fit
 
     marked-in : Held → Bool
-    marked-in h = has (cell (h .loss) (h .shake)) (marks (searchOf (q .weights)) (q .k) (inRows w))
+    marked-in h = has (cell (h .values)) (marks (searchOf (q .rule)) (q .k) (inRows w))
 
     over : (rs rs′ : List Held) → rs ⊆ rs′ → only marked-in rs ⊆ only marked-in rs′
     over rs rs′ f x m = let r = only-of marked-in rs m in only-in marked-in rs′ (f x (r .0)) (r .1)
@@ -264,7 +266,7 @@ searched-held w fit q small =
 -- ---- by calls alone
 
 -- A question after n steps is fit, so its next step is not refused before the search's end, and is then.
-module _ (w : Window) (fit : fitWindow w ≡ true) (q : Question) (some : 1 ≤ q .k) (small : q .k ≤ 16) (loss-range : inRange (q .weights .loss) ≡ true) (shake-range : inRange (q .weights .shake) ≡ true) where
+module _ (w : Window) (fit : fitWindow w ≡ true) (q : Question) (some : 1 ≤ q .k) (small : q .k ≤ 16) (fits : fitRule (q .rule) ≡ true) where
   abbrev hs : List Held
   hs = heldReports w
 
@@ -276,50 +278,55 @@ module _ (w : Window) (fit : fitWindow w ≡ true) (q : Question) (some : 1 ≤ 
       go (passed e) h = rw (e, only) (omega arith)
       go (failed e) h = rw (e, only) (omega arith)
 
-  pub reached-fit : (n : ℕ) → n ≤ 256 → fitQuestion w (reached (q .k) (q .weights) hs n) ≡ true
+  pub reached-fit : (n : ℕ) → n ≤ 256 → fitQuestion w (reached (q .k) (q .rule) hs n) ≡ true
   unfolding reached
   reached-fit n h =
-      fit-asked w fit (q .k) (q .weights) l (cellAt (q .weights) n)
+      fit-asked w fit (q .k) (q .rule) l (cellAt (q .rule) n)
       (record {
         some = some;
         small = small;
-        loss-range = loss-range;
-        shake-range = shake-range;
+        rule-fits = fits;
         cell-range = ⊎-elim near last (lt-or-eq h);
         short = short;
       })
-      (λ e m. held-part (searchOf (q .weights)) taken hs e (best-of above above-strict (q .k) inside e m))
-      (best-falling above above-strict (q .k) inside)
+      (λ e m.
+      let r = top-of (q .rule) (q .k) inside (subst (λ z. e ∈ z) after m) in
+      moved (r .2) (entries-in (q .rule) (only-of (λ (h : Held). has (cell (h .values)) taken) hs (r .1) .0)))
+      (best-falling (above (q .rule)) (above-strict (q .rule)) (q .k) (map (entry (q .rule)) inside))
     where
       taken : List ℕ
-      taken = take n (visiting (q .weights))
+      taken = take n (visiting (q .rule))
 
-      inside : List Entry
-      inside = entries (searchOf (q .weights)) (heldIn (searchOf (q .weights)) taken hs)
+      inside : List Held
+      inside = heldIn (searchOf (q .rule)) taken hs
 
       l : List Entry
-      l = best above (q .k) inside
+      l = listAfter (searchOf (q .rule)) (q .k) hs n
 
-      short : length l ≤ min (q .k) (w .held)
+      after : l ≡ top (q .rule) (q .k) inside
+      after = after-top (q .k) small (q .rule) hs n
+
+      short : length l ≤ min (q .k) (w .counts .held)
       short =
           omega (
             arith,
-            length-list (q .weights) (q .k) (heldIn (searchOf (q .weights)) taken hs) (pairwise-only (λ (a b : Held). a .number ≡ b .number → ⊥) (λ r. has (cell (r .loss) (r .shake)) taken) hs (held-distinct w)),
-            fewer (λ (r : Held). has (cell (r .loss) (r .shake)) taken) hs,
+            ap length after,
+            top-short (q .rule) (q .k) inside (pairwise-only (λ (a b : Held). a .number ≡ b .number → ⊥) (λ r. has (cell (r .values)) taken) hs (held-distinct w)),
+            fewer (λ (r : Held). has (cell (r .values)) taken) hs,
             length-held w,
           )
 
-      near : n < 256 → cellAt (q .weights) n ≤ 256
-      near g = less (cell-at (q .weights) n g)
+      near : n < 256 → cellAt (q .rule) n ≤ 256
+      near g = less (cell-at (q .rule) n g)
         where
           less : {m : ℕ} → m < 256 → m ≤ 256
           less k = omega arith
 
-      last : n ≡ 256 → cellAt (q .weights) n ≤ 256
-      last e = le-of-eq (getD-past 256 (visiting (q .weights)) n (left-none (q .weights) n (le-of-eq (sym e))))
+      last : n ≡ 256 → cellAt (q .rule) n ≤ 256
+      last e = le-of-eq (getD-past 256 (visiting (q .rule)) n (left-none (q .rule) n (le-of-eq (sym e))))
 
   -- every step before the end is answered, and comes to the question after one step more
-  pub calls-step : (n : ℕ) → n < steps (searchOf (q .weights)) (q .k) hs → stepCall w (takes n (begun q) hs) ≡ record { refusal = 0; question = takes (suc n) (begun q) hs }
+  pub calls-step : (n : ℕ) → n < steps (searchOf (q .rule)) (q .k) hs → stepCall w (takes n (begun q) hs) ≡ record { refusal = 0; question = takes (suc n) (begun q) hs }
   unfolding takes
   calls-step n l =
       ap (stepCall w) at
@@ -327,10 +334,10 @@ module _ (w : Window) (fit : fitWindow w ≡ true) (q : Question) (some : 1 ≤ 
       ∙ ap (λ b. record { refusal = 0; question = b }) (step-held w here fit fit-here going ∙ ap (λ b. stepped b hs) (sym at))
     where
       within : n ≤ 256
-      within = omega (arith, steps-bounded (q .weights) (q .k) hs)
+      within = omega (arith, steps-bounded (q .rule) (q .k) hs)
 
       here : Question
-      here = reached (q .k) (q .weights) hs n
+      here = reached (q .k) (q .rule) hs n
 
       at : takes n (begun q) hs ≡ here
       at = takes-reached q small hs n within
@@ -339,11 +346,11 @@ module _ (w : Window) (fit : fitWindow w ≡ true) (q : Question) (some : 1 ≤ 
       fit-here = reached-fit n within
 
       going : finished here ≡ false
-      going = reached-end (q .k) small (q .weights) hs n within ∙ goes-on (searchOf (q .weights)) (q .k) hs n l
+      going = reached-end (q .k) small (q .rule) hs n within ∙ goes-on (searchOf (q .rule)) (q .k) hs n l
 
   -- and one more is refused 25
   pub calls-end : stepCall w (searched q hs) ≡ record { refusal = 25; question = searched q hs }
   calls-end =
       step-ended w (searched q hs) fit
-      (ap (fitQuestion w) (searched-is q small hs) ∙ reached-fit (steps (searchOf (q .weights)) (q .k) hs) (steps-bounded (q .weights) (q .k) hs))
+      (ap (fitQuestion w) (searched-is q small hs) ∙ reached-fit (steps (searchOf (q .rule)) (q .k) hs) (steps-bounded (q .rule) (q .k) hs))
       (whole-search q small hs .has-ended)

@@ -3,7 +3,7 @@
 use mathlib.Core.Path.{_≡_, sym, ap, _∙_}
 use mathlib.Core.Logic.{⊎-elim}
 use mathlib.Core.Bool.{Bool, false, not, _&&_, _||_}
-use mathlib.Core.List.{List, [], _∷_, _++_, map}
+use mathlib.Core.List.{List, [], _∷_, _++_, map, Memᴰ·map, Memᴰ·of-map}
 use Prim.Native.Nat.{ℕ, suc, _+_, _≤_, _<_}
 use native.Mathlib.Nat.{le-of-eq}
 use native.Mathlib.Numerals.{add-one}
@@ -12,29 +12,37 @@ use borrow.Author.Tests.{le-leb, lt-leb}
 use lib.Dec.{eqb}
 use lib.ListN.{length, take, drop}
 use Rattle.laws.specs.Lists.{onLast, only}
-use Rattle.search.specs.Best.{best}
-use Rattle.ranking.specs.Cells.{cell, visiting, placeOf, cellAt}
-use Rattle.search.specs.Search.{has, entries, heldIn, listAfter, stops, ended, steps}
-use Rattle.ranking.specs.Standing.{Held, Entry, above, entry, reaches, searchOf}
-use Rattle.ranking.specs.declared.Weights.{Weights}
+use Rattle.laws.proofs.Lists.{Same, moved, getD-past, lt-or-eq, only-same}
 use Rattle.laws.proofs.Tests.{Tested, passed, failed, tested, clash}
-use Rattle.search.proofs.Best.{length-best-le}
+use Rattle.search.specs.Best.{best}
+use Rattle.search.specs.Search.{has, heldIn, listAfter, stops, ended, steps}
+use Rattle.search.proofs.Best.{length-best-le, best-same}
 use Rattle.search.proofs.Search.{list-zero, list-suc, ends}
-use Rattle.ranking.proofs.Entries.{above-strict}
-use Rattle.ranking.proofs.Standing.{steps-bounded}
+use Rattle.ranking.specs.declared.Rule.{Rule}
+use Rattle.ranking.specs.Cells.{cell, visiting, placeOf, cellAt}
+use Rattle.ranking.specs.Standing.{Held, Entry, above, entry, entries, top, reaches, searchOf}
+use Rattle.ranking.proofs.Entries.{above-strict, entries-in, entries-of}
 use Rattle.ranking.proofs.Scan.{place-at, cell-at, left-at, left-none}
-use Rattle.laws.proofs.Lists.{getD-past, lt-or-eq, only-same}
+use Rattle.ranking.proofs.Standing.{steps-bounded}
 use Rattle.question.specs.declared.Question.{Question}
-use Rattle.question.specs.Lines.{lines, asked, finished, stepped}
+use Rattle.question.specs.Lines.{lines, asked, inCell, finished, stepped}
 use Rattle.question.proofs.Stored.{lines-asked}
+use Rattle.question.proofs.Taking.{same-behind}
+
+-- what reports bring to a list is what a search takes them for
+pub entries-search : (rule : Rule) (hs : List Held) → Same (entries rule hs) (map (entry rule) hs)
+entries-search rule hs = (
+  λ e m. let r = entries-of rule hs m in moved (r .2) (Memᴰ·map (entry rule) (r .1)),
+  λ e m. let r = Memᴰ·of-map (entry rule) hs m in moved (r .2) (entries-in rule (r .1)),
+)
 
 -- a question after n steps of its search
-unfoldable pub reached : ℕ → Weights → List Held → ℕ → Question
+unfoldable pub reached : ℕ → Rule → List Held → ℕ → Question
 reached k w hs n = asked k w (listAfter (searchOf w) k hs n) (cellAt w n)
 
-module _ (k : ℕ) (small : k ≤ 16) (w : Weights) (hs : List Held) where
+module _ (k : ℕ) (small : k ≤ 16) (w : Rule) (hs : List Held) where
   list-room : (n : ℕ) → length (listAfter (searchOf w) k hs n) ≤ 16
-  list-room n = omega (arith, length-best-le above above-strict k (entries (searchOf w) (heldIn (searchOf w) (take n (visiting w)) hs)))
+  list-room n = omega (arith, length-best-le (above w) (above-strict w) k (map (entry w) (heldIn (searchOf w) (take n (visiting w)) hs)))
 
   pub reached-lines : (n : ℕ) → lines (reached k w hs n) ≡ listAfter (searchOf w) k hs n
   unfolding reached
@@ -45,18 +53,30 @@ module _ (k : ℕ) (small : k ≤ 16) (w : Weights) (hs : List Held) where
   unfolding reached
   reached-none = ap (λ l. asked k w l (cellAt w 0)) (sym (list-zero (searchOf w) k hs))
 
+  -- the list after n steps, by what the reports bring to it
+  pub after-top : (n : ℕ) → listAfter (searchOf w) k hs n ≡ top w k (heldIn (searchOf w) (take n (visiting w)) hs)
+  after-top n =
+      let inside = heldIn (searchOf w) (take n (visiting w)) hs in
+      let same = entries-search w inside in
+      best-same (above w) (above-strict w) k (map (entry w) inside) (entries w inside) (same .1, same .0)
+
   -- one step more
   pub reached-more : (n : ℕ) → n < 256 → stepped (reached k w hs n) hs ≡ reached k w hs (suc n)
   unfolding reached stepped
   reached-more n h =
-      ap (λ l. asked k w (best above k (l ++ map (entry w) (only next hs))) after) (reached-lines n)
-      ∙ ap (λ r. asked k w (best above k (listAfter (searchOf w) k hs n ++ map (entry w) r)) after)
-      (only-same next (λ r. has (cell (r .loss) (r .shake)) (cellAt w n ∷ [])) hs (λ r m. one (cell (r .loss) (r .shake))))
-      ∙ ap (λ l. asked k w l after) (sym (list-suc (searchOf w) above-strict k hs n (cellAt w n) (drop (suc n) (visiting w)) (left-at w n h)))
+      ap (λ l. asked k w (best (above w) k (l ++ entries w (only (inCell (cellAt w n)) hs))) after) (reached-lines n)
+      ∙ ap (λ r. asked k w (best (above w) k (listAfter (searchOf w) k hs n ++ entries w r)) after)
+      (only-same (inCell (cellAt w n)) (λ r. has (cell (r .values)) (cellAt w n ∷ [])) hs (λ r m. one (cell (r .values))))
+      ∙ ap (λ l. asked k w l after)
+      (best-same (above w) (above-strict w) k (old ++ entries w new) (old ++ map (entry w) new) (same-behind old (entries w new) (map (entry w) new) (entries-search w new))
+      ∙ sym (list-suc (searchOf w) (above-strict w) k hs n (cellAt w n) (drop (suc n) (visiting w)) (left-at w n h)))
       ∙ ap (λ m. asked k w (listAfter (searchOf w) k hs (suc n)) (cellAt w m)) (ap (λ m. m + 1) (place-at w n h) ∙ add-one n)
     where
-      next : Held → Bool
-      next r = eqb (cell (r .loss) (r .shake)) (cellAt w n)
+      old : List Entry
+      old = listAfter (searchOf w) k hs n
+
+      new : List Held
+      new = heldIn (searchOf w) (cellAt w n ∷ []) hs
 
       after : ℕ
       after = cellAt w (placeOf w (cellAt w n) + 1)

@@ -8,7 +8,7 @@ use lib.IntN.{ℤ}
 use lib.ListN.{length, take}
 use Rattle.laws.specs.Lists.{onLast}
 use Rattle.ranking.specs.Standing.{Entry}
-use Rattle.ranking.specs.declared.Weights.{Weights}
+use Rattle.ranking.specs.declared.Rule.{Rule}
 use Rattle.list.specs.Lines.{linesOf}
 use Rattle.list.proofs.Stored as list
 pub use Rattle.list.proofs.Stored.{Roomy, lineAt, take-line, take-min}
@@ -17,7 +17,7 @@ use Rattle.question.specs.Lines.{listOf, lines, asked}
 use Rattle.question.specs.Inner.{shown}
 
 -- what is stored is read back
-pub lines-asked : (k : ℕ) (w : Weights) (l : List Entry) (next : ℕ) → length l ≤ 16 → lines (asked k w l next) ≡ l
+pub lines-asked : (k : ℕ) (w : Rule) (l : List Entry) (next : ℕ) → length l ≤ 16 → lines (asked k w l next) ≡ l
 lines-asked k w l next h = list.lines-back l h
 
 -- as a function knows it of the arrays of a question that is handed in

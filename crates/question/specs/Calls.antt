@@ -3,44 +3,39 @@ use Prim.Native.Nat.{ℕ, _+_, min}
 use mathlib.Core.Bool.{Bool, cond, _&&_}
 use lib.ListN.{drop}
 use lib.Dec.{leb, ltb}
-use Rattle.ranking.specs.declared.Weights.{Weights}
-use Rattle.values.specs.Range.{inRange}
-use Rattle.ranking.specs.Cells.{score}
+unfoldable pub use Rattle.laws.specs.Whole.{equal}
+use Rattle.ranking.specs.declared.Rule.{Rule}
+use Rattle.ranking.specs.Cells.{cellCount, fitRule}
 use Rattle.ranking.specs.Standing.{Entry, above, entry}
+use Rattle.window.specs.declared.Counts.{Counts}
 use Rattle.window.specs.declared.Window.{Window}
 use Rattle.window.specs.Rows.{sized, rowOf, reportIn, heldReports, fitWindow}
 pub use Rattle.list.specs.Lines.{allOf, blank}
-unfoldable pub use Rattle.list.specs.Lines.{equal}
-use Rattle.list.specs.Lines.{linesOf, falls}
+use Rattle.list.specs.Lines.{room, linesOf, falls}
 use Rattle.question.specs.Lines.{lines, finished, begun, stepped}
 use Rattle.question.specs.declared.Question.{Question}
 use Rattle.question.specs.declared.Stepped.{Stepped}
 
--- The window holds the report of number m: "reports are numbered 1, 2, 3", and the held ones are the latest.
-unfoldable pub holdsNumber : (size entered held m : ℕ) → Bool
-holdsNumber size entered held m = sized size && leb 1 m && leb m entered && ltb entered (m + held)
+-- A window of these counts holds the report of number m: "reports are numbered 1, 2, 3", and the held ones are the latest.
+unfoldable pub holdsNumber : Counts → ℕ → Bool
+holdsNumber c m = sized (c .size) && leb 1 m && leb m (c .entered) && ltb (c .entered) (m + c .held)
 
 -- A line names a report that is held, with its score, as its row has it.
-unfoldable pub heldAs : Window → Weights → Entry → Bool
-heldAs w weights e =
-    holdsNumber (w .size) (w .entered) (w .held) (e .number)
-    && equal (e .score) (entry weights (reportIn w (rowOf (w .size) (e .number))) .score)
+unfoldable pub heldAs : Window → Rule → Entry → Bool
+heldAs w rule e =
+    holdsNumber (w .counts) (e .number) && equal (e .score) (entry rule (reportIn w (rowOf (w .counts .size) (e .number))) .score)
 
 -- "any stored number is outside its range", "a list is longer than min(k, held)"
 unfoldable pub rangesFit : Question → ℕ → Bool
 rangesFit q held =
-    leb 1 (q .k)
-    && leb (q .k) 16
-    && (inRange (q .weights .loss) && inRange (q .weights .shake))
-    && leb (q .next) 256
-    && leb (q .len) (min (q .k) held)
+    leb 1 (q .k) && leb (q .k) room && fitRule (q .rule) && leb (q .next) cellCount && leb (q .len) (min (q .k) held)
 
 -- "names a report not held or with another score, or isn't strictly falling in rank"; places past the list's end are 0.
 unfoldable pub fitQuestion : Window → Question → Bool
 fitQuestion w q =
-    rangesFit q (w .held)
-    && allOf (heldAs w (q .weights)) (lines q)
-    && falls above (lines q)
+    rangesFit q (w .counts .held)
+    && allOf (heldAs w (q .rule)) (lines q)
+    && falls (above (q .rule)) (lines q)
     && allOf blank (drop (q .len) (linesOf (q .numbers) (q .scores)))
 
 -- "A step 24, 25"; a refusal hands the question back.

@@ -1,18 +1,17 @@
 -- A question as it is stored, and what its search does to it (document 01, "Window and questions").
 use Prim.Native.Nat.{ℕ, zero, suc, _+_}
 use mathlib.Core.Bool.{Bool, cond, not, _&&_, _||_}
-use mathlib.Core.List.{List, [], _∷_, _++_, map}
+use mathlib.Core.List.{List, [], _++_, map}
 use lib.ListN.{length, take}
 use lib.Dec.{leb, ltb, eqb}
-use lib.IntN.{pos}
-use Rattle.ranking.specs.declared.Weights.{Weights}
 use Rattle.laws.specs.Lists.{onLast, only}
 use Rattle.search.specs.Best.{best, place}
-use Rattle.ranking.specs.Cells.{cell, cells, visiting, placeOf, cellAt}
 use Rattle.search.specs.Search.{has, steps, found}
-use Rattle.ranking.specs.Standing.{Held, Entry, above, entry, reaches, searchOf}
+use Rattle.ranking.specs.declared.Rule.{Rule}
+use Rattle.ranking.specs.Cells.{noRule, cell, cellCount, cells, visiting, placeOf, cellAt}
+use Rattle.ranking.specs.Standing.{Held, Entry, above, entries, reaches, searchOf}
 use Rattle.window.specs.declared.Window.{Window}
-use Rattle.window.specs.Rows.{standing}
+use Rattle.window.specs.Rows.{rowCount, standing}
 use Rattle.list.specs.declared.Lines.{Lines}
 use Rattle.list.specs.Lines.{room, numbersOf, scoresOf, stored, linesIn}
 pub use Rattle.list.specs.Lines.{linesOf}
@@ -31,28 +30,28 @@ lines q = linesIn (listOf q)
 -- The same question with another list.
 abbrev pub holding : Question → Lines → Question
 holding q l =
-    record { k = q .k; weights = q .weights; numbers = l .numbers; scores = l .scores; len = l .len; next = q .next }
+    record { k = q .k; rule = q .rule; numbers = l .numbers; scores = l .scores; len = l .len; next = q .next }
 
 -- And with some lines, as a list stores them.
 abbrev pub withList : Question → List Entry → Question
 withList q l = holding q (stored l)
 
 -- A question with that list and that next cell.
-abbrev pub asked : ℕ → Weights → List Entry → ℕ → Question
-asked k w l next =
-    record { k = k; weights = w; numbers = numbersOf l; scores = scoresOf l; len = length l; next = next }
+abbrev pub asked : ℕ → Rule → List Entry → ℕ → Question
+asked k rule l next =
+    record { k = k; rule = rule; numbers = numbersOf l; scores = scoresOf l; len = length l; next = next }
 
 -- "An empty slot is k = 0 and everything else 0."
 abbrev pub emptySlot : Question
-emptySlot = asked 0 (record { loss = pos 0; shake = pos 0 }) [] 0
+emptySlot = asked 0 noRule [] 0
 
 -- The steps that the search has taken: the cells before the next one in the visiting order, all of them where none is left.
 unfoldable pub stepsTaken : Question → ℕ
-stepsTaken q = cond (ltb (q .next) 256) (placeOf (q .weights) (q .next)) 256
+stepsTaken q = cond (ltb (q .next) cellCount) (placeOf (q .rule) (q .next)) cellCount
 
 -- "Those n cells are marked."
 unfoldable pub marked : Question → List ℕ
-marked q = take (stepsTaken q) (visiting (q .weights))
+marked q = take (stepsTaken q) (visiting (q .rule))
 
 -- The cell is among them.
 unfoldable pub isMarked : Question → ℕ → Bool
@@ -64,7 +63,7 @@ marksOf q = map (isMarked q) cells
 
 -- One entry put in its rank among the lines, "each once"; a list has room for 16.
 abbrev pub withEntry : Question → Entry → Question
-withEntry q e = withList q (take room (place above e (lines q)))
+withEntry q e = withList q (take room (place (above (q .rule)) e (lines q)))
 
 -- "The list is cut to k."
 abbrev pub cutToK : Question → Question
@@ -73,21 +72,25 @@ cutToK q = withList q (take (q .k) (lines q))
 -- "It ends when no cell is left, or when the list has k entries and the next cell's best possible score is below the last entry's score."
 unfoldable pub finished : Question → Bool
 finished q =
-    leb 256 (q .next) || eqb (q .len) (q .k) && onLast (λ e. not (reaches (q .weights) (q .next) e)) (lines q)
+    leb cellCount (q .next) || eqb (q .len) (q .k) && onLast (λ e. not (reaches (q .rule) (q .next) e)) (lines q)
 
 -- "Beginning a search anew: empty list, no marks, no steps taken."
 abbrev pub begun : Question → Question
-begun q = asked (q .k) (q .weights) [] (cellAt (q .weights) 0)
+begun q = asked (q .k) (q .rule) [] (cellAt (q .rule) 0)
+
+-- The report lies in the cell c.
+abbrev pub inCell : ℕ → Held → Bool
+inCell c h = eqb (cell (h .values)) c
 
 -- "the best k of its old entries and that cell's held reports, each once"
 abbrev pub taken : Question → List Held → List Entry
 taken q hs =
-    best above (q .k) (lines q ++ map (entry (q .weights)) (only (λ h. eqb (cell (h .loss) (h .shake)) (q .next)) hs))
+    best (above (q .rule)) (q .k) (lines q ++ entries (q .rule) (only (inCell (q .next)) hs))
 
 -- "The next cell is marked, and the list becomes the best k of its old entries and that cell's held reports, each once."
 unfoldable pub stepped : Question → List Held → Question
 stepped q hs =
-    asked (q .k) (q .weights) (taken q hs) (cellAt (q .weights) (placeOf (q .weights) (q .next) + 1))
+    asked (q .k) (q .rule) (taken q hs) (cellAt (q .rule) (placeOf (q .rule) (q .next) + 1))
 
 -- n steps, one after the other.
 unfoldable pub takes : ℕ → Question → List Held → Question
@@ -97,25 +100,25 @@ takes (suc n) q hs = stepped (takes n q hs) hs
 -- A search from its beginning to its end.
 unfoldable pub searched : Question → List Held → Question
 searched q hs =
-    asked (q .k) (q .weights) (found (searchOf (q .weights)) (q .k) hs)
-    (cellAt (q .weights) (steps (searchOf (q .weights)) (q .k) hs))
+    asked (q .k) (q .rule) (found (searchOf (q .rule)) (q .k) hs)
+    (cellAt (q .rule) (steps (searchOf (q .rule)) (q .k) hs))
 
 -- What it leaves, and the steps that it took.
 abbrev pub searchedIn : Question → List Held → Searched
-searchedIn q hs = record { steps = steps (searchOf (q .weights)) (q .k) hs; question = searched q hs }
+searchedIn q hs = record { steps = steps (searchOf (q .rule)) (q .k) hs; question = searched q hs }
 
 -- The reports that stand in a window's rows, whatever they hold; of a fit window they are the held ones.
 unfoldable pub inRows : Window → List Held
-inRows w = standing w 1024
+inRows w = standing w rowCount
 
 -- A step on whatever stands in a window's rows; none, where k is over 16 or no cell is left.
 unfoldable pub stepOn : Question → Window → Question
-stepOn q w = cond (leb (q .k) 16 && ltb (q .next) 256) (stepped q (inRows w)) q
+stepOn q w = cond (leb (q .k) room && ltb (q .next) cellCount) (stepped q (inRows w)) q
 
 -- A search of whatever stands in a window's rows, and its steps; none, where k is over 16.
 unfoldable pub searchedOn : Question → Window → Searched
-searchedOn q w = cond (leb (q .k) 16) (searchedIn q (inRows w)) (record { steps = 0; question = q })
+searchedOn q w = cond (leb (q .k) room) (searchedIn q (inRows w)) (record { steps = 0; question = q })
 
 -- The same over what stands in the first n rows.
 unfoldable pub searchedFirst : Question → Window → ℕ → Searched
-searchedFirst q w n = cond (leb (q .k) 16) (searchedIn q (standing w n)) (record { steps = 0; question = q })
+searchedFirst q w n = cond (leb (q .k) room) (searchedIn q (standing w n)) (record { steps = 0; question = q })

@@ -1,11 +1,13 @@
-// One question: its weights, its list of at most 16 lines, and how far its search has come.
+// One question: its rule, its list of at most 16 lines, and how far its search has come.
 ghost use mathlib.Core.Path.{_≡_};
 ghost use mathlib.Core.List.{[]};
-ghost use Prim.Native.Nat.{min, _%_, _≤_};
+ghost use Prim.Native.Nat.{min, _≤_};
 ghost use lib.ListN.{take, drop};
 ghost use Rattle.search.specs.Best.{best, place};
+ghost use Rattle.values.specs.Range.{low};
 ghost use Rattle.ranking.specs.Standing.{above};
-ghost use Rattle.list.specs.Lines.{linesOf, allOf, blank};
+ghost use Rattle.window.specs.Rows.{rowCount};
+ghost use Rattle.list.specs.Lines.{room, linesOf, allOf, blank};
 ghost use Rattle.list.specs.Rows.{rowsOf};
 ghost use Rattle.question.specs.Lines.{asked, listOf, holding, withList, lines, emptySlot, withEntry, cutToK, finished, begun, stepOn, searchedOn, searchedFirst, stepsTaken, isMarked, marksOf};
 ghost use Rattle.question.specs.Calls.{holdsNumber, heldAs, rangesFit, fitQuestion, stepCall, beginCall};
@@ -13,14 +15,16 @@ ghost use Rattle.question.specs.Inner.{joined, taking, listTaken, at, en
 use list::Lines;
 use list::gathered;
 use ranking::Grid;
-use ranking::Weights;
+use ranking::Rule;
+use values::Values;
+use window::Counts;
 use window::Window;
 
 // `next` is the cell that the search takes next, 256 where none is left: the cells before it in the visiting order are the
 // marked ones. An empty slot has k 0 and everything else 0, and so has every line past the first `len`.
 pub struct Question {
     pub k: u8,
-    pub weights: Weights,
+    pub rule: Rule,
     pub numbers: [u32; Lines::ROOM],
     pub scores: [i32; Lines::ROOM],
     pub len: u8,
@@ -43,6 +47,9 @@ impl Question {
     // A list's room, and the largest k.
     pub const LINES: u8 = 16;
 
+    // One for each cell.
+    pub const MARKS: usize = 256;
+
     pub const UNFIT: u8 = 24;
 
     pub const FINISHED: u8 = 25;
@@ -51,18 +58,18 @@ impl Question {
     pub fn fresh() -> Question
         ensures { λ r. ⌜ r ≡ emptySlot ⌝ }
     {
-        Question::blank(0, Weights { loss: 0, shake: 0 }, 0)
+        Question::blank(0, Rule::none(), 0)
     }
 
     // A question with no lines.
-    fn blank(k: u8, weights: Weights, next: u16) -> Question
-        ensures { λ r. ⌜ r ≡ asked k weights [] next ⌝ }
+    fn blank(k: u8, rule: Rule, next: u16) -> Question
+        ensures { λ r. ⌜ r ≡ asked k rule [] next ⌝ }
     {
         let numbers = [0u32; Lines::ROOM];
         let scores = [0i32; Lines::ROOM];
         Question {
             k,
-            weights,
+            rule,
             numbers,
             scores,
             len: 0,
@@ -87,12 +94,12 @@ impl Question {
     fn holding(self, list: Lines) -> Question
         ensures { λ r. ⌜ r ≡ holding self list ⌝ }
     {
-        let weights = self.weights;
+        let rule = self.rule;
         let numbers = list.numbers;
         let scores = list.scores;
         Question {
             k: self.k,
-            weights,
+            rule,
             numbers,
             scores,
             len: list.len,
@@ -102,9 +109,9 @@ impl Question {
 
     // One entry put in its rank among the lines, once, of which at most `most` are kept.
     fn within(self, most: usize, number: u32, score: i32) -> Question
-        ensures { λ r. ⌜ r ≡ withList self (take (min most 16) (place above (record { number = number; score = score }) (lines self))) ⌝ }
+        ensures { λ r. ⌜ r ≡ withList self (take (min most room) (place (above (self .rule)) (record { number = number; score = score }) (lines self))) ⌝ }
     {
-        self.holding(self.list().placed(most, number, score))
+        self.holding(self.list().placed(self.rule, most, number, score))
     }
 
     // One entry put in its rank among the lines, once, of which at most 16 are kept.
@@ -139,7 +146,7 @@ impl Question {
         }
         let bar = self.list().bar(self.k);
         if bar.full {
-            return self.weights.best(next as u8) < bar.score;
+            return self.rule.best(next as u8) < bar.score;
         }
         false
     }
@@ -148,41 +155,43 @@ impl Question {
     fn begun(self) -> Question
         ensures { λ r. ⌜ r ≡ begun self ⌝ }
     {
-        Question::blank(self.k, self.weights, self.weights.first() as u16)
+        Question::blank(self.k, self.rule, self.rule.first() as u16)
     }
 
     // The best k of the lines.
     fn ranked(self) -> Question
-        requires { ⌜ self .k ≤ 16 ⌝ }
-        ensures { λ r. ⌜ r ≡ withList self (best above (self .k) (lines self)) ⌝ }
+        requires { ⌜ self .k ≤ room ⌝ }
+        ensures { λ r. ⌜ r ≡ withList self (best (above (self .rule)) (self .k) (lines self)) ⌝ }
     {
-        self.holding(self.list().best(self.k as usize))
+        self.holding(self.list().best(self.rule, self.k as usize))
     }
 
     // The report of one row joins the lines, if it lies in the next cell.
-    fn taking(self, number: u32, loss: u16, shake: u16) -> Question
-        ensures { λ r. ⌜ r ≡ taking self (record { number = number; loss = loss % 4096; shake = shake % 4096 }) ⌝ }
+    fn taking(self, number: u32, values: Values) -> Question
+        ensures { λ r. ⌜ r ≡ taking self (record { number = number; values = low values }) ⌝ }
     {
         if number == 0 {
             return self;
         }
         let next = self.next;
-        let cell = Grid::cell(loss, shake) as u16;
+        let cell = Grid::cell(values) as u16;
         if cell != next {
             return self;
         }
-        self.joined(number, self.weights.score(loss, shake))
+        self.joined(number, self.rule.score(values))
     }
 
     // The best k of the lines and of the next cell's reports.
     fn list_taken(self, window: Window) -> Question
-        requires { ⌜ self .k ≤ 16 ⌝ }
-        ensures { λ r. ⌜ r ≡ listTaken self window 1024 ⌝ }
+        requires { ⌜ self .k ≤ room ⌝ }
+        ensures { λ r. ⌜ r ≡ listTaken self window rowCount ⌝ }
     {
         let mut list = self.ranked();
         let mut row: usize = 0;
-        while row < 1024 {
-            list = list.taking(window.numbers[row], window.losses[row], window.shakes[row]);
+        while row < Window::ROWS {
+            let loss = window.losses[row];
+            let shake = window.shakes[row];
+            list = list.taking(window.numbers[row], Values { loss, shake });
             row += 1;
         }
         list
@@ -209,25 +218,30 @@ impl Question {
             return self;
         }
         let list = self.list_taken(window);
-        list.at(self.weights.next(next as u8))
+        list.at(self.rule.next(next as u8))
     }
 
     // A search from its beginning to its end, whatever the window's rows hold; none, where k is over 16.
     pub fn searched(self, window: Window) -> Searched
         ensures { λ r. ⌜ r ≡ searchedOn self window ⌝ }
     {
-        self.searched_in(&window.losses, &window.shakes, &window.numbers, 1024)
+        self.searched_in(
+            &window.losses,
+            &window.shakes,
+            &window.numbers,
+            Window::ROWS,
+        )
     }
 
     // The same over the reports in the first `rows` rows alone, for a caller that lends them.
     pub fn searched_in<'a>(
         self,
-        losses: &'a [u16; 1024],
-        shakes: &'a [u16; 1024],
-        numbers: &'a [u32; 1024],
+        losses: &'a [u16; Window::ROWS],
+        shakes: &'a [u16; Window::ROWS],
+        numbers: &'a [u32; Window::ROWS],
         rows: usize,
     ) -> Searched
-        ensures { λ r. ⌜ r ≡ searchedFirst self (rowsOf (now (losses .entry)) (now (shakes .entry)) (now (numbers .entry))) (min rows 1024) ⌝ }
+        ensures { λ r. ⌜ r ≡ searchedFirst self (rowsOf (now (losses .entry)) (now (shakes .entry)) (now (numbers .entry))) (min rows rowCount) ⌝ }
     {
         if Question::LINES < self.k {
             return Searched {
@@ -235,7 +249,7 @@ impl Question {
                 question: self,
             };
         }
-        let list = gathered(self.weights, self.k, losses, shakes, numbers, rows);
+        let list = gathered(self.rule, self.k, losses, shakes, numbers, rows);
         self.holding(list).ended()
     }
 
@@ -245,7 +259,7 @@ impl Question {
     {
         let bar = self.list().bar(self.k);
         if bar.full {
-            let reach = self.weights.reach(bar.score);
+            let reach = self.rule.reach(bar.score);
             return Searched {
                 steps: reach.cells,
                 question: self.at(reach.next),
@@ -263,7 +277,7 @@ impl Question {
     {
         let next = self.next;
         if next < Grid::CELLS {
-            return self.weights.rank(next as u8);
+            return self.rule.rank(next as u8);
         }
         Grid::CELLS
     }
@@ -274,18 +288,18 @@ impl Question {
     {
         let next = self.next;
         if next < Grid::CELLS {
-            return self.weights.before(cell, next as u8);
+            return self.rule.before(cell, next as u8);
         }
         true
     }
 
     // Of each cell, whether the search has taken it.
-    pub fn marks(self) -> [bool; 256]
+    pub fn marks(self) -> [bool; Question::MARKS]
         ensures { λ r. ⌜ r ≡ marksOf self ⌝ }
     {
-        let mut marks = [false; 256];
+        let mut marks = [false; Question::MARKS];
         let mut cell: usize = 0;
-        while cell < 256 {
+        while cell < Question::MARKS {
             marks[cell] = self.marked(cell as u8);
             cell += 1;
         }
@@ -297,10 +311,11 @@ impl Question {
     pub fn fit(self, window: Window) -> bool
         ensures { λ r. ⌜ r ≡ fitQuestion window self ⌝ }
     {
-        if self.ranges_fit(window.held) {
+        let counts = window.counts;
+        if self.ranges_fit(counts.held) {
             if self.lines_held(window) {
                 let list = self.list();
-                if list.falls() {
+                if list.falls(self.rule) {
                     return list.rest_blank();
                 }
             }
@@ -361,7 +376,7 @@ impl Question {
         }
     }
 
-    // k, the weights, the next cell and the list's length are in their ranges.
+    // k, the rule, the next cell and the list's length are in their ranges.
     fn ranges_fit(self, held: u16) -> bool
         ensures { λ r. ⌜ r ≡ rangesFit self held ⌝ }
     {
@@ -373,7 +388,7 @@ impl Question {
         if Question::LINES < k {
             return false;
         }
-        if !self.weights.fit() {
+        if !self.rule.fit() {
             return false;
         }
         if Grid::CELLS < self.next {
@@ -387,12 +402,12 @@ impl Question {
 
     // Every line names a report that the window holds, with its score.
     fn lines_held(self, window: Window) -> bool
-        ensures { λ r. ⌜ r ≡ allOf (heldAs window (self .weights)) (lines self) ⌝ }
+        ensures { λ r. ⌜ r ≡ allOf (heldAs window (self .rule)) (lines self) ⌝ }
     {
         let n = self.list().shown();
         let mut i: usize = 0;
         while i < n {
-            if !held_as(window, self.weights, self.numbers[i], self.scores[i]) {
+            if !held_as(window, self.rule, self.numbers[i], self.scores[i]) {
                 return false;
             }
             i += 1;
@@ -409,20 +424,26 @@ impl Question {
 }
 
 // The window holds the report of that number, with that score.
-fn held_as(window: Window, weights: Weights, number: u32, score: i32) -> bool
-    ensures { λ r. ⌜ r ≡ heldAs window weights (record { number = number; score = score }) ⌝ }
+fn held_as(window: Window, rule: Rule, number: u32, score: i32) -> bool
+    ensures { λ r. ⌜ r ≡ heldAs window rule (record { number = number; score = score }) ⌝ }
 {
-    if !holds_number(window.size, window.entered, window.held, number) {
+    let counts = window.counts;
+    if !holds_number(counts, number) {
         return false;
     }
-    let row = ((number - 1) % (window.size as u32)) as usize;
-    score == weights.score(window.losses[row], window.shakes[row])
+    let row = ((number - 1) % (counts.size as u32)) as usize;
+    let loss = window.losses[row];
+    let shake = window.shakes[row];
+    score == rule.score(Values { loss, shake })
 }
 
-// The window holds the report of that number.
-fn holds_number(size: u16, entered: u32, held: u16, number: u32) -> bool
-    ensures { λ r. ⌜ r ≡ holdsNumber size entered held number ⌝ }
+// A window of these counts holds the report of that number.
+fn holds_number(counts: Counts, number: u32) -> bool
+    ensures { λ r. ⌜ r ≡ holdsNumber counts number ⌝ }
 {
+    let size = counts.size;
+    let entered = counts.entered;
+    let held = counts.held as u64;
     if size < Window::SMALLEST {
         return false;
     }
@@ -435,5 +456,5 @@ fn holds_number(size: u16, entered: u32, held: u16, number: u32) -> bool
     if entered < number {
         return false;
     }
-    (entered as u64) < (number as u64) + (held as u64)
+    (entered as u64) < (number as u64) + held
 }

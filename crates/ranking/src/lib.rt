@@ -4,8 +4,8 @@ ghost use mathlib.Core.Path.{_≡_};
 ghost use Prim.Native.Nat.{_+_, _*_, _%_, _<_, _≤_};
 ghost use lib.IntN.{pos, _*ℤ_};
 ghost use Rattle.laws.specs.Whole.{equal};
-ghost use Rattle.values.specs.Range.{low};
-ghost use Rattle.ranking.specs.Cells.{ruleOf, noRule, isNone, weightFits, fitRule, score, cell, corner, bestScore, greater, before, placeOf, cellAt, reachOf};
+ghost use Rattle.values.specs.Range.{valueCount, low};
+ghost use Rattle.ranking.specs.Cells.{columns, cellCount, ruleOf, noRule, isNone, weightFits, fitRule, score, cell, corner, bestScore, greater, before, placeOf, cellAt, reachOf};
 ghost use Rattle.ranking.specs.Scan.{leads, nearer, placeAfter, met, metRow};
 ghost use Rattle.ranking.specs.Standing.{above, passes, placeBy};
 use values::Values;
@@ -182,8 +182,8 @@ impl Rule {
 
     // The cells of one row more.
     fn row_met(self, sought: Sought, row: u16, score: i32) -> Sought
-        requires { ⌜ (row < 16) × (sought .cells ≤ 16 * row) ⌝ }
-        ensures { λ r. ⌜ r ≡ metRow self score sought row 16 ⌝ }
+        requires { ⌜ (row < columns) × (sought .cells ≤ columns * row) ⌝ }
+        ensures { λ r. ⌜ r ≡ metRow self score sought row columns ⌝ }
     {
         let mut found = sought;
         let mut column: u16 = 0;
@@ -237,7 +237,7 @@ impl Sought {
     // One cell more, of a greater number than those before: it is below the score and taken sooner than the
     // others that are, or not, or it counts.
     fn met(self, cell: u16, best: i32, score: i32) -> Sought
-        requires { ⌜ self .cells < 256 ⌝ }
+        requires { ⌜ self .cells < cellCount ⌝ }
         ensures { λ r. ⌜ r ≡ met self cell best score ⌝ }
     {
         let cells = self.cells;
@@ -283,7 +283,7 @@ fn is_zero(weight: i16) -> bool
 
 // What a value counts for by its weight.
 fn part(weight: i16, value: u16) -> i32
-    ensures { λ r. ⌜ r ≡ weight *ℤ pos (value % 4096) ⌝ }
+    ensures { λ r. ⌜ r ≡ weight *ℤ pos (value % valueCount) ⌝ }
 {
     let a = weight as i32;
     let v = (value % Values::COUNT) as i32;
@@ -292,7 +292,7 @@ fn part(weight: i16, value: u16) -> i32
 
 // The value of a column or a row that counts for most by its weight.
 fn corner(weight: i16, index: u16) -> u16
-    requires { ⌜ index < 16 ⌝ }
+    requires { ⌜ index < columns ⌝ }
     ensures { λ r. ⌜ r ≡ corner weight index ⌝ }
 {
     if 0 < weight {

@@ -6,6 +6,9 @@ use Rattle.question.specs.Calls.{holdsNumber}
 use Rattle.question.proofs.holds_number.Statement.{statement}
 use Rattle.question.proofs.holds_number.Tie as tie
 
+cast-held : tie.Need-cast-held
+cast-held c = search needs
+
 returns : tie.Need-returns
 unfolding holdsNumber
 returns c = rw (lt-leb 1 _ (c .if1 .taken))
@@ -28,6 +31,9 @@ returns-4 c =
       lt-leb _ _ (c .if4 .taken),
     )
 
+cast-result : tie.Need-cast-result
+cast-result c = search needs
+
 add-result : tie.Need-add-result
 add-result c = search needs
 
@@ -42,4 +48,4 @@ returns-5 c =
     )
 
 pub holds-number-spec : {M : Type 1} → statement M
-holds-number-spec = tie.close (tie.spec returns returns-2 returns-3 returns-4 add-result returns-5)
+holds-number-spec = tie.close (tie.spec cast-held returns returns-2 returns-3 returns-4 cast-result add-result returns-5)

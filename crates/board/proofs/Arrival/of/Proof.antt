@@ -4,7 +4,7 @@ use mathlib.Core.Path.{sym, ap, _∙_}
 use Prim.Native.Nat.{_+_}
 use native.Mathlib.Omega.{arith}
 use Rattle.board.specs.Work.{arrival}
-use Rattle.board.proofs.Refusals.{zero-is, zero-not, enterable}
+use Rattle.board.proofs.Refusals.{zero-is, zero-not, Enterable, enterable}
 use borrow.Author.Needs.{needs}
 use Rattle.board.proofs.Arrival.of.Statement.{statement}
 use Rattle.board.proofs.Arrival.of.Tie as tie
@@ -19,23 +19,22 @@ returns c =
     (λ i. record { refusal = refusal i; number = 0; oldest = 0 })
     ∙ sym (zero-not _ _ (λ z. c .if1 .taken (refusal ∙ z)))
 
-add-t8 : tie.Need-add-t8
-add-t8 c =
-    let a = c .before .before .args in
-    let may = enterable (a .counts) (a .values) (sym (c .before .enter-refusal .ensures) ∙ c .if1 .left) in
-    omega (arith, may .room)
+module _ (c : tie.Else1) where
+  may-enter : Enterable (c .before .before .args .counts) (c .before .before .args .values)
+  may-enter = enterable (c .before .before .args .counts) (c .before .before .args .values) (sym (c .before .enter-refusal .ensures) ∙ c .if1 .left)
+
+add-number : tie.Need-add-number
+add-number c = omega (arith, may-enter (c .before) .room)
 
 leaving-requires : tie.Need-leaving-requires
-leaving-requires c κs =
-    let a = c .before .before .args in
-    enterable (a .counts) (a .values) (sym (c .before .enter-refusal .ensures) ∙ c .if1 .left) .room
+leaving-requires c κs = may-enter (c .before) .room
 
 returns-2 : tie.Need-returns-2
 unfolding arrival
 returns-2 c =
-    let a = c .before .before .before .args in
+    let a = c .before .before .before .before .args in
     ap (λ m. record { refusal = 0; number = a .counts .entered + 1; oldest = m }) (c .leaving .ensures)
-    ∙ sym (zero-is _ _ (sym (c .before .before .enter-refusal .ensures) ∙ c .before .if1 .left))
+    ∙ sym (zero-is _ _ (sym (c .before .before .before .enter-refusal .ensures) ∙ c .before .before .if1 .left))
 
 pub of-spec : {M : Type 1} → statement M
-of-spec = tie.close (tie.spec enter-refusal-requires returns add-t8 leaving-requires returns-2)
+of-spec = tie.close (tie.spec enter-refusal-requires returns add-number leaving-requires returns-2)

@@ -19,7 +19,7 @@ blank-requires c κs = search needs
 returns : tie.Need-returns
 returns c =
     let q = c .before .before .args .self in
-    c .blank .ensures ∙ ap (asked (q .k) (q .weights) []) (c .before .first .ensures)
+    c .blank .ensures ∙ ap (asked (q .k) (q .rule) []) (c .before .first .ensures)
 
 pub begun-spec : {M : Type 1} → statement M
 begun-spec = tie.close (tie.spec first-requires cast-blank blank-requires returns)

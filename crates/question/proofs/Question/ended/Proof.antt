@@ -30,7 +30,7 @@ returns c =
     let bar = counted .bar .ensures ∙ ap (λ l. barOf l (q .k)) (counted .before .list .ensures) in
     ap (λ b. record { steps = c .before .reach .result .cells; question = b }) (c .at .ensures)
     ∙ ended-full q (counted .bar .result) bar (told .before .if1 .taken) (c .before .reach .result)
-    (c .before .reach .ensures ∙ ap (reachOf (q .weights)) (kept w32 (counted .bar .result .score) (told .struct-told .given .1 .1 .0 .1)))
+    (c .before .reach .ensures ∙ ap (reachOf (q .rule)) (kept w32 (counted .bar .result .score) (told .struct-told .given .1 .1 .0 .1)))
 
 at-requires-2 : tie.Need-at-requires-2
 at-requires-2 c κs = search needs

@@ -31,33 +31,33 @@ returns c =
     let list = third .before .before in
     let second = list .before in
     let first = second .before .before in
-    let start = first .before .before in
+    let start = first .before .before .before in
     c .rest-blank .ensures
     ∙ ap (λ (l : Lines). allOf blank (drop (l .len) (linesOf (l .numbers) (l .scores)))) (list .list .ensures)
     ∙ sym
     (fit-rest (start .args .window) (start .args .self) (sym (first .before .ranges-fit .ensures) ∙ first .if1 .taken) (sym (second .before .lines-held .ensures) ∙ second .if2 .taken)
-    (ap (λ l. falls above (linesIn l)) (sym (list .list .ensures)) ∙ sym (third .before .falls .ensures) ∙ third .if3 .taken))
+    (ap (λ l. falls (above (start .args .self .rule)) (linesIn l)) (sym (list .list .ensures)) ∙ sym (third .before .falls .ensures) ∙ third .if3 .taken))
 
 returns-2 : tie.Need-returns-2
 returns-2 c =
     let list = c .before .before in
     let second = list .before in
     let first = second .before .before in
-    let start = first .before .before in
+    let start = first .before .before .before in
     sym
     (unfit-fall (start .args .window) (start .args .self) (sym (first .before .ranges-fit .ensures) ∙ first .if1 .taken) (sym (second .before .lines-held .ensures) ∙ second .if2 .taken)
-    (ap (λ l. falls above (linesIn l)) (sym (list .list .ensures)) ∙ sym (c .before .falls .ensures) ∙ c .if3 .left))
+    (ap (λ l. falls (above (start .args .self .rule)) (linesIn l)) (sym (list .list .ensures)) ∙ sym (c .before .falls .ensures) ∙ c .if3 .left))
 
 returns-3 : tie.Need-returns-3
 returns-3 c =
     let first = c .before .before in
-    let start = first .before .before in
+    let start = first .before .before .before in
     sym
     (unfit-lines (start .args .window) (start .args .self) (sym (first .before .ranges-fit .ensures) ∙ first .if1 .taken) (sym (c .before .lines-held .ensures) ∙ c .if2 .left))
 
 returns-4 : tie.Need-returns-4
 returns-4 c =
-    let start = c .before .before in
+    let start = c .before .before .before in
     sym (unfit-ranges (start .args .window) (start .args .self) (sym (c .before .ranges-fit .ensures) ∙ c .if1 .left))
 
 pub fit-spec : {M : Type 1} → statement M

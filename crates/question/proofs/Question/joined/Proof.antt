@@ -24,7 +24,7 @@ returns c =
     let a = start .args in
     let q = a .self in
     c .within .ensures
-    ∙ ap (λ s. withList q (take (min (q .k) 16) (place above (record { number = a .number; score = s }) (lines q)))) (toZ-ofZ (start .fits .score))
+    ∙ ap (λ s. withList q (take (min (q .k) 16) (place (above (q .rule)) (record { number = a .number; score = s }) (lines q)))) (toZ-ofZ (start .fits .score))
     ∙ within-joined q (record { number = a .number; score = a .score })
 
 pub joined-spec : {M : Type 1} → statement M

@@ -15,7 +15,7 @@ use Rattle.question.proofs.Question.lines_held.Tie as tie
 
 abbrev Inv-loop : tie.InvT-loop
 Inv-loop window self n i₀ i =
-    Walk (heldAs window (self .weights)) (allOf (heldAs window (self .weights)) (lines self)) (self .numbers) (self .scores) n i
+    Walk (heldAs window (self .rule)) (allOf (heldAs window (self .rule)) (lines self)) (self .numbers) (self .scores) n i
 
 abbrev μ-loop : tie.MeasureT-loop
 μ-loop window self n i₀ i = n - i
@@ -36,7 +36,7 @@ loop-holds c =
       up-to = search needs;
       within = search needs;
       room = room;
-      decides = ap (allOf (heldAs (start .args .window) (q .weights))) (shown-lines q room (c .shown .result) (c .shown .ensures ∙ ap (λ (l : Lines). min (l .len) 16) (c .before .list .ensures)));
+      decides = ap (allOf (heldAs (start .args .window) (q .rule))) (shown-lines q room (c .shown .result) (c .shown .ensures ∙ ap (λ (l : Lines). min (l .len) 16) (c .before .list .ensures)));
     }
 
 mul-held-as : tie.Need-mul-held-as Inv-loop μ-loop

@@ -27,23 +27,23 @@ loop-holds c =
       taken-none (start .args .self) (c .ranked .result) (start .pre) (c .ranked .ensures) (start .args .t2),
     )
 
+mul-loss : tie.Need-mul-loss Inv-loop μ-loop
+mul-loss c = search needs
+
+element-copy-out-loss : tie.Need-element-copy-out-loss Inv-loop μ-loop
+element-copy-out-loss c = search needs
+
+mul-shake : tie.Need-mul-shake Inv-loop μ-loop
+mul-shake c = search needs
+
+element-copy-out-shake : tie.Need-element-copy-out-shake Inv-loop μ-loop
+element-copy-out-shake c = search needs
+
 mul-taking : tie.Need-mul-taking Inv-loop μ-loop
 mul-taking c = search needs
 
 element-copy-out-taking : tie.Need-element-copy-out-taking Inv-loop μ-loop
 element-copy-out-taking c = search needs
-
-mul-taking-2 : tie.Need-mul-taking-2 Inv-loop μ-loop
-mul-taking-2 c = search needs
-
-element-copy-out-taking-2 : tie.Need-element-copy-out-taking-2 Inv-loop μ-loop
-element-copy-out-taking-2 c = search needs
-
-mul-taking-3 : tie.Need-mul-taking-3 Inv-loop μ-loop
-mul-taking-3 c = search needs
-
-element-copy-out-taking-3 : tie.Need-element-copy-out-taking-3 Inv-loop μ-loop
-element-copy-out-taking-3 c = search needs
 
 taking-requires : tie.Need-taking-requires Inv-loop μ-loop
 taking-requires c κs = search needs
@@ -83,12 +83,12 @@ list-taken-spec =
     μ-loop
     ranked-requires
     loop-holds
+    mul-loss
+    element-copy-out-loss
+    mul-shake
+    element-copy-out-shake
     mul-taking
     element-copy-out-taking
-    mul-taking-2
-    element-copy-out-taking-2
-    mul-taking-3
-    element-copy-out-taking-3
     taking-requires
     add-row
     loop-less

@@ -31,7 +31,7 @@ returns c =
     let q = start .args .self in
     let small : min (q .k) 16 ≡ q .k = omega (arith, start .pre) in
     c .holding .ensures
-    ∙ ap (holding q) (ranked .best .ensures ∙ ap₂ (λ n l. stored (best above n (linesIn l))) small (list .list .ensures))
+    ∙ ap (holding q) (ranked .best .ensures ∙ ap₂ (λ n l. stored (best (above (q .rule)) n (linesIn l))) small (list .list .ensures))
 
 pub ranked-spec : {M : Type 1} → statement M
 ranked-spec = tie.close (tie.spec list-requires cast-best best-requires holding-requires returns)

@@ -5,7 +5,9 @@ use Prim.Native.Nat.{min}
 use native.Mathlib.Omega.{arith}
 use borrow.Author.Needs.{needs}
 use Rattle.list.specs.Lines.{stored}
-use Rattle.list.specs.Rows.{rowsOf, gathered}
+use Rattle.ranking.specs.Standing.{top}
+use Rattle.window.specs.Rows.{standing}
+use Rattle.list.specs.Rows.{rowsOf}
 use Rattle.question.specs.Lines.{holding, withList}
 use Rattle.question.specs.Inner.{endedOf}
 use Rattle.question.proofs.Finding.{first-wide, first-small}
@@ -37,7 +39,7 @@ returns-2 c =
     ∙ ap endedOf
     (c .before .holding .ensures
     ∙ ap (holding (a .self)) (found .gathered .ensures)
-    ∙ ap (λ k. withList (a .self) (gathered (a .self .weights) k w (min (a .rows) 1024))) small)
+    ∙ ap (λ k. withList (a .self) (top (a .self .rule) k (standing w (min (a .rows) 1024)))) small)
     ∙ first-small (a .self) w (left .if1 .left) (min (a .rows) 1024)
 
 pub searched-in-spec : {M : Type 1} → statement M

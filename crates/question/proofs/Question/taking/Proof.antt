@@ -1,10 +1,12 @@
 -- Each branch is a case of the definition.
 -- Assumes nothing.
 use mathlib.Core.Path.{sym, ap, _∙_}
-use Prim.Native.Nat.{ℕ, _%_}
+use Prim.Native.Nat.{ℕ}
 use borrow.Author.Tests.{eq-eqb, ne-eqb}
 use borrow.Author.Needs.{needs}
 use mir.Syntax.{w32}
+use Rattle.values.specs.declared.Values.{Values}
+use Rattle.values.specs.Range.{low}
 use Rattle.ranking.specs.Cells.{cell}
 use Rattle.ranking.specs.Standing.{Held}
 use Rattle.laws.proofs.Words.{kept}
@@ -13,13 +15,13 @@ use Rattle.question.proofs.Taking.{taking-none, taking-other, taking-he
 use Rattle.question.proofs.Question.taking.Statement.{statement}
 use Rattle.question.proofs.Question.taking.Tie as tie
 
-abbrev report : ℕ → ℕ → ℕ → Held
-report number loss shake = record { number = number; loss = loss % 4096; shake = shake % 4096 }
+abbrev report : ℕ → Values → Held
+report number values = record { number = number; values = low values }
 
 returns : tie.Need-returns
 returns c =
     let a = c .before .args in
-    sym (taking-none (a .self) (report (a .number) (a .loss) (a .shake)) (eq-eqb (a .number) 0 (c .if1 .taken)))
+    sym (taking-none (a .self) (report (a .number) (a .values)) (eq-eqb (a .number) 0 (c .if1 .taken)))
 
 cell-requires : tie.Need-cell-requires
 cell-requires c κs = search needs
@@ -31,10 +33,10 @@ returns-2 : tie.Need-returns-2
 returns-2 c =
     let first = c .before .before in
     let a = first .before .args in
-    let r = report (a .number) (a .loss) (a .shake) in
+    let r = report (a .number) (a .values) in
     sym
     (taking-other (a .self) r (ne-eqb (a .number) 0 (first .if1 .left))
-    (ne-eqb (cell (r .loss) (r .shake)) (a .self .next) (λ e. c .if2 .taken (c .before .cell .ensures ∙ e))))
+    (ne-eqb (cell (r .values)) (a .self .next) (λ e. c .if2 .taken (c .before .cell .ensures ∙ e))))
 
 score-requires : tie.Need-score-requires
 score-requires c κs = search needs
@@ -46,12 +48,12 @@ returns-3 : tie.Need-returns-3
 returns-3 c =
     let first = c .before .before .before .before in
     let a = first .before .args in
-    let r = report (a .number) (a .loss) (a .shake) in
+    let r = report (a .number) (a .values) in
     c .joined .ensures
     ∙ ap (λ s. joined (a .self) (record { number = a .number; score = s })) (kept w32 (c .before .score .result) (c .before .score .ok) ∙ c .before .score .ensures)
     ∙ sym
     (taking-here (a .self) r (ne-eqb (a .number) 0 (first .if1 .left))
-    (eq-eqb (cell (r .loss) (r .shake)) (a .self .next) (sym (c .before .before .before .cell .ensures) ∙ c .before .before .if2 .left)))
+    (eq-eqb (cell (r .values)) (a .self .next) (sym (c .before .before .before .cell .ensures) ∙ c .before .before .if2 .left)))
 
 pub taking-spec : {M : Type 1} → statement M
 taking-spec =

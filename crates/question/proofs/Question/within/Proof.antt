@@ -29,7 +29,7 @@ returns c =
     c .holding .ensures
     ∙ ap (holding (a .self))
     (placed .placed .ensures
-    ∙ ap₂ (λ s l. stored (take (min (a .most) 16) (place above (record { number = a .number; score = s }) (linesIn l)))) (toZ-ofZ (start .fits .score))
+    ∙ ap₂ (λ s l. stored (take (min (a .most) 16) (place (above (a .self .rule)) (record { number = a .number; score = s }) (linesIn l)))) (toZ-ofZ (start .fits .score))
     (placed .before .list .ensures))
 
 pub within-spec : {M : Type 1} → statement M

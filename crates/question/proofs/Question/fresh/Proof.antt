@@ -1,0 +1,20 @@
+-- A question with no lines and no rule.
+-- Assumes nothing.
+use mathlib.Core.Path.{ap, _∙_}
+use mathlib.Core.List.{[]}
+use borrow.Author.Needs.{needs}
+use Rattle.question.specs.Lines.{asked}
+use Rattle.question.proofs.Question.fresh.Statement.{statement}
+use Rattle.question.proofs.Question.fresh.Tie as tie
+
+none-requires : tie.Need-none-requires
+none-requires c κs = search needs
+
+blank-requires : tie.Need-blank-requires
+blank-requires c κs = search needs
+
+returns : tie.Need-returns
+returns c = c .blank .ensures ∙ ap (λ rule. asked 0 rule [] 0) (c .before .none .ensures)
+
+pub fresh-spec : {M : Type 1} → statement M
+fresh-spec = tie.close (tie.spec none-requires blank-requires returns)
