@@ -17,7 +17,6 @@ use Rattle.laws.proofs.Tests.{clash, and-both, and-true, or-right, if-so}
 use Rattle.laws.proofs.Lists.{index-of, getD-in}
 use Rattle.search.proofs.Best.{length-best-le}
 use Rattle.ranking.proofs.Entries.{above-strict}
-use Rattle.window.specs.declared.Window.{Window}
 use Rattle.window.specs.Rows.{heldReports, fitWindow, added}
 use Rattle.window.specs.History.{numbered, latest}
 use Rattle.question.specs.declared.Question.{Question}
@@ -25,7 +24,7 @@ use Rattle.question.specs.Lines.{lines, emptySlot, finished, inRows}
 use Rattle.list.specs.Lines.{allOf}
 use Rattle.question.specs.Calls.{fitQuestion}
 use Rattle.question.proofs.Stored.{lines-asked}
-use Rattle.question.proofs.Listed.{all-in, all-is}
+use Rattle.list.proofs.Blank.{all-in, all-is}
 use Rattle.slot.specs.declared.Turned.{Turned}
 use Rattle.slot.specs.Asking.{setIn, emptied}
 use Rattle.slot.specs.Turn.{listed, lists}

@@ -4,7 +4,7 @@
 use mathlib.Core.Path.{_≡_, sym, ap, _∙_, subst}
 use mathlib.Core.Logic.{_⊎_, inl, inr, ⊎-elim, _↔_}
 use mathlib.Core.Bool.{true}
-use mathlib.Core.List.{List, [], _∷_, _++_, List·Memᴰ·head, List·Memᴰ·cases-cons, Memᴰ·append-left, Memᴰ·append-right, List·Memᴰ·append-cases, List·Memᴰ·eq-of-singleton}
+use mathlib.Core.List.{[], _∷_, _++_, List·Memᴰ·head, List·Memᴰ·cases-cons, Memᴰ·append-left, Memᴰ·append-right, List·Memᴰ·append-cases, List·Memᴰ·eq-of-singleton}
 use Prim.Native.Nat.{ℕ, _+_, _-_, _≤_, _<_}
 use native.Mathlib.Omega.{arith}
 use borrow.Author.Tests.{ltb-true, ltb-false, lt-ltb, le-ltb}
@@ -18,7 +18,7 @@ use Rattle.laws.proofs.Tests.{Tested, passed, failed, tested, if-so, if-not}
 use Rattle.laws.proofs.Lists.{_⊆_, there, drop-⊆}
 use Rattle.ranking.proofs.Entries.{top-of}
 use Rattle.window.specs.declared.Window.{Window}
-use Rattle.window.specs.Rows.{heldReports, fitWindow, added, reportOf}
+use Rattle.window.specs.Rows.{heldReports, fitWindow, added}
 use Rattle.window.proofs.Fitness as window
 use Rattle.window.proofs.Reports.{held-added, held-latest, oldest-first}
 use Rattle.question.specs.declared.Question.{Question}

@@ -20,7 +20,7 @@ use Rattle.window.specs.Rows.{fitWindow, added}
 use Rattle.question.specs.declared.Question.{Question}
 use Rattle.question.specs.Lines.{inRows}
 use Rattle.list.specs.Lines.{allOf}
-use Rattle.question.proofs.Listed.{all-in, all-is}
+use Rattle.list.proofs.Blank.{all-in, all-is}
 use Rattle.slot.specs.declared.Seated.{Seated}
 use Rattle.slot.specs.Asking.{setIn, emptyRefusal, emptied}
 use Rattle.slot.specs.Fitness.{slotFit}

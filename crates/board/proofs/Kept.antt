@@ -21,7 +21,7 @@ use Rattle.question.specs.declared.Question.{Question}
 use Rattle.question.specs.Lines.{emptySlot, inRows}
 use Rattle.list.specs.Lines.{allOf}
 use Rattle.question.specs.Calls.{stepCall, beginCall}
-use Rattle.question.proofs.Listed.{all-in}
+use Rattle.list.proofs.Blank.{all-in}
 use Rattle.slot.specs.declared.Seated.{Seated}
 use Rattle.slot.specs.Asking.{setIn, emptyRefusal, emptied}
 use Rattle.slot.specs.Fitness.{slotFit}

@@ -1,7 +1,6 @@
 -- Setting, removing and reading touch one slot: a board answers 13, or what the slot answers, and is left with what that slot holds then.
 -- Assumes nothing.
 use mathlib.Core.Path.{_≡_, sym, ap, _∙_}
-use mathlib.Core.List.{[]}
 use Prim.Native.Nat.{ℕ, _≤_, _<_}
 use native.Mathlib.Omega.{arith}
 use borrow.Author.Tests.{ltb-true, lt-ltb, le-ltb, ltb-false}
@@ -16,7 +15,6 @@ use Rattle.list.specs.Rows.{rowsOf}
 use Rattle.question.specs.Lines.{inRows}
 use Rattle.laws.proofs.Tests.{if-so, if-not}
 use Rattle.slot.specs.declared.Seated.{Seated}
-use Rattle.slot.specs.declared.Shown.{Shown}
 use Rattle.slot.specs.Asking.{setIn, emptyRefusal, emptied, notShown, readIn}
 use Rattle.slot.specs.Gauges.{noQuestion}
 use Rattle.slot.proofs.Standing.{Asks}

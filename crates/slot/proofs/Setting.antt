@@ -5,12 +5,12 @@ use mathlib.Core.Bool.{true, false, cond, _&&_}
 use mathlib.Core.List.{List, []}
 use Prim.Native.Nat.{ℕ, _≤_}
 use native.Mathlib.Omega.{arith}
-use borrow.Author.Tests.{leb-true, eqb-true, eqb-false, eq-eqb, ne-eqb}
+use borrow.Author.Tests.{leb-true, eqb-true, eq-eqb, ne-eqb}
 use lib.Dec.{leb, eqb}
 use Rattle.ranking.specs.Cells.{fitRule}
 use Rattle.ranking.specs.Standing.{Held}
 use Rattle.ranking.specs.declared.Rule.{Rule}
-use Rattle.laws.proofs.Tests.{Tested, passed, failed, tested, clash, and-both}
+use Rattle.laws.proofs.Tests.{Tested, passed, failed, tested, and-both}
 use Rattle.window.specs.declared.Window.{Window}
 use Rattle.window.specs.Rows.{heldReports, fitWindow}
 use Rattle.question.specs.declared.Question.{Question}

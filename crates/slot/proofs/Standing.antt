@@ -11,11 +11,12 @@ use borrow.Author.Tests.{ltb-true, ltb-false, eqb-true, eq-eqb}
 use lib.Dec.{leb, ltb, eqb}
 use lib.ListN.{length}
 use Rattle.laws.specs.Lists.{_∈_, onLast}
+use Rattle.laws.specs.Whole.{equal}
 use Rattle.ranking.specs.Cells.{isNone, fitRule, cell, score, cellAt}
 use Rattle.search.specs.Search.{steps}
 use Rattle.ranking.specs.Standing.{Held, Entry, Permitted, above, entry, entries, top, hasPlace, reaches, searchOf}
 use Rattle.ranking.specs.declared.Rule.{Rule}
-use Rattle.laws.proofs.Tests.{Tested, passed, failed, tested, clash, and-both, and-true, or-either, or-right, if-so, if-not}
+use Rattle.laws.proofs.Tests.{Tested, passed, failed, tested, clash, and-both, and-true, or-either, or-right, if-not}
 use Rattle.ranking.proofs.Cells.{before-strict, visiting-in}
 use Rattle.ranking.proofs.Scan.{cell-at}
 use Rattle.laws.proofs.Lists.{last-not, lt-or-eq}
@@ -235,7 +236,7 @@ module _ (w : Window) (fit : fitWindow w ≡ true) where
 -- ---- a fit slot
 
 pub empty-is : isEmpty emptySlot ≡ true
-unfolding isEmpty
+unfolding isEmpty equal
 empty-is = rw is-none
 
 pub empty-waits : finished emptySlot ≡ false

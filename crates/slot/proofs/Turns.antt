@@ -28,7 +28,7 @@ use Rattle.list.specs.Rows.{rowsOf}
 use Rattle.question.specs.Lines.{asked, lines, marked, stepsTaken, isMarked, emptySlot, searchedIn, inRows, searchedOn, searchedFirst}
 use Rattle.list.specs.Lines.{allOf}
 use Rattle.question.proofs.Stored.{lines-asked}
-use Rattle.question.proofs.Listed.{all-in}
+use Rattle.list.proofs.Blank.{all-in}
 use Rattle.question.proofs.Searches.{searched-held}
 use Rattle.slot.specs.Asking.{searchedAmong}
 use Rattle.slot.specs.Turn.{takes, listed, later, lists, turn}

@@ -1,6 +1,6 @@
 -- The rule's test, by the last line's score.
 -- Assumes nothing.
-use mathlib.Core.Path.{ap, _∙_}
+use mathlib.Core.Path.{ap₂, _∙_}
 use mir.Syntax.{w32}
 use mir.Facts.{toZ-ofZ}
 use Rattle.laws.proofs.Words.{kept}
@@ -24,7 +24,7 @@ returns c =
     let good = start .good .0 .1 .1 .1 .1 in
     let last = c .before .least in
     c .has-place .ensures
-    ∙ ap (λ z. placeBy (q .rule) (q .k) (q .len) z (start .args .score)) (kept w32 (last .result) (last .ok) ∙ last .ensures)
+    ∙ ap₂ (placeBy (q .rule) (q .k) (q .len)) (kept w32 (last .result) (last .ok) ∙ last .ensures) (toZ-ofZ (start .fits .score))
     ∙ place-by q (roomy q (good .0 .1 .0 .1) (good .1 .0 .1 .0 .1)) (start .args .score)
 
 pub has-place-spec : {M : Type 1} → statement M

@@ -27,17 +27,17 @@ module _ (start : tie.Start Inv-loop μ-loop) where
   all-slots = sym (length-map (start .args .self .slots) _) ∙ start .good .0 .1 .1 .1 .0 .1 .0 .1
 
 add-number : tie.Need-add-number Inv-loop μ-loop
-add-number c = omega (arith, may-enter (c .before .before .before) .room)
+add-number c = omega (arith, may-enter (c .before .before .before .before) .room)
 
 leaving-requires : tie.Need-leaving-requires Inv-loop μ-loop
-leaving-requires c κs = may-enter (c .before .before .before) .room
+leaving-requires c κs = may-enter (c .before .before .before .before) .room
 
 with-requires : tie.Need-with-requires Inv-loop μ-loop
 with-requires c κs = search needs
 
 loop-holds : tie.Need-loop-holds Inv-loop μ-loop
 loop-holds c =
-    let start = c .before .before .before .before .before .before in
+    let start = c .before .before .before .before .before .before .before in
     let n = all-slots start in
     (omega arith, n, turns-none _ _ _ _ _ _ _ refl (sym n) (sym n))
 
@@ -74,14 +74,14 @@ loop-less c = omega arith
 loop-again : tie.Need-loop-again Inv-loop μ-loop
 loop-again c =
     let l = c .before .before .before .before .before .before .before .before in
-    let start = l .before .before .before .before .before .before .before in
+    let start = l .before .before .before .before .before .before .before .before in
     let below : l .loop .i < length (start .args .self .slots) = omega (arith, l .loop .inv .1) in
     (omega arith, l .loop .inv .1, turns-more _ _ _ _ below (l .loop .inv .2) (c .before .turn .result) (c .before .turn .ensures))
 
 returns : tie.Need-returns Inv-loop μ-loop
 returns c =
     let l = c .before in
-    let start = l .before .before .before .before .before .before .before in
+    let start = l .before .before .before .before .before .before .before .before in
     turns-all (start .args .self) (start .args .values) (start .pre) (l .before .before .before .leaving .ensures) (l .before .before .with .ensures) (omega (arith, l .loop .inv .1)) (l .loop .inv .2)
 
 pub entering-spec : {M : Type 1} → statement M
