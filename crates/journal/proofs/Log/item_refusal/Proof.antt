@@ -25,10 +25,10 @@ others log (Show slot) u w = refl
 
 module _ (c : tie.At-match-keys3) where
   abbrev log : Log
-  log = c .before .before .before .args .self
+  log = c .before .before .before .before .args .self
 
   abbrev it : Item
-  it = c .before .before .before .args .item
+  it = c .before .before .before .before .args .item
 
   needs-window : itemRefusal log it ≡ early log
   needs-window =
@@ -48,13 +48,13 @@ returns-2 : tie.Need-returns-2
 unfolding itemRefusal
 returns-2 c =
     let t = c .before in
-    rw (t .enum-told2 .given .1, eq-eqb (t .before .before .before .before .args .self .board .window .counts .size) 0 (c .if1 .taken))
+    rw (t .enum-told2 .given .1, eq-eqb (t .before .before .before .before .before .args .self .board .window .counts .size) 0 (c .if1 .taken))
 
 returns-3 : tie.Need-returns-3
 unfolding itemRefusal
 returns-3 c =
     let t = c .before in
-    rw (t .enum-told2 .given .1, ne-eqb (t .before .before .before .before .args .self .board .window .counts .size) 0 (c .if1 .left))
+    rw (t .enum-told2 .given .1, ne-eqb (t .before .before .before .before .before .args .self .board .window .counts .size) 0 (c .if1 .left))
 
 returns-4 : tie.Need-returns-4
 returns-4 c = rw (needs-window (c .before), eq-eqb (log (c .before) .board .window .counts .size) 0 (c .if2 .taken))
