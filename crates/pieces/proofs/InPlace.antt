@@ -41,7 +41,8 @@ use Rattle.journal.specs.declared.Log.{Log}
 use Rattle.joining.specs.declared.Session.{Session}
 use Rattle.pieces.specs.declared.Brought.{Brought}
 use Rattle.pieces.specs.declared.Waiting.{Waiting}
-use Rattle.journal.specs.Log.{Outcome, nextItem, counted, withBoard, refused, quiet, unless, known, itemRefusal, showItem, sLines, enterItem, answered, frameIn, frameItem, byTag, itemDone}
+use Rattle.journal.specs.Log.{Outcome, nextItem, counted, withBoard, refused, quiet, unless, showItem, sLines, enterItem, answered, frameIn, frameItem, itemDone}
+use Rattle.journal.proofs.Items as logged
 use Rattle.pieces.specs.Inner.{itemComes, shownText, brought}
 use Rattle.pieces.proofs.Coming.{part-part}
 use Rattle.journal.proofs.Searches.{lines-more, lines-none}
@@ -80,19 +81,11 @@ module _ (log : Log) (window : sized (log .board .window .size) ≡ true) where
   pub some-rows : log .board .window .size ≡ 0 → ⊥
   some-rows e = let range = size-range (log .board .window .size) window in absurd (omega (arith, range .0, e))
 
-  frame-known : (v : List ℕ) → length v ≡ 12 → itemDone log 18 v ≡ frameItem (counted log) v
-  unfolding itemDone itemRefusal unless known byTag
-  frame-known v e = rw (e, ne-eqb (log .board .window .size) 0 some-rows)
-
-  show-known : (s : ℕ) → itemDone log 20 (s ∷ []) ≡ showItem (counted log) (s ∷ [])
-  unfolding itemDone itemRefusal unless known byTag
-  show-known s = rw (ne-eqb (log .board .window .size) 0 some-rows)
-
   pub show-done : (s : ℕ) → s < 32 → itemDone log 20 (s ∷ []) ≡ record { text = shownText (nextItem (log .items)) s (getD (log .board .slots) s noQuestion); log = counted log }
   unfolding showItem readWork slotRefusal unless shownText
-  show-done s h = show-known s ∙ go (tested (eqb (getD (log .board .slots) s noQuestion .k) 0))
+  show-done s h = logged.show-done log some-rows s ∙ go (tested (eqb (getD (log .board .slots) s noQuestion .k) 0))
     where
-      go : Tested (eqb (getD (log .board .slots) s noQuestion .k) 0) → showItem (counted log) (s ∷ []) ≡ record { text = shownText (nextItem (log .items)) s (getD (log .board .slots) s noQuestion); log = counted log }
+      go : Tested (eqb (getD (log .board .slots) s noQuestion .k) 0) → showItem (counted log) s ≡ record { text = shownText (nextItem (log .items)) s (getD (log .board .slots) s noQuestion); log = counted log }
       go (passed t) = rw (lt-ltb s 32 h, t)
       go (failed t) = rw (lt-ltb s 32 h, t)
 
@@ -318,7 +311,7 @@ module _ (log : Log) (piece : List ℕ) (i : ℕ) (window : sized (log .board .w
       let frame : _≡_ {A = Frame} (record { identifier = id; data-bytes = bytes }) (frameIn value) = λ j. record { identifier = same-id j; data-bytes = same-bytes j } in
       let answers = e-answer ∙ ap (answerTo (log .sessions)) frame in
       let leaves = e-left ∙ ap (sessionsAfter (log .sessions)) frame in
-      frame-known log window value (length-part piece (i + 3) 12 (omega arith))
+      logged.frame-done log (some-rows log window) value (length-part piece (i + 3) 12 (omega arith))
       ∙ sym (λ j. answered (record { items = e-items j; board = log .board; sessions = leaves j }) (answers j))
 
   pub frame-none : {b : Brought} → b ≡ gives log answer → b .number ≡ 0 → itemDone log 18 value ≡ record { text = cond (b .refused) (rLine items (b .code)) []; log = after }

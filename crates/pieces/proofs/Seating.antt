@@ -5,7 +5,7 @@ use mathlib.Core.Bool.{Bool, true, false, cond, _&&_}
 use mathlib.Core.List.{List, [], _∷_}
 use Prim.Native.Nat.{ℕ, _+_, _≤_, _<_}
 use native.Mathlib.Omega.{arith}
-use borrow.Author.Tests.{ltb-true, lt-ltb, ne-eqb, eqb-false}
+use borrow.Author.Tests.{ltb-true, lt-ltb, eqb-false}
 use lib.Dec.{eqb, ltb}
 use lib.ListN.{length, getD, set, drop}
 use lib.Seq.{set-getD, getD-take, getD-drop}
@@ -23,7 +23,9 @@ use Rattle.board.specs.Work.{noQuestion, slotAt, withSlot, setRefusal, setWork,
 use Rattle.board.proofs.Seats.{set-seated}
 use Rattle.text.specs.Text.{rLine, sLine}
 use Rattle.journal.specs.declared.Log.{Log}
-use Rattle.journal.specs.Log.{Outcome, nextItem, counted, withBoard, unless, known, itemRefusal, weightsIn, setItem, removeItem, byTag, itemDone}
+use Rattle.items.specs.Items.{settingIn}
+use Rattle.journal.specs.Log.{Outcome, nextItem, counted, withBoard, unless, weightsIn, setItem, removeItem, itemDone}
+use Rattle.journal.proofs.Items as logged
 use Rattle.pieces.specs.Inner.{itemComes, seatedText}
 use Rattle.pieces.proofs.InPlace.{Comes, comes, some-rows, one-byte}
 
@@ -40,21 +42,13 @@ first-byte piece i =
     getD-take 6 (drop (i + 3) piece) 0 0 (omega arith) ∙ getD-drop (i + 3) piece 0 0 ∙ ap (λ (k : ℕ). getD piece k 0) at
 
 module _ (log : Log) (window : sized (log .board .window .size) ≡ true) where
-  remove-known : (s : ℕ) → itemDone log 19 (s ∷ []) ≡ removeItem (counted log) (s ∷ [])
-  unfolding itemDone itemRefusal unless known byTag
-  remove-known s = rw (ne-eqb (log .board .window .size) 0 (some-rows log window))
-
-  set-known : (v : List ℕ) → length v ≡ 6 → itemDone log 17 v ≡ setItem (counted log) v
-  unfolding itemDone itemRefusal unless known byTag
-  set-known v e = rw (e, ne-eqb (log .board .window .size) 0 (some-rows log window))
-
   remove-done : (s : ℕ) → s < 32
       → itemDone log 19 (s ∷ []) ≡ record { text = cond (eqb (slotAt (log .board) s .k) 0) (rLine (nextItem (log .items)) 17) []; log = withBoard (counted log) (withSlot (log .board) s (emptied (slotAt (log .board) s))) }
   unfolding removeItem removeWork slotRefusal unless emptied
-  remove-done s h = remove-known s ∙ go (tested (eqb (slotAt (log .board) s .k) 0))
+  remove-done s h = logged.remove-done log (some-rows log window) s ∙ go (tested (eqb (slotAt (log .board) s .k) 0))
     where
       go : Tested (eqb (slotAt (log .board) s .k) 0)
-          → removeItem (counted log) (s ∷ []) ≡ record { text = cond (eqb (slotAt (log .board) s .k) 0) (rLine (nextItem (log .items)) 17) []; log = withBoard (counted log) (withSlot (log .board) s (emptied (slotAt (log .board) s))) }
+          → removeItem (counted log) s ≡ record { text = cond (eqb (slotAt (log .board) s .k) 0) (rLine (nextItem (log .items)) 17) []; log = withBoard (counted log) (withSlot (log .board) s (emptied (slotAt (log .board) s))) }
       go (passed t) = rw (lt-ltb s 32 h, t) (λ i. record { text = rLine (nextItem (log .items)) 17; log = withBoard (counted log) (record { window = log .board .window; slots = sym (set-getD (log .board .slots) s noQuestion) i }) })
       go (failed t) = rw (lt-ltb s 32 h, t)
 
@@ -85,9 +79,9 @@ module _ (log : Log) (piece : List ℕ) (i : ℕ) (window : sized (log .board .w
       let held = e-seated ∙ ap (λ p. setIn p k weights (rowsOf (b .window .losses) (b .window .shakes) (b .window .numbers))) e-q in
       let placed : setWork b s k weights ≡ record { refusal = seated .refusal; steps = seated .steps; board = withSlot b s (seated .question) } = set-seated b s k weights few held in
       let done : Placed → Outcome = λ p. unless (counted log) (p .refusal) (record { text = sLine (nextItem (log .items)) s (p .steps); log = withBoard (counted log) (p .board) }) in
-      let asked : setItem (counted log) v ≡ done (setWork b s k weights) = λ j. let p = setWork b (sym e-s j) (sym e-k j) (sym e-weights j) in unless (counted log) (p .refusal) (record { text = sLine (nextItem (log .items)) (sym e-s j) (p .steps); log = withBoard (counted log) (p .board) }) in
+      let asked : setItem (counted log) (settingIn v) ≡ done (setWork b s k weights) = λ j. let p = setWork b (sym e-s j) (sym e-k j) (sym e-weights j) in unless (counted log) (p .refusal) (record { text = sLine (nextItem (log .items)) (sym e-s j) (p .steps); log = withBoard (counted log) (p .board) }) in
       let same : eqb (seated .refusal) 0 ≡ false → withSlot b s (seated .question) ≡ b = λ t. sym (ap (λ (p : Placed). p .board) placed) ∙ set-kept b s k weights (ap (λ (p : Placed). eqb (p .refusal) 0) placed ∙ t) in
-      set-known log window (part (i + 3) 6 piece) (length-part piece (i + 3) 6 (omega arith)) ∙ ap (setItem (counted log)) (sym e-v) ∙ asked ∙ ap done placed
+      logged.set-done log (some-rows log window) (part (i + 3) 6 piece) (length-part piece (i + 3) 6 (omega arith)) ∙ ap (λ (l : List ℕ). setItem (counted log) (settingIn l)) (sym e-v) ∙ asked ∙ ap done placed
       ∙ go (tested (eqb (seated .refusal) 0)) same
       ∙ sym (λ j. record { text = seatedText (e-items j) s (seated .refusal) (seated .steps); log = record { items = e-items j; board = withSlot b s (seated .question); sessions = log .sessions } })
     where

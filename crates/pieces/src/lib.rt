@@ -13,6 +13,7 @@ ghost use Rattle.pieces.specs.Inner.{itemComes, rowsUsed, withRow, shown
 use board::Arrival;
 use board::Board;
 use board::Gauge;
+use items::Item;
 use joining::Answer;
 use joining::Bus;
 use journal::Done;
@@ -112,8 +113,15 @@ impl Waiting {
         let mut at: usize = 0;
         let mut i: usize = 0;
         while goes_on(piece.len(), i, out.len(), at) {
-            if !item_comes(next.have, window.size, piece, i, Log::FRAME, Waiting::VALUE) {
-                if slot_comes(next.have, window.size, piece, i, Log::SHOW, 1) {
+            if !item_comes(
+                next.have,
+                window.size,
+                piece,
+                i,
+                Item::FRAME,
+                Waiting::VALUE,
+            ) {
+                if slot_comes(next.have, window.size, piece, i, Item::SHOW, 1) {
                     items = journal::next_item(items);
                     let shown = wire::byte(piece, i + 3);
                     let s = shown as usize;
@@ -123,7 +131,7 @@ impl Waiting {
                     i += 4;
                     continue;
                 }
-                if slot_comes(next.have, window.size, piece, i, Log::REMOVE, 1) {
+                if slot_comes(next.have, window.size, piece, i, Item::REMOVE, 1) {
                     items = journal::next_item(items);
                     let s = wire::byte(piece, i + 3) as usize;
                     let held = slots[s];
@@ -137,7 +145,7 @@ impl Waiting {
                     i += 4;
                     continue;
                 }
-                if slot_comes(next.have, window.size, piece, i, Log::SET, 6) {
+                if slot_comes(next.have, window.size, piece, i, Item::SET, 6) {
                     items = journal::next_item(items);
                     let value = &piece[i + 3..i + 9];
                     let slot = wire::byte(value, 0);
