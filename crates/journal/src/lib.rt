@@ -110,8 +110,8 @@ impl Log {
         let rows = window.size;
         match item {
             Item::Unknown => Log::UNKNOWN,
-            Item::Window(_) => { if rows == 0 { 0 } else { Log::OUT_OF_PLACE } }
-            _ => { if rows == 0 { Log::OUT_OF_PLACE } else { 0 } }
+            Item::Window(_) => if rows == 0 { 0 } else { Log::OUT_OF_PLACE },
+            _ => if rows == 0 { Log::OUT_OF_PLACE } else { 0 },
         }
     }
 
