@@ -16,6 +16,7 @@ use Rattle.items.specs.declared.Item.the-variants as item
 use Rattle.items.specs.Items.{settingIn, dataIn, itemIn}
 use Rattle.values.specs.declared.Values.{Values}
 use Rattle.ranking.specs.declared.Rule.{Rule}
+use Rattle.ranking.specs.declared.Weights.{Weights}
 use Rattle.ranking.specs.Cells.{ruleOf}
 use Rattle.board.specs.declared.Board.{Board}
 use Rattle.board.specs.Work.{freshBoard, setWork, removeWork, readWork, enterWork}
@@ -87,9 +88,12 @@ windowItem log n =
     let made = freshBoard n in
     unless log (made .refusal) (quiet (withBoard log (made .board)))
 
--- The rule of a question that is to be set, by its weights a and b, and that in an item's value.
+-- The weights a and b of a question that is to be set, its rule, and that in an item's value.
+abbrev pub weightsOf : Setting → Weights
+weightsOf s = record { loss = s .loss; shake = s .shake }
+
 abbrev pub settingRule : Setting → Rule
-settingRule s = ruleOf (record { loss = s .loss; shake = s .shake })
+settingRule s = ruleOf (weightsOf s)
 
 abbrev pub ruleIn : List ℕ → Rule
 ruleIn v = settingRule (settingIn v)

@@ -5,7 +5,7 @@ ghost use mathlib.Core.List.{[]};
 ghost use lib.Seq.{sets};
 ghost use Rattle.joining.specs.Frame.{frameRefusal};
 ghost use Rattle.text.specs.Text.{behind, sLine};
-ghost use Rattle.journal.specs.Log.{Stores, freshLog, nextItem, counted, withBoard, withSessions, refused, itemRefusal, windowItem, settingRule, ruleIn, setItem, removeItem, showItem, sLines, enterItem, answered, frameItem, byItem, itemDone};
+ghost use Rattle.journal.specs.Log.{Stores, freshLog, nextItem, counted, withBoard, withSessions, refused, itemRefusal, windowItem, weightsOf, settingRule, ruleIn, setItem, removeItem, showItem, sLines, enterItem, answered, frameItem, byItem, itemDone};
 use board::Board;
 use bus::Bus;
 use items::Item;
@@ -114,8 +114,8 @@ impl Log {
         let rows = counts.size;
         match item {
             Item::Unknown => Log::UNKNOWN,
-            Item::Window(_) => { if rows == 0 { 0 } else { Log::OUT_OF_PLACE } }
-            _ => { if rows == 0 { Log::OUT_OF_PLACE } else { 0 } }
+            Item::Window(_) => if rows == 0 { 0 } else { Log::OUT_OF_PLACE },
+            _ => if rows == 0 { Log::OUT_OF_PLACE } else { 0 },
         }
     }
 
@@ -265,11 +265,16 @@ pub fn next_item(items: u64) -> u64
 fn setting_rule(s: Setting) -> Rule
     ensures { λ r. ⌜ r ≡ settingRule s ⌝ }
 {
-    let weights = Weights {
+    Rule::of(weights_of(s))
+}
+
+fn weights_of(s: Setting) -> Weights
+    ensures { λ r. ⌜ r ≡ weightsOf s ⌝ }
+{
+    Weights {
         loss: s.loss,
         shake: s.shake,
-    };
-    Rule::of(weights)
+    }
 }
 
 // The rule in the value of an item that sets a question.
