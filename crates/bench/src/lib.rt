@@ -5,7 +5,7 @@ ghost use Prim.Native.Nat.{_+_, _-_, _*_, _≤_};
 ghost use lib.ListN.{length};
 ghost use lib.Seq.{sets};
 ghost use Rattle.wire.specs.Bytes.{bytes};
-ghost use Rattle.report.specs.Payload.{given};
+ghost use Rattle.report.specs.Payload.{largest, given};
 ghost use Rattle.joining.specs.Joining.{packets};
 ghost use Rattle.bench.specs.Bench.{identifier, announcement, packetData, packetsFrom, frames, frameBytes, sendAnswer, sent};
 use joining::Frame;
@@ -49,7 +49,7 @@ impl Bench {
         if room.len() < needed {
             return Written::Refused(Payload::NO_ROOM);
         }
-        let mut payload = [Bench::UNREAD; 84];
+        let mut payload = [Bench::UNREAD; Payload::LARGEST];
         Payload::write(&mut payload, report, noted, note);
         fill(room, sender, &payload[..size]);
         Written::Bytes(needed)
@@ -58,7 +58,7 @@ impl Bench {
 
 // Stores a payload's frames from the front on.
 fn fill(room: &mut [u8], sender: u8, p: &[u8])
-    requires { ⌜ length (now p) ≤ 84 ⌝ }
+    requires { ⌜ length (now p) ≤ largest ⌝ }
     ensures { λ _. ⌜ now (room .exit) ≡ sets (now (room .entry)) 0 (frameBytes (frames sender (now (p .entry)))) ⌝ }
 {
     let opening = announcement(p.len() as u16);
@@ -95,7 +95,7 @@ fn put_packet(room: &mut [u8], sender: u8, p: &[u8], i: u8)
 
 // An announcement's data.
 fn announcement(size: u16) -> [u8; 8]
-    requires { ⌜ size ≤ 84 ⌝ }
+    requires { ⌜ size ≤ largest ⌝ }
     ensures { λ r. ⌜ r ≡ announcement size ⌝ }
 {
     let group = Session::GROUP;

@@ -1,36 +1,119 @@
-// The window with its 32 slots, of document 01, tried through the public calls. Each call prints a line, and the file
-// `stdout` has the lines that document 01 asks for, as tests/board/expected works them out.
+// The window with its 32 slots, of document 01, tried through the public calls. Each line of `stdin` is a case: it is printed, and with
+// it what is answered. `stdout` has what document 01 asks for, as tests/expected/board_examples works it out.
+//
+// new N                          a fresh board: the refusal's number, its size, and whether it is fit
+// set SLOT K A B                 a call each: the refusal's number, what else is answered, and whether the board that comes back is
+// remove SLOT                    the one handed in; of a list its lines, and of an entry the slots that were searched, with their steps
+// list SLOT
+// enter LOSS SHAKE
+// try                            set 0 1 1 2, remove 3, list 3, enter 2000 2500, each on the same board, and none kept
+// counts SIZE ENTERED HELD       the window with other counts
+// hold AT NUMBER LOSS SHAKE      with another row
+// question K A B NEXT SLOT       a question with no lines whose search takes NEXT next, 256 for none
+// with K LINES NEXT SLOT         the slot's question with other numbers
+// put AT NUMBER SCORE SLOT       with another line
+// keep, old, back                keeps the board; hands back the one kept; says whether it is the same as the one kept
 mod calls;
-mod compare;
-mod edges;
-mod seeds;
-mod unfit;
 
-use calls::enter;
-use calls::read;
-use calls::set;
-use calls::started;
+use board::Board;
+use printing::end;
 use printing::text;
+use question::Question;
+use window::Window;
 
 fn main() {
-    edges::sizes();
-    example(b"P9\n", [10, 10, 5, 5, 1, 1]);
-    example(b"P10\n", [1, 1, 5, 5, 1, 2]);
-    example(b"P11\n", [9, 9, 1, 1, 9, 9]);
-    edges::all();
-    unfit::all();
-    seeds::all();
+    let mut space = io::large_buffer();
+    let n = io::read_full(libc::STDIN_FILENO, &mut space);
+    all(wire::front(&space, n));
 }
 
-// Three reports in a window of 2, with the question of P9 set first.
-fn example(name: &[u8], reports: [u16; 6]) {
-    text(name);
-    let asked = set(started(2), 0, 1, 1, 1);
-    read(asked, 0);
-    let one = enter(asked, reports[0], reports[1]);
-    read(one, 0);
-    let two = enter(one, reports[2], reports[3]);
-    read(two, 0);
-    let three = enter(two, reports[4], reports[5]);
-    read(three, 0);
+// The board as the cases so far have left it, and the one kept.
+struct State {
+    board: Board,
+    old: Board,
+}
+
+fn all(text: &[u8]) {
+    let board = Board::fresh(1).board;
+    let mut state = State { board, old: board };
+    let mut at: usize = 0;
+    while at < text.len() {
+        state = case(state, cases::line(text, at));
+        at = cases::next(text, at);
+    }
+}
+
+// Prints one case.
+fn case(state: State, line: &[u8]) -> State {
+    let old = state.old;
+    text(line);
+    let board = made(called(state.board, old, line), line);
+    end();
+    if wire::byte(line, 0) == b'k' {
+        return State { board, old: board };
+    }
+    State { board, old }
+}
+
+// The board that a call leaves.
+fn called(board: Board, old: Board, line: &[u8]) -> Board {
+    match wire::byte(line, 0) {
+        b'n' => calls::fresh(cases::short(line, 1)),
+        b's' => calls::set(
+            board,
+            cases::byte(line, 1),
+            cases::byte(line, 2),
+            made_up::weights(line, 3),
+        ),
+        b'r' => calls::remove(board, cases::byte(line, 1)),
+        b'l' => calls::list(board, cases::byte(line, 1)),
+        b'e' => calls::enter(board, cases::short(line, 1), cases::short(line, 2)),
+        b't' => calls::each(board),
+        b'b' => calls::back(board, old),
+        b'o' => old,
+        _ => board,
+    }
+}
+
+// The board made up as a case says.
+fn made(board: Board, line: &[u8]) -> Board {
+    let window = board.window;
+    match wire::byte(line, 0) {
+        b'c' => with_window(board, made_up::counts(window, line)),
+        b'h' => with_window(board, made_up::row(window, line)),
+        b'q' => with_slot(board, cases::byte(line, 5), made_up::asked(line)),
+        b'w' => with_slot(
+            board,
+            cases::byte(line, 4),
+            made_up::numbers(slot(board, cases::byte(line, 4)), line),
+        ),
+        b'p' => with_slot(
+            board,
+            cases::byte(line, 4),
+            made_up::entry(slot(board, cases::byte(line, 4)), line),
+        ),
+        _ => board,
+    }
+}
+
+fn with_window(board: Board, window: Window) -> Board {
+    let slots = board.slots;
+    Board { window, slots }
+}
+
+fn with_slot(board: Board, n: u8, question: Question) -> Board {
+    let window = board.window;
+    let mut slots = board.slots;
+    if n < 32 {
+        slots[n as usize] = question;
+    }
+    Board { window, slots }
+}
+
+fn slot(board: Board, n: u8) -> Question {
+    let slots = board.slots;
+    if n < 32 {
+        return slots[n as usize];
+    }
+    Question::fresh()
 }

@@ -1,10 +1,18 @@
 -- All sessions in one array of bytes that a caller lends: 87 bytes for each sender, in their order.
-use Prim.Native.Nat.{ℕ, zero, suc, _*_}
+use Prim.Native.Nat.{ℕ, zero, suc, _+_, _*_}
 use mathlib.Core.List.{List, [], _∷_, _++_}
 use lib.ListN.{getD, take, drop}
 use Rattle.joining.specs.declared.Session.{Session}
 use Rattle.joining.specs.Frame.{Frame}
-use Rattle.joining.specs.Run.{sessionsAfter}
+use Rattle.report.specs.Payload.{largest}
+use Rattle.joining.specs.Run.{senders, sessionsAfter}
+
+-- The bytes of a session's place, and of all places.
+abbrev pub placeBytes : ℕ
+placeBytes = 87
+
+abbrev pub roomBytes : ℕ
+roomBytes = 22098
 
 -- A session as 87 bytes: its 84 payload bytes, then size, count and next packet.
 abbrev pub sessionBytes : Session → List ℕ
@@ -12,20 +20,20 @@ sessionBytes s = s .bytes ++ (s .size ∷ s .count ∷ s .next ∷ [])
 
 -- The session that stands at the front of bytes.
 abbrev pub sessionAt : List ℕ → Session
-sessionAt p = record { bytes = take 84 p; size = getD p 84 0; count = getD p 85 0; next = getD p 86 0 }
+sessionAt p = record { bytes = take largest p; size = getD p largest 0; count = getD p (largest + 1) 0; next = getD p (largest + 2) 0 }
 
 -- The session of sender k: the 87 bytes from 87 k on.
 abbrev pub sessionIn : List ℕ → ℕ → Session
-sessionIn room k = sessionAt (drop (87 * k) room)
+sessionIn room k = sessionAt (drop (placeBytes * k) room)
 
 -- The sessions of the first n senders.
 unfoldable pub sessionsOf : ℕ → List ℕ → List Session
 sessionsOf zero room = []
-sessionsOf (suc n) room = sessionAt room ∷ sessionsOf n (drop 87 room)
+sessionsOf (suc n) room = sessionAt room ∷ sessionsOf n (drop placeBytes room)
 
 -- "Each sender 0 to 253 has a session of its own."
 abbrev pub sessionsIn : List ℕ → List Session
-sessionsIn room = sessionsOf 254 room
+sessionsIn room = sessionsOf senders room
 
 -- Sessions as bytes, one after the other.
 unfoldable pub roomOf : List Session → List ℕ

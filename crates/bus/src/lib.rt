@@ -5,17 +5,19 @@ ghost use mathlib.Core.List.{[], _∷_, _++_};
 ghost use Prim.Native.Nat.{_+_, _≤_};
 ghost use lib.ListN.{length, take, drop, replicate};
 ghost use lib.Seq.{sets};
+ghost use Rattle.report.specs.Payload.{largest};
 ghost use Rattle.joining.specs.Frame.{frameRefusal};
-ghost use Rattle.joining.specs.Joining.{freshSession, fit, closed, opened, finishes, announce, packet, take-frame};
-ghost use Rattle.joining.specs.Run.{sessionsAfter, answerTo};
-ghost use Rattle.bus.specs.Room.{sessionAt, sessionBytes, sessionsIn, roomOf};
+ghost use Rattle.joining.specs.Joining.{fit, closed, opened, finishes, announce, packet, take-frame};
+ghost use Rattle.joining.specs.Run.{freshSessions, sessionsAfter, answerTo};
+ghost use Rattle.bus.specs.Room.{placeBytes, roomBytes, sessionAt, sessionBytes, sessionsIn, roomOf};
 use joining::Answer;
 use joining::Frame;
 use joining::Session;
+use report::Payload;
 
 // A session for each sender from 0 to 253, in their order.
 pub struct Bus {
-    pub sessions: [Session; 254],
+    pub sessions: [Session; Bus::SENDERS],
 }
 
 impl Bus {
@@ -34,15 +36,15 @@ impl Bus {
 
     // A fresh session for each sender.
     pub fn fresh() -> Bus
-        ensures { λ r. ⌜ r .sessions ≡ replicate 254 freshSession ⌝ }
+        ensures { λ r. ⌜ r .sessions ≡ freshSessions ⌝ }
     {
         let session = Session::fresh();
-        let sessions = [session; 254];
+        let sessions = [session; Bus::SENDERS];
         Bus { sessions }
     }
 
     // Takes a frame, as its sender's session does, and advances that session where it stands. Other bytes are not touched.
-    pub fn take(room: &mut [u8; 22098], id: u32, data: &[u8]) -> Answer
+    pub fn take(room: &mut [u8; Bus::ROOM], id: u32, data: &[u8]) -> Answer
         ensures { λ r. ⌜ r ≡ answerTo (sessionsIn (now (room .entry))) (record { identifier = id; data-bytes = now («data» .entry) }) ⌝ }
         ensures { λ _. ⌜ now (room .exit) ≡ roomOf (sessionsAfter (sessionsIn (now (room .entry))) (record { identifier = id; data-bytes = now («data» .entry) })) ⌝ }
     {
@@ -50,19 +52,19 @@ impl Bus {
     }
 
     // Stores the sessions' bytes, one session after the other, so that they stand there.
-    pub fn fill(room: &mut [u8; 22098], sessions: [Session; 254])
+    pub fn fill(room: &mut [u8; Bus::ROOM], sessions: [Session; Bus::SENDERS])
         ensures { λ _. ⌜ now (room .exit) ≡ roomOf sessions ⌝ }
-        ensures { λ _. ⌜ (sessionsIn (now (room .exit)) ≡ sessions) × (length (now (room .exit)) ≡ 22098) ⌝ }
+        ensures { λ _. ⌜ (sessionsIn (now (room .exit)) ≡ sessions) × (length (now (room .exit)) ≡ roomBytes) ⌝ }
     {
         fill_in(room, sessions);
     }
 
     // The sessions that stand in the bytes.
-    pub fn read(room: &[u8; 22098]) -> [Session; 254]
+    pub fn read(room: &[u8; Bus::ROOM]) -> [Session; Bus::SENDERS]
         ensures { λ r. ⌜ r ≡ sessionsIn (now (room .entry)) ⌝ }
     {
         let none = Session::fresh();
-        let mut sessions = [none; 254];
+        let mut sessions = [none; Bus::SENDERS];
         let mut k = 0;
         while k < Bus::SENDERS {
             let session = session_at(room, Bus::PLACE * k);
@@ -75,7 +77,7 @@ impl Bus {
 
 // `Bus::take` on the array as a slice.
 fn take_in(room: &mut [u8], id: u32, data: &[u8]) -> Answer
-    requires { ⌜ length (now room) ≡ 22098 ⌝ }
+    requires { ⌜ length (now room) ≡ roomBytes ⌝ }
     ensures { λ r. ⌜ r ≡ answerTo (sessionsIn (now (room .entry))) (record { identifier = id; data-bytes = now («data» .entry) }) ⌝ }
     ensures { λ _. ⌜ now (room .exit) ≡ roomOf (sessionsAfter (sessionsIn (now (room .entry))) (record { identifier = id; data-bytes = now («data» .entry) })) ⌝ }
 {
@@ -87,10 +89,10 @@ fn take_in(room: &mut [u8], id: u32, data: &[u8]) -> Answer
 }
 
 // `Bus::fill` on the array as a slice.
-fn fill_in(room: &mut [u8], sessions: [Session; 254])
-    requires { ⌜ length (now room) ≡ 22098 ⌝ }
+fn fill_in(room: &mut [u8], sessions: [Session; Bus::SENDERS])
+    requires { ⌜ length (now room) ≡ roomBytes ⌝ }
     ensures { λ _. ⌜ now (room .exit) ≡ roomOf sessions ⌝ }
-    ensures { λ _. ⌜ (sessionsIn (now (room .exit)) ≡ sessions) × (length (now (room .exit)) ≡ 22098) ⌝ }
+    ensures { λ _. ⌜ (sessionsIn (now (room .exit)) ≡ sessions) × (length (now (room .exit)) ≡ roomBytes) ⌝ }
 {
     let mut k = 0;
     while k < Bus::SENDERS {
@@ -102,10 +104,10 @@ fn fill_in(room: &mut [u8], sessions: [Session; 254])
 
 // Takes a frame of the sender whose session stands in the 87 bytes from `at` on.
 fn advance_in(room: &mut [u8], at: usize, id: u32, data: &[u8]) -> Answer
-    requires { ⌜ (length (now room) ≡ 22098) × (at + 87 ≤ 22098) ⌝ }
+    requires { ⌜ (length (now room) ≡ roomBytes) × (at + placeBytes ≤ roomBytes) ⌝ }
     requires { ⌜ frameRefusal id (now «data») ≡ 0 ⌝ }
     ensures { λ r. ⌜ r ≡ take-frame (sessionAt (drop at (now (room .entry)))) id (now («data» .entry)) .answer ⌝ }
-    ensures { λ _. ⌜ now (room .exit) ≡ (take at (now (room .entry)) ++ sessionBytes (take-frame (sessionAt (drop at (now (room .entry)))) id (now («data» .entry)) .session)) ++ drop (at + 87) (now (room .entry)) ⌝ }
+    ensures { λ _. ⌜ now (room .exit) ≡ (take at (now (room .entry)) ++ sessionBytes (take-frame (sessionAt (drop at (now (room .entry)))) id (now («data» .entry)) .session)) ++ drop (at + placeBytes) (now (room .entry)) ⌝ }
 {
     let end = at + Bus::PLACE;
     advance_at(&mut room[at..end], id, data)
@@ -113,8 +115,8 @@ fn advance_in(room: &mut [u8], at: usize, id: u32, data: &[u8]) -> Answer
 
 // Stores a session from `at` on.
 fn put_session(room: &mut [u8], at: usize, s: Session)
-    requires { ⌜ (length (now room) ≡ 22098) × (at + 87 ≤ 22098) ⌝ }
-    ensures { λ _. ⌜ (now (room .exit) ≡ sets (now (room .entry)) at (sessionBytes s)) × (length (s .bytes) ≡ 84) ⌝ }
+    requires { ⌜ (length (now room) ≡ roomBytes) × (at + placeBytes ≤ roomBytes) ⌝ }
+    ensures { λ _. ⌜ (now (room .exit) ≡ sets (now (room .entry)) at (sessionBytes s)) × (length (s .bytes) ≡ largest) ⌝ }
 {
     let bytes = s.bytes;
     wire::put_all(room, at, &bytes);
@@ -125,10 +127,10 @@ fn put_session(room: &mut [u8], at: usize, s: Session)
 
 // The session that stands in the 87 bytes from `at` on.
 fn session_at(room: &[u8], at: usize) -> Session
-    requires { ⌜ (length (now room) ≡ 22098) × (at + 87 ≤ 22098) ⌝ }
+    requires { ⌜ (length (now room) ≡ roomBytes) × (at + placeBytes ≤ roomBytes) ⌝ }
     ensures { λ r. ⌜ r ≡ sessionAt (drop at (now (room .entry))) ⌝ }
 {
-    let mut bytes = [255u8; 84];
+    let mut bytes = [255u8; Payload::LARGEST];
     let end = at + Bus::SIZE;
     wire::put_all(&mut bytes, 0, &room[at..end]);
     Session {
@@ -141,7 +143,7 @@ fn session_at(room: &[u8], at: usize) -> Session
 
 // Takes a frame of the sender whose session stands in `place`.
 fn advance_at(place: &mut [u8], id: u32, data: &[u8]) -> Answer
-    requires { ⌜ length (now place) ≡ 87 ⌝ }
+    requires { ⌜ length (now place) ≡ placeBytes ⌝ }
     requires { ⌜ frameRefusal id (now «data») ≡ 0 ⌝ }
     ensures { λ r. ⌜ r ≡ take-frame (sessionAt (now (place .entry))) id (now («data» .entry)) .answer ⌝ }
     ensures { λ _. ⌜ now (place .exit) ≡ sessionBytes (take-frame (sessionAt (now (place .entry))) id (now («data» .entry)) .session) ⌝ }
@@ -158,8 +160,8 @@ fn advance_at(place: &mut [u8], id: u32, data: &[u8]) -> Answer
 
 // Stores a session's three numbers.
 fn put_numbers(place: &mut [u8], size: u8, count: u8, next: u8)
-    requires { ⌜ length (now place) ≡ 87 ⌝ }
-    ensures { λ _. ⌜ now (place .exit) ≡ take 84 (now (place .entry)) ++ (size ∷ count ∷ next ∷ []) ⌝ }
+    requires { ⌜ length (now place) ≡ placeBytes ⌝ }
+    ensures { λ _. ⌜ now (place .exit) ≡ take largest (now (place .entry)) ++ (size ∷ count ∷ next ∷ []) ⌝ }
 {
     place[Bus::SIZE] = size;
     place[Bus::COUNT] = count;
@@ -168,7 +170,7 @@ fn put_numbers(place: &mut [u8], size: u8, count: u8, next: u8)
 
 // Closes the session; its payload bytes stay.
 fn close_at(place: &mut [u8])
-    requires { ⌜ length (now place) ≡ 87 ⌝ }
+    requires { ⌜ length (now place) ≡ placeBytes ⌝ }
     ensures { λ _. ⌜ now (place .exit) ≡ sessionBytes (closed (sessionAt (now (place .entry)))) ⌝ }
 {
     put_numbers(place, 0, 0, 0);
@@ -176,7 +178,7 @@ fn close_at(place: &mut [u8])
 
 // An announcement of the session's sender.
 fn announced_at(place: &mut [u8], data: &[u8]) -> Answer
-    requires { ⌜ length (now place) ≡ 87 ⌝ }
+    requires { ⌜ length (now place) ≡ placeBytes ⌝ }
     ensures { λ r. ⌜ r ≡ announce (sessionAt (now (place .entry))) (now («data» .entry)) .answer ⌝ }
     ensures { λ _. ⌜ now (place .exit) ≡ sessionBytes (announce (sessionAt (now (place .entry))) (now («data» .entry)) .session) ⌝ }
 {
@@ -193,8 +195,8 @@ fn announced_at(place: &mut [u8], data: &[u8]) -> Answer
 
 // Opens the session for a payload of this size, replacing what was under way.
 fn open_at(place: &mut [u8], size: u16)
-    requires { ⌜ length (now place) ≡ 87 ⌝ }
-    requires { ⌜ size ≤ 84 ⌝ }
+    requires { ⌜ length (now place) ≡ placeBytes ⌝ }
+    requires { ⌜ size ≤ largest ⌝ }
     ensures { λ _. ⌜ now (place .exit) ≡ sessionBytes (opened size) ⌝ }
 {
     clear(place);
@@ -203,8 +205,8 @@ fn open_at(place: &mut [u8], size: u16)
 
 // Sets the payload bytes to 255.
 fn clear(place: &mut [u8])
-    requires { ⌜ length (now place) ≡ 87 ⌝ }
-    ensures { λ _. ⌜ take 84 (now (place .exit)) ≡ replicate 84 255 ⌝ }
+    requires { ⌜ length (now place) ≡ placeBytes ⌝ }
+    ensures { λ _. ⌜ take largest (now (place .exit)) ≡ replicate largest 255 ⌝ }
 {
     let mut i = 0;
     while i < Bus::SIZE {
@@ -215,7 +217,7 @@ fn clear(place: &mut [u8])
 
 // A data packet of the session's sender.
 fn packet_at(place: &mut [u8], data: &[u8]) -> Answer
-    requires { ⌜ length (now place) ≡ 87 ⌝ }
+    requires { ⌜ length (now place) ≡ placeBytes ⌝ }
     requires { ⌜ fit (sessionAt (now place)) ≡ true ⌝ }
     ensures { λ r. ⌜ r ≡ packet (sessionAt (now (place .entry))) (now («data» .entry)) .answer ⌝ }
     ensures { λ _. ⌜ now (place .exit) ≡ sessionBytes (packet (sessionAt (now (place .entry))) (now («data» .entry)) .session) ⌝ }
@@ -240,10 +242,10 @@ fn packet_at(place: &mut [u8], data: &[u8]) -> Answer
 
 // What the last packet answers; it closes the session.
 fn finish_at(place: &mut [u8], size: u8) -> Answer
-    requires { ⌜ length (now place) ≡ 87 ⌝ }
-    requires { ⌜ size ≤ 84 ⌝ }
-    ensures { λ r. ⌜ r ≡ finishes (take 84 (now (place .entry))) size .answer ⌝ }
-    ensures { λ _. ⌜ now (place .exit) ≡ sessionBytes (finishes (take 84 (now (place .entry))) size .session) ⌝ }
+    requires { ⌜ length (now place) ≡ placeBytes ⌝ }
+    requires { ⌜ size ≤ largest ⌝ }
+    ensures { λ r. ⌜ r ≡ finishes (take largest (now (place .entry))) size .answer ⌝ }
+    ensures { λ _. ⌜ now (place .exit) ≡ sessionBytes (finishes (take largest (now (place .entry))) size .session) ⌝ }
 {
     let end = size as usize;
     let answer = joining::answered(&place[..end]);

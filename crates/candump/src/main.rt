@@ -26,7 +26,7 @@ struct Reader {
 // Takes line after line, to the end of the text or to a write that fails. A proved loop has to end, so it counts its turns down
 // from a number that no run uses up.
 fn main() {
-    let mut reader = fresh();
+    let mut reader = Reader::fresh();
     let mut input = Input::fresh();
     let mut line = [0u8; Input::LONGEST];
     let mut space = io::buffer();
@@ -37,21 +37,13 @@ fn main() {
             break;
         };
         input = found;
-        reader = reader.with(found, &line);
+        reader = reader.take(found, &line);
         if !reader.going {
             break;
         }
     }
     let counts = reader.counts;
     summary(counts);
-}
-
-fn fresh() -> Reader {
-    let counts = none();
-    Reader {
-        counts,
-        going: true,
-    }
 }
 
 fn none() -> Counts {
@@ -67,10 +59,18 @@ fn none() -> Counts {
 }
 
 impl Reader {
+    fn fresh() -> Reader {
+        let counts = none();
+        Reader {
+            counts,
+            going: true,
+        }
+    }
+
     // Writes a line's item, if it has one. A line that is too long is broken.
-    fn with(self, found: Input, line: &[u8]) -> Reader {
+    fn take(self, found: Input, line: &[u8]) -> Reader {
         if !found.fits() {
-            return self.and(found.number, Sort::Broken, true);
+            return self.count(found.number, Sort::Broken, true);
         }
         let mut room = [0u8; Sort::ITEM];
         let sort = capture::write(wire::front(line, found.size), &mut room);
@@ -78,11 +78,11 @@ impl Reader {
         if let Sort::Frame = sort {
             going = io::write_all(STDOUT_FILENO, &room);
         }
-        self.and(found.number, sort, going)
+        self.count(found.number, sort, going)
     }
 
-    // Counts a line of a sort.
-    fn and(self, number: u64, sort: Sort, going: bool) -> Reader {
+    // Counts a line of a sort, and names it where it is broken.
+    fn count(self, number: u64, sort: Sort, going: bool) -> Reader {
         told(number, sort);
         let counts = counted(self.counts, sort);
         Reader { counts, going }

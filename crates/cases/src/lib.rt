@@ -3,14 +3,15 @@
 ghost use Prim.Native.Nat.{_-_, _≤_};
 ghost use lib.ListN.{length};
 use lines::Number;
+use lines::Run;
 
 // The line that starts at `at`.
 pub fn line(text: &[u8], at: usize) -> &[u8] {
     if text.len() <= at {
         return text;
     }
-    let end = lines::line_end(text, at);
-    &text[at..end]
+    let rest = &text[at..];
+    wire::front(rest, Run::Until(b'\n').length(rest))
 }
 
 // Where the next line starts, so that less is left of the text.
@@ -20,7 +21,7 @@ pub fn next(text: &[u8], at: usize) -> usize
     if text.len() <= at {
         return at;
     }
-    lines::line_end(text, at) + 1
+    at + Run::Until(b'\n').length(&text[at..]) + 1
 }
 
 pub fn byte(line: &[u8], n: u8) -> u8 {

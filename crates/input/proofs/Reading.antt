@@ -8,8 +8,8 @@ use native.Mathlib.Omega.{arith}
 use native.Mathlib.Nat.{zero-add}
 use borrow.Author.Tests.{ltb-true, ltb-false}
 use lib.Dec.{ltb}
-use lib.ListN.{length, length-append}
-use lib.Seq.{sets, length-sets, length-take-le}
+use lib.ListN.{length, take, drop, length-append}
+use lib.Seq.{sets, sets-eq, length-sets, length-take-le, take-append-seam}
 use Rattle.wire.proofs.Stores.{sets-append, sets-past}
 use Rattle.lines.specs.Words.{run}
 use Rattle.lines.specs.declared.Run.the-variants.{Until}
@@ -122,6 +122,12 @@ module _ {text line line₁ line₂ space₁ space₂ : List ℕ} {i r : Input} 
     bytes = t .bytes ∙ ap₂ (λ (l : List ℕ) (n : ℕ). sets l n (firstLine (unread i space₁))) (h .bytes) (h .size) ∙ pieces line (h .found) (firstLine (unread i space₁));
     size = t .size ∙ rw (length-append, length-first (unread i space₁), h .bytes, length-sets) (omega (arith, h .size));
   }
+
+-- A line that fits stands in the bytes lent for it.
+pub line-back : {text line line′ after : List ℕ} {r : Input} (h : Handed text line r line′ after) → r .size ≤ length line → take (r .size) line′ ≡ h .found
+line-back {line = line} {r = r} h s =
+    let e : r .size ≡ length (h .found) = omega (arith, h .size) in
+    rw (e, h .bytes, sets-eq (h .found) line 0 (omega (arith, h .size))) (take-append-seam (h .found) (drop (0 + length (h .found)) line))
 
 -- ---- what is answered
 

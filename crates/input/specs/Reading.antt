@@ -1,5 +1,5 @@
--- A line that is read: what the operating system hands over is some text, and the line is the first one of what was not taken yet with
--- that text behind it.
+-- A line that is read. What the operating system hands over is some text, `come`, which no contract settles; the line is the first one of
+-- what was not taken yet with that text behind it.
 use Prim.Native.Nat.{ℕ, _+_, _%_, _^_, min}
 use mathlib.Core.Path.{_≡_}
 use mathlib.Core.List.{List, _++_}
@@ -20,7 +20,7 @@ pub record SameLine (i r : Input) : Type 0 where
   pub whole : r .whole ≡ i .whole
   pub number : r .number ≡ i .number
 
--- A turn takes what was not taken yet, up to the line's end, and lets more text come.
+-- A turn takes what was not taken yet, up to the line's end. What is not taken yet then stood behind that, or came in the turn.
 pub record Turned (i : Input) (line space : List ℕ) (r : Input) (line′ space′ : List ℕ) : Type 0 where
   pub come : List ℕ
   pub behind : unread r space′ ≡ behindLine (unread i space) ++ come
@@ -40,7 +40,8 @@ pub record Part (text found after : List ℕ) : Type 0 where
   pub all : text ≡ found ++ after
   pub none : ended found ≡ false
 
--- A line that is read, from what was not taken yet and what came then.
+-- A line `found` in what was not taken yet, `text`, and what came behind it. The bytes lent for it have its front, and its size is one more than
+-- they are where it is longer; `after` is not taken yet then.
 pub record Handed (text line : List ℕ) (r : Input) (line′ after : List ℕ) : Type 0 where
   pub come : List ℕ
   pub found : List ℕ
@@ -49,17 +50,18 @@ pub record Handed (text line : List ℕ) (r : Input) (line′ after : List ℕ) 
   pub bytes : line′ ≡ sets line 0 found
   pub size : r .size ≡ min (length found) (length line + 1)
 
--- What `next` answers of a line.
+-- What `next` answers: a line, and its number.
 unfoldable pub Comes : Input → List ℕ → List ℕ → Next → List ℕ → List ℕ → Type 0
 Comes i line space (Line r) line′ space′ = Handed (unread i space) line r line′ (unread r space′) × (r .number ≡ (i .number + 1) % 2 ^ 64)
 Comes i line space End line′ space′ = Unit {0}
 Comes i line space Failed line′ space′ = Unit {0}
 
--- A line, perhaps the last one and without an end; or why there is none.
+-- Why there is no line.
 abbrev pub without : Source → Next
 without source.Open = End
 without source.Ended = End
 without source.Failed = Failed
 
+-- A line, perhaps the last one and without an end; or why there is none.
 unfoldable pub answerOf : Input → Next
 answerOf i = cond (i .whole) (Line i) (cond (ltb 0 (i .size)) (Line i) (without (i .source)))

@@ -69,8 +69,8 @@ impl Input {
         }
     }
 
-    // Reads on to the end of the next line, into the bytes that are lent for it; `space` is what the calls before have read ahead. The last line
-    // may have no end. Where no line comes, the text has ended or reading failed, and from then on nothing is read.
+    // Reads on to the end of the next line, into the bytes lent for it; the last line may have no end. `space` holds what was read ahead, so it is
+    // the same at every call. Where no line comes, the text has ended or reading failed, and nothing is read from then on.
     // A proved loop has to end, so it counts its turns down from a number that no run uses up.
     pub fn next(self, line: &mut [u8], space: &mut [u8]) -> Next
         ensures { λ r. ⌜ Comes self (now (line .entry)) (now (space .entry)) r (now (line .exit)) (now (space .exit)) ⌝ }

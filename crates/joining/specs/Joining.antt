@@ -6,7 +6,7 @@ use lib.ListN.{getD, take, drop, replicate}
 use lib.Seq.{sets}
 use lib.Dec.{leb, ltb, eqb}
 use Rattle.wire.specs.Bytes.{number, part}
-use Rattle.report.specs.Payload.{readPayload}
+use Rattle.report.specs.Payload.{largest, readPayload}
 use Rattle.report.specs.declared.Reading.{Reading}
 use Rattle.report.specs.declared.Reading.the-variants as reading
 use Rattle.joining.specs.declared.Session.{Session}
@@ -21,11 +21,11 @@ packets size = (size + 6) / 7
 
 -- The sizes that a payload of ours can have: 17, or 20 to 84.
 unfoldable pub carries : ℕ → Bool
-carries size = eqb size 17 || leb 20 size && leb size 84
+carries size = eqb size 17 || leb 20 size && leb size largest
 
 -- "Fresh, a session has size, count and next packet 0"; "fresh [payload bytes] are 255".
 abbrev pub freshSession : Session
-freshSession = record { bytes = replicate 84 255; size = 0; count = 0; next = 0 }
+freshSession = record { bytes = replicate largest 255; size = 0; count = 0; next = 0 }
 
 -- "Closed, a session has size, count and next packet 0; closing keeps the payload bytes."
 abbrev pub closed : Session → Session
@@ -33,7 +33,7 @@ closed s = record { bytes = s .bytes; size = 0; count = 0; next = 0 }
 
 -- "Opening sets all the session's payload bytes to 255."
 abbrev pub opened : ℕ → Session
-opened size = record { bytes = replicate 84 255; size = size; count = packets size; next = 1 }
+opened size = record { bytes = replicate largest 255; size = size; count = packets size; next = 1 }
 
 unfoldable pub isClosed : Session → Bool
 isClosed s = eqb (s .size) 0 && eqb (s .count) 0 && eqb (s .next) 0

@@ -15,9 +15,12 @@ use Rattle.joining.specs.declared.Taken.{Taken}
 use Rattle.joining.specs.Frame.{Frame, senderOf, frameRefusal, isAnnouncement, isPacket}
 use Rattle.joining.specs.Joining.{packets, fit, freshSession, opened, sizeIn, take-frame}
 
--- "Each sender 0 to 253 has a session of its own": all of them, fresh.
+-- "Each sender 0 to 253 has a session of its own": how many there are, and all of them, fresh.
+abbrev pub senders : ℕ
+senders = 254
+
 abbrev pub freshSessions : List Session
-freshSessions = replicate 254 freshSession
+freshSessions = replicate senders freshSession
 
 -- What stands past the last session.
 abbrev pub nobody : Session
@@ -30,14 +33,14 @@ sessionOf k ss = getD ss k nobody
 -- The sessions that a frame leaves: "a frame call judges and changes its sender's session only".
 abbrev pub sessionsAfter : List Session → Frame → List Session
 sessionsAfter ss f =
-    cond (ltb (senderOf (f .identifier)) 254)
+    cond (ltb (senderOf (f .identifier)) senders)
     (set ss (senderOf (f .identifier)) (take-frame (sessionOf (senderOf (f .identifier)) ss) (f .identifier) (f .data-bytes) .session))
     ss
 
 -- What a frame is answered; those of senders 254 and 255 belong to no session.
 abbrev pub answerTo : List Session → Frame → Answer
 answerTo ss f =
-    cond (ltb (senderOf (f .identifier)) 254)
+    cond (ltb (senderOf (f .identifier)) senders)
     (take-frame (sessionOf (senderOf (f .identifier)) ss) (f .identifier) (f .data-bytes) .answer)
     (Refused (frameRefusal (f .identifier) (f .data-bytes)))
 

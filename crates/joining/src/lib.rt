@@ -5,7 +5,7 @@ ghost use mathlib.Core.List.{[]};
 ghost use Prim.Native.Nat.{_-_, _*_, _≤_};
 ghost use lib.ListN.{take, drop};
 ghost use lib.Seq.{sets};
-ghost use Rattle.report.specs.Payload.{readPayload};
+ghost use Rattle.report.specs.Payload.{largest, readPayload};
 ghost use Rattle.joining.specs.Frame.{foreign, frameRefusal, senderIn};
 ghost use Rattle.joining.specs.Joining.{packets, carries, freshSession, isOpen, fit, closed, opened, stored, finishes, yields, refused, sound, announcementRefusal, announce, packet, take-frame, sizeHeld, payloadHeld};
 
@@ -32,7 +32,7 @@ pub enum Answer {
 // What one sender has sent of a report: the payload's bytes so far, its size and packet count, and the packet that is due.
 // All three numbers are 0 where no report is under way.
 pub struct Session {
-    pub bytes: [u8; 84],
+    pub bytes: [u8; Payload::LARGEST],
     pub size: u8,
     pub count: u8,
     pub next: u8,
@@ -143,7 +143,7 @@ impl Session {
     pub fn fresh() -> Session
         ensures { λ r. ⌜ r ≡ freshSession ⌝ }
     {
-        let bytes = [255u8; 84];
+        let bytes = [255u8; Payload::LARGEST];
         Session {
             bytes,
             size: 0,
@@ -218,10 +218,11 @@ pub fn packets(size: u16) -> u16
 fn carries(size: u16) -> bool
     ensures { λ r. ⌜ r ≡ carries size ⌝ }
 {
-    if size == 17 {
+    let n = size as usize;
+    if n == Payload::PLAIN {
         return true;
     }
-    20 <= size && size <= 84
+    Payload::NOTED <= n && n <= Payload::LARGEST
 }
 
 // The session with no report under way; its bytes stay.
@@ -250,7 +251,7 @@ fn sound(data: &[u8]) -> bool
 
 // The session that an announcement opens, replacing what was under way.
 fn opened(size: u16) -> Session
-    requires { ⌜ size ≤ 84 ⌝ }
+    requires { ⌜ size ≤ largest ⌝ }
     ensures { λ r. ⌜ r ≡ opened size ⌝ }
 {
     let mut s = Session::fresh();
@@ -335,7 +336,7 @@ fn packet(s: Session, data: &[u8]) -> Taken
 }
 
 // The session's bytes with the expected packet's among them, those past the size left out.
-fn stored(s: Session, data: &[u8]) -> [u8; 84]
+fn stored(s: Session, data: &[u8]) -> [u8; Payload::LARGEST]
     requires { ⌜ isOpen s ≡ true ⌝ }
     ensures { λ r. ⌜ r ≡ stored s (now («data» .entry)) ⌝ }
 {
@@ -360,7 +361,7 @@ pub fn store(bytes: &mut [u8], size: u8, sent: u8, data: &[u8])
 }
 
 // What the last packet answers, and the session that it closes.
-fn finished(bytes: [u8; 84], size: u8) -> Taken
+fn finished(bytes: [u8; Payload::LARGEST], size: u8) -> Taken
     ensures { λ r. ⌜ r ≡ finishes bytes size ⌝ }
 {
     let answer = answered(wire::front(&bytes, size as usize));

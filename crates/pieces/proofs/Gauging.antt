@@ -10,9 +10,8 @@ use lib.ListN.{length, getD, set, drop}
 use lib.Seq.{getD-drop}
 use Rattle.window.specs.declared.Window.{Window}
 use Rattle.question.specs.declared.Question.{Question}
-use Rattle.board.specs.declared.gauge.Gauge.{Gauge}
-use Rattle.slot.specs.Gauges.{noQuestion}
-use Rattle.slot.specs.Gauges.{gaugeOf, isQuiet, isIdle, inUse}
+use Rattle.slot.specs.declared.gauge.Gauge.{Gauge}
+use Rattle.slot.specs.Gauges.{noQuestion, gaugeOf, isQuiet, isIdle, inUse}
 use Rattle.slot.proofs.Gauges.{quiet-untouched, used-blank, used-few}
 use Rattle.pieces.proofs.InPlace.{Turning, next-old, turning-still, turning-idle}
 

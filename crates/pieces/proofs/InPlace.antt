@@ -3,7 +3,7 @@
 use mathlib.Core.Path.{_≡_, refl, sym, ap, ap₂, subst, _∙_}
 use mathlib.Core.Bool.{Bool, true, false, not, cond, _&&_, _||_, and-false}
 use mathlib.Core.List.{List, [], _∷_, _++_, map}
-use Prim.Native.Nat.{ℕ, zero, suc, _+_, _-_, _%_, _^_, _≤_, _<_}
+use Prim.Native.Nat.{ℕ, zero, suc, _+_, _-_, _%_, _^_, _≤_, _<_, min}
 use native.Mathlib.Nat.{mod-eq-of-lt, mod-lt}
 use native.Mathlib.Numerals.{add-one}
 use native.Mathlib.Omega.{arith}
@@ -18,23 +18,18 @@ use Rattle.window.specs.declared.Place.{Place}
 use Rattle.window.specs.Rows.{sized, standing, added, placeFor}
 use Rattle.window.proofs.Fitness.{size-range}
 use Rattle.question.specs.declared.Question.{Question}
-use Rattle.question.specs.declared.Searched.{Searched}
-use Rattle.ranking.specs.Cells.{score}
-use Rattle.question.specs.Lines.{searchedFirst, rowsOf}
-use Rattle.question.specs.Inner.{shown}
-use Rattle.question.proofs.Stored.{no-lines}
-use Rattle.question.proofs.Finding.{searched-rows, searched-arrays}
-use Rattle.board.specs.declared.Board.{Board}
-use Rattle.slot.specs.Gauges.{noQuestion}
-use Rattle.board.specs.Work.{slotRefusal, readWork, refreshed, outgoing, isSearched, enterRefusal, enterWork, arrival}
-use Rattle.question.specs.Lines.{takes}
-use Rattle.ranking.specs.Standing.{listed}
-use Rattle.slot.specs.Turn.{lists}
-use Rattle.window.proofs.Reports.{entering}
-use Rattle.board.proofs.Refusals.{zero-is, zero-not, enterable}
-use Rattle.slot.proofs.Listing.{listed-not, takes-no-place, place-none}
-use Rattle.slot.proofs.Filling.{Filled, filled-more, filled-all}
-use Rattle.board.proofs.Filling.{refreshed-searched, refreshed-kept}
+use Rattle.question.specs.Lines.{inRows, rowsOf}
+use Rattle.laws.proofs.Tests.{if-so, if-not}
+use Rattle.slot.specs.declared.Turned.{Turned}
+use Rattle.slot.specs.Asking.{readIn}
+use Rattle.slot.specs.Turn.{takes, lists}
+use Rattle.slot.specs.Turn as one
+use Rattle.slot.specs.Gauges.{noQuestion, isIdle}
+use Rattle.slot.proofs.Filling.{filled-more, filled-all}
+use Rattle.slot.proofs.Gauges.{idle-untouched}
+use Rattle.slot.proofs.Turns.{turn-still, rows-alone}
+use Rattle.board.specs.Work.{readWork, outgoing, turned, enterRefusal, enterWork, arrival}
+use Rattle.board.proofs.Refusals.{enterable}
 use Rattle.wire.proofs.Fields.{length-part}
 use Rattle.joining.specs.Frame.{Frame}
 use Rattle.joining.specs.Run.{sessionsAfter, answerTo}
@@ -49,6 +44,7 @@ use Rattle.pieces.specs.declared.Waiting.{Waiting}
 use Rattle.journal.specs.Log.{Outcome, nextItem, counted, withBoard, refused, quiet, unless, known, itemRefusal, showItem, sLines, enterItem, answered, frameIn, frameItem, byTag, itemDone}
 use Rattle.pieces.specs.Inner.{itemComes, shownText, brought}
 use Rattle.pieces.proofs.Coming.{part-part}
+use Rattle.pieces.proofs.Rowing.{Rowed, rowed-all}
 use Rattle.journal.proofs.Searches.{lines-more, lines-none}
 
 -- What the test of a whole item tells.
@@ -94,7 +90,7 @@ module _ (log : Log) (window : sized (log .board .window .size) ≡ true) where
   show-known s = rw (ne-eqb (log .board .window .size) 0 some-rows)
 
   pub show-done : (s : ℕ) → s < 32 → itemDone log 20 (s ∷ []) ≡ record { text = shownText (nextItem (log .items)) s (getD (log .board .slots) s noQuestion); log = counted log }
-  unfolding showItem readWork slotRefusal unless shownText
+  unfolding showItem readWork readIn unless shownText
   show-done s h = show-known s ∙ go (tested (eqb (getD (log .board .slots) s noQuestion .k) 0))
     where
       go : Tested (eqb (getD (log .board .slots) s noQuestion .k) 0) → showItem (counted log) (s ∷ []) ≡ record { text = shownText (nextItem (log .items)) s (getD (log .board .slots) s noQuestion); log = counted log }
@@ -147,35 +143,18 @@ module _ (log : Log) where
       go (failed t) z = absurd (z (rw t))
 
   pub enter-so : (loss shake : ℕ) → enterRefusal (w .entered) loss shake ≡ 0
-      → enterItem log loss shake ≡ record { text = sLines (log .items) 0 (map (isSearched w loss shake) (log .board .slots)) (map (λ q. entering w loss shake q .steps) (log .board .slots)); log = withBoard log (record { window = added w loss shake; slots = map (λ q. entering w loss shake q .question) (log .board .slots) }) }
+      → enterItem log loss shake ≡ record { text = sLines (log .items) 0 (map (λ q. turned w loss shake q .searched) (log .board .slots)) (map (λ q. turned w loss shake q .steps) (log .board .slots)); log = withBoard log (record { window = added w loss shake; slots = map (λ q. turned w loss shake q .question) (log .board .slots) }) }
   unfolding enterItem enterWork unless
   enter-so loss shake e = rw (eq-eqb (enterRefusal (w .entered) loss shake) 0 e)
 
 -- ---- the slots, one after the other
 
--- A slot with no k and no lines takes no report, and lists none.
-idle-unstirred : (q : Question) (loss shake gone : ℕ) → q .k ≡ 0 → q .len ≡ 0 → takes q loss shake || lists q gone ≡ false
-unfolding lists
-idle-unstirred q loss shake gone k len =
-    let empty : shown q ≡ 0 = omega (arith, len) in
-    rw (takes-no-place q loss shake (place-none q (score (q .weights) loss shake) (omega (arith, k)) empty), no-lines q empty) (and-false (not (eqb gone 0)))
-
 module _ (number gone loss shake : ℕ) (window : Window) where
-  abbrev pub with : Question → Question
-  with q = listed q (record { number = number; loss = loss % 4096; shake = shake % 4096 })
-
-  abbrev pub turn : Question → Searched
-  turn q = refreshed (with q) gone window
+  abbrev pub turn : Question → Turned
+  turn q = one.turn q (record { number = number; loss = loss % 4096; shake = shake % 4096 }) gone (inRows window)
 
   abbrev pub again : Question → Bool
-  again q = lists (with q) gone
-
-  -- A question that takes no report and loses none stays.
-  pub unstirred : (q : Question) → takes q (loss % 4096) (shake % 4096) || lists q gone ≡ false → (turn q ≡ record { steps = 0; question = q }) × (again q ≡ false)
-  unstirred q e =
-      let both = or-neither (takes q (loss % 4096) (shake % 4096)) (lists q gone) e in
-      let same = listed-not q (record { number = number; loss = loss % 4096; shake = shake % 4096 }) (both .0) in
-      (ap (λ p. refreshed p gone window) same ∙ refreshed-kept q gone window (both .1), ap (λ p. lists p gone) same ∙ both .1)
+  again q = turn q .searched
 
   module _ (items : ℕ) (old : List Question) (out₀ : List ℕ) (at₀ : ℕ) where
     abbrev pub told : ℕ → List ℕ
@@ -228,41 +207,28 @@ module _ (number gone loss shake : ℕ) (window : Window) where
       pub turning-still : length out₀ < 2 ^ 64 → at < 2 ^ 64 → takes (getD slots n noQuestion) (loss % 4096) (shake % 4096) || lists (getD slots n noQuestion) gone ≡ false → Turning (n + 1) slots at out
       turning-still small fits e =
           let q = getD old n noQuestion in
-          let still = unstirred q (ap (λ p. takes p (loss % 4096) (shake % 4096) || lists p gone) (sym next-old) ∙ e) in
+          let still = turn-still q (record { number = number; loss = loss % 4096; shake = shake % 4096 }) gone (inRows window) (ap (λ p. takes p (loss % 4096) (shake % 4096) || lists p gone) (sym next-old) ∙ e) in
           subst (λ l. Turning (n + 1) l at out) (set-getD slots n noQuestion)
-          (turning-more (getD slots n noQuestion) false 0 small (next-old ∙ sym (ap (λ f. f .question) (still .0))) (sym (still .1)) (sym (ap (λ f. f .steps) (still .0))) (none out at fits))
+          (turning-more (getD slots n noQuestion) false 0 small (next-old ∙ sym (ap (λ (f : Turned). f .question) still)) (sym (ap (λ (f : Turned). f .searched) still)) (sym (ap (λ (f : Turned). f .steps) still)) (none out at fits))
 
-      turn-is : {v : Question} → v ≡ with (getD slots n noQuestion) → v ≡ with (getD old n noQuestion)
-      turn-is e = e ∙ ap with next-old
-
-      -- The list takes the report, and loses none.
-      pub turning-kept : {v : Question} → v ≡ with (getD slots n noQuestion) → lists v gone ≡ false → length out₀ < 2 ^ 64 → at < 2 ^ 64 → Turning (n + 1) (set slots n v) at out
-      turning-kept {v} e f small fits =
-          let kept = refreshed-kept v gone window f in
-          let is = ap (λ p. refreshed p gone window) (sym (turn-is e)) ∙ kept in
-          turning-more v false 0 small (sym (ap (λ r. r .question) is)) (sym (ap (λ p. lists p gone) (sym (turn-is e)) ∙ f)) (sym (ap (λ r. r .steps) is)) (none out at fits)
-
-      -- The list has the report that leaves, and is searched afresh.
-      pub turning-searched : {v : Question} {found : Searched} {next : ℕ} {left : List ℕ} → v ≡ with (getD slots n noQuestion) → lists v gone ≡ true → (rows : ℕ)
-          → standing (rowsOf (window .losses) (window .shakes) (window .numbers)) rows ≡ standing (rowsOf (window .losses) (window .shakes) (window .numbers)) 1024
-          → found ≡ searchedFirst v (rowsOf (window .losses) (window .shakes) (window .numbers)) rows → length out₀ < 2 ^ 64
-          → Put out at (sLine items n (found .steps)) next left → Turning (n + 1) (set slots n (found .question)) next left
-      turning-searched {v} {found} e f rows all s small p =
-          let is = s ∙ searched-rows v (rowsOf (window .losses) (window .shakes) (window .numbers)) rows all ∙ searched-arrays v window ∙ sym (refreshed-searched v gone window f) ∙ ap (λ q. refreshed q gone window) (turn-is e) in
-          turning-more (found .question) true (found .steps) small (ap (λ r. r .question) is) (sym (ap (λ q. lists q gone) (sym (turn-is e)) ∙ f)) (ap (λ r. r .steps) is) p
+      -- The slot's turn, over the rows that hold a report.
+      pub turning-turned : {t : Turned} {rows next : ℕ} {left : List ℕ} → Rowed (window .numbers) rows
+          → t ≡ one.turn (getD slots n noQuestion) (record { number = number; loss = loss % 4096; shake = shake % 4096 }) gone (standing (rowsOf (window .losses) (window .shakes) (window .numbers)) (min rows 1024))
+          → length out₀ < 2 ^ 64 → Put out at (cond (t .searched) (sLine items n (t .steps)) []) next left → Turning (n + 1) (set slots n (t .question)) next left
+      unfolding inRows
+      turning-turned {t} {rows} r e small p =
+          let all : standing (rowsOf (window .losses) (window .shakes) (window .numbers)) (min rows 1024) ≡ standing window 1024 = rowed-all (rowsOf (window .losses) (window .shakes) (window .numbers)) r ∙ rows-alone window 1024 in
+          let is = e ∙ ap₂ (λ q hs. one.turn q (record { number = number; loss = loss % 4096; shake = shake % 4096 }) gone hs) next-old all in
+          turning-more (t .question) (t .searched) (t .steps) small (ap (λ (r : Turned). r .question) is) (ap (λ (r : Turned). r .searched) is) (ap (λ (r : Turned). r .steps) is) p
 
       -- A slot with no k and no lines stays.
-      pub turning-idle : length out₀ < 2 ^ 64 → at < 2 ^ 64 → eqb (getD slots n noQuestion .k) 0 && eqb (getD slots n noQuestion .len) 0 ≡ true → Turning (n + 1) slots at out
-      turning-idle small fits e =
-          let q = getD slots n noQuestion in
-          let both = and-both (eqb (q .k) 0) (eqb (q .len) 0) e in
-          turning-still small fits (idle-unstirred q (loss % 4096) (shake % 4096) gone (eqb-true (q .k) 0 (both .0)) (eqb-true (q .len) 0 (both .1)))
+      pub turning-idle : length out₀ < 2 ^ 64 → at < 2 ^ 64 → isIdle (getD slots n noQuestion) ≡ true → Turning (n + 1) slots at out
+      turning-idle small fits e = turning-still small fits (idle-untouched (getD slots n noQuestion) gone (loss % 4096) (shake % 4096) e)
 
 -- When all slots have had their turn, the report has entered.
 pub entered-done : (log : Log) (a : Answer) → (gives log a .number ≡ 0 → ⊥) → {window : Window} {slots : List Question} {n at₀ at : ℕ} {out₀ out : List ℕ} → window ≡ added (log .board .window) (gives log a .loss) (gives log a .shake)
     → length (log .board .slots) ≤ n → Turning (gives log a .number) (gives log a .oldest) (gives log a .loss) (gives log a .shake) window (log .items) (log .board .slots) out₀ at₀ n slots at out
     → answered log a ≡ record { text = cond (gives log a .refused) (rLine (log .items) (gives log a .code)) [] ++ told (gives log a .number) (gives log a .oldest) (gives log a .loss) (gives log a .shake) window (log .items) (log .board .slots) out₀ at₀ n; log = withBoard log (record { window = window; slots = slots }) }
-unfolding entering isSearched
 entered-done log a some {window} {slots} {n} {at₀} {at} {out₀} {out} grown all t =
     let w = log .board .window in
     let old = log .board .slots in
@@ -272,10 +238,9 @@ entered-done log a some {window} {slots} {n} {at₀} {at} {out₀} {out} grown a
     let l : b .loss % 4096 ≡ b .loss = mod-eq-of-lt (omega (arith, may .loss-fits)) in
     let s : b .shake % 4096 ≡ b .shake = mod-eq-of-lt (omega (arith, may .shake-fits)) in
     let f = turn (b .number) (b .oldest) (b .loss) (b .shake) window in
-    let g = again (b .number) (b .oldest) (b .loss) (b .shake) window in
-    let slots-are = filled-all (λ q. f q .question) old n slots all (record { whole = t .whole; first = t .first }) ∙ (λ i. map (λ q. refreshed (listed q (record { number = e .next i; loss = l i; shake = s i })) (e .oldest i) (grown i) .question) old) in
-    let again-are = take-all n (map g old) (omega (arith, length-map old g)) ∙ (λ i. map (λ q. lists (listed q (record { number = e .next i; loss = l i; shake = s i })) (e .oldest i)) old) in
-    let steps-are = take-all n (map (λ q. f q .steps) old) (omega (arith, length-map old (λ q. f q .steps))) ∙ (λ i. map (λ q. refreshed (listed q (record { number = e .next i; loss = l i; shake = s i })) (e .oldest i) (grown i) .steps) old) in
+    let slots-are = filled-all (λ q. f q .question) old n slots all (record { whole = t .whole; first = t .first }) ∙ (λ i. map (λ q. one.turn q (record { number = e .next i; loss = l i; shake = s i }) (e .oldest i) (inRows (grown i)) .question) old) in
+    let again-are = take-all n (map (λ q. f q .searched) old) (omega (arith, length-map old (λ q. f q .searched))) ∙ (λ i. map (λ q. one.turn q (record { number = e .next i; loss = l i; shake = s i }) (e .oldest i) (inRows (grown i)) .searched) old) in
+    let steps-are = take-all n (map (λ q. f q .steps) old) (omega (arith, length-map old (λ q. f q .steps))) ∙ (λ i. map (λ q. one.turn q (record { number = e .next i; loss = l i; shake = s i }) (e .oldest i) (inRows (grown i)) .steps) old) in
     e .is ∙ enter-so log (b .loss) (b .shake) (e .free)
     ∙ sym (λ i. record { text = cond (e .silent i) (rLine (log .items) (b .code)) [] ++ sLines (log .items) 0 (again-are i) (steps-are i); log = withBoard log (record { window = grown i; slots = slots-are i }) })
 

@@ -12,6 +12,7 @@ use Rattle.laws.proofs.Tests.{Tested, passed, failed, tested, if-so, if-not}
 use Rattle.window.specs.declared.Window.{Window}
 use Rattle.window.specs.Rows.{standing}
 use Rattle.window.proofs.Standing.{standing-end}
+use Rattle.laws.proofs.Tests.{if-so, if-not}
 use Rattle.slot.proofs.Gauges.{used-few, used-blank}
 use Rattle.pieces.specs.Inner.{rowsUsed, withRow}
 

@@ -13,16 +13,15 @@ use Rattle.wire.specs.Bytes.{part}
 use Rattle.wire.proofs.Fields.{length-part}
 use Rattle.ranking.specs.declared.Weights.{Weights}
 use Rattle.laws.proofs.Tests.{Tested, passed, failed, tested, and-both}
-use Rattle.window.specs.Rows.{sized}
 use Rattle.question.specs.declared.Question.{Question}
+use Rattle.window.specs.Rows.{sized, standing}
 use Rattle.question.specs.Lines.{rowsOf}
-use Rattle.board.specs.declared.Board.{Board}
-use Rattle.board.specs.declared.Placed.{Placed}
-use Rattle.board.specs.declared.Seated.{Seated}
-use Rattle.slot.specs.Gauges.{noQuestion}
-use Rattle.board.specs.Work.{slotAt, withSlot, setRefusal, setWork, slotRefusal, removeWork}
+use Rattle.slot.specs.declared.Seated.{Seated}
 use Rattle.slot.specs.Asking.{setIn, emptied}
-use Rattle.board.proofs.Seats.{set-seated}
+use Rattle.slot.specs.Gauges.{noQuestion}
+use Rattle.board.specs.declared.Placed.{Placed}
+use Rattle.board.specs.Work.{slotAt, withSlot, setWork, removeWork}
+use Rattle.board.proofs.Seats.{set-seated, set-kept}
 use Rattle.text.specs.Text.{rLine, sLine}
 use Rattle.journal.specs.declared.Log.{Log}
 use Rattle.journal.specs.Log.{Outcome, nextItem, counted, withBoard, unless, known, itemRefusal, weightsIn, setItem, removeItem, byTag, itemDone}
@@ -52,7 +51,7 @@ module _ (log : Log) (window : sized (log .board .window .size) ≡ true) where
 
   remove-done : (s : ℕ) → s < 32
       → itemDone log 19 (s ∷ []) ≡ record { text = cond (eqb (slotAt (log .board) s .k) 0) (rLine (nextItem (log .items)) 17) []; log = withBoard (counted log) (withSlot (log .board) s (emptied (slotAt (log .board) s))) }
-  unfolding removeItem removeWork slotRefusal unless emptied
+  unfolding removeItem removeWork unless emptied
   remove-done s h = remove-known s ∙ go (tested (eqb (slotAt (log .board) s .k) 0))
     where
       go : Tested (eqb (slotAt (log .board) s .k) 0)
@@ -68,27 +67,18 @@ remove-here log piece i window there {s} {items} {q} {left} e-s few e-items e-q 
     ap (itemDone log 19) (one-byte (i + 3) piece (omega arith) ∙ ap (λ (b : ℕ). b ∷ []) (sym e-s)) ∙ remove-done log window s few
     ∙ sym (λ j. record { text = cond (eqb (e-q j .k) 0) (rLine (e-items j) 17) []; log = record { items = e-items j; board = record { window = log .board .window; slots = set (log .board .slots) s (is j) }; sessions = log .sessions } })
 
--- A refused question leaves the board.
-set-kept : (b : Board) (slot k : ℕ) (weights : Weights) → eqb (setWork b slot k weights .refusal) 0 ≡ false → setWork b slot k weights .board ≡ b
-unfolding setWork
-set-kept b slot k weights h = go (tested (eqb (setRefusal b slot k weights) 0))
-  where
-    go : Tested (eqb (setRefusal b slot k weights) 0) → setWork b slot k weights .board ≡ b
-    go (passed t) = absurd (eqb-false 0 0 (rw t at h) refl)
-    go (failed t) = rw t
-
 module _ (log : Log) (piece : List ℕ) (i : ℕ) (window : sized (log .board .window .size) ≡ true) (there : i + 9 ≤ length piece) where
   pub set-here : {s k items : ℕ} {weights : Weights} {q : Question} {seated : Seated} {v : List ℕ} → v ≡ part (i + 3) 6 piece → s ≡ getD v 0 0 → s < 32 → k ≡ getD v 1 0 → weights ≡ weightsIn v
-      → items ≡ nextItem (log .items) → q ≡ getD (log .board .slots) s noQuestion → seated ≡ setIn q k weights (rowsOf (log .board .window .losses) (log .board .window .shakes) (log .board .window .numbers))
+      → items ≡ nextItem (log .items) → q ≡ getD (log .board .slots) s noQuestion → seated ≡ setIn q k weights (standing (rowsOf (log .board .window .losses) (log .board .window .shakes) (log .board .window .numbers)) 1024)
       → itemDone log 17 (part (i + 3) 6 piece) ≡ record { text = seatedText items s (seated .refusal) (seated .steps); log = record { items = items; board = record { window = log .board .window; slots = set (log .board .slots) s (seated .question) }; sessions = log .sessions } }
   unfolding setItem unless seatedText
   set-here {s} {k} {items} {weights} {q} {seated} {v} e-v e-s few e-k e-weights e-items e-q e-seated =
       let b = log .board in
-      let held = e-seated ∙ ap (λ p. setIn p k weights (rowsOf (b .window .losses) (b .window .shakes) (b .window .numbers))) e-q in
+      let held = e-seated ∙ ap (λ p. setIn p k weights (standing (rowsOf (b .window .losses) (b .window .shakes) (b .window .numbers)) 1024)) e-q in
       let placed : setWork b s k weights ≡ record { refusal = seated .refusal; steps = seated .steps; board = withSlot b s (seated .question) } = set-seated b s k weights few held in
       let done : Placed → Outcome = λ p. unless (counted log) (p .refusal) (record { text = sLine (nextItem (log .items)) s (p .steps); log = withBoard (counted log) (p .board) }) in
       let asked : setItem (counted log) v ≡ done (setWork b s k weights) = λ j. let p = setWork b (sym e-s j) (sym e-k j) (sym e-weights j) in unless (counted log) (p .refusal) (record { text = sLine (nextItem (log .items)) (sym e-s j) (p .steps); log = withBoard (counted log) (p .board) }) in
-      let same : eqb (seated .refusal) 0 ≡ false → withSlot b s (seated .question) ≡ b = λ t. sym (ap (λ (p : Placed). p .board) placed) ∙ set-kept b s k weights (ap (λ (p : Placed). eqb (p .refusal) 0) placed ∙ t) in
+      let same : eqb (seated .refusal) 0 ≡ false → withSlot b s (seated .question) ≡ b = λ t. sym (ap (λ (p : Placed). p .board) placed) ∙ set-kept b s k weights (eqb-false _ 0 (ap (λ (p : Placed). eqb (p .refusal) 0) placed ∙ t)) in
       set-known log window (part (i + 3) 6 piece) (length-part piece (i + 3) 6 (omega arith)) ∙ ap (setItem (counted log)) (sym e-v) ∙ asked ∙ ap done placed
       ∙ go (tested (eqb (seated .refusal) 0)) same
       ∙ sym (λ j. record { text = seatedText (e-items j) s (seated .refusal) (seated .steps); log = record { items = e-items j; board = withSlot b s (seated .question); sessions = log .sessions } })

@@ -12,12 +12,13 @@ ghost use Rattle.pieces.specs.Machine.{nothing, withByte, isWhole, value
 ghost use Rattle.pieces.specs.Inner.{itemComes, rowsUsed, withRow, shownText, seatedText, brought};
 use board::Arrival;
 use board::Board;
-use board::Gauge;
 use bus::Bus;
 use joining::Answer;
 use journal::Done;
 use journal::Log;
 use question::Question;
+use slot::Gauge;
+use slot::Shown;
 use window::Window;
 
 // What has come of an item that is not whole yet: its first 15 bytes, and how many there were. No longer item is known.
@@ -127,8 +128,8 @@ impl Waiting {
                     items = journal::next_item(items);
                     let s = wire::byte(piece, i + 3) as usize;
                     let held = slots[s];
-                    at = put_refusal(out, at, items, held.k == 0, Board::EMPTY);
-                    let left = board::emptied(held);
+                    at = put_refusal(out, at, items, held.k == 0, Shown::EMPTY);
+                    let left = slot::emptied(held);
                     slots[s] = left;
                     let gauge = Gauge::of(left);
                     gauges[s] = gauge;
@@ -145,7 +146,7 @@ impl Waiting {
                     let k = wire::byte(value, 1);
                     let weights = journal::weights_in(value);
                     let held = slots[s];
-                    let seated = board::set_in(
+                    let seated = slot::set_in(
                         held,
                         k,
                         weights,
@@ -225,19 +226,22 @@ impl Waiting {
                     continue;
                 }
                 let question = slots[here];
-                let with = board::listed(question, number, loss, shake);
-                if !board::lists(with, oldest) {
-                    slots[here] = with;
-                    let fresh = Gauge::of(with);
-                    gauges[here] = fresh;
-                    continue;
-                }
-                let found = with.searched_in(&window.losses, &window.shakes, &window.numbers, rows);
-                let searched = found.question;
-                slots[here] = searched;
-                let fresh = Gauge::of(searched);
+                let turned = slot::turn(
+                    question,
+                    number,
+                    loss,
+                    shake,
+                    oldest,
+                    &window.losses,
+                    &window.shakes,
+                    &window.numbers,
+                    rows,
+                );
+                let left = turned.question;
+                slots[here] = left;
+                let fresh = Gauge::of(left);
                 gauges[here] = fresh;
-                at = text::put_s(out, at, items, here as u8, found.steps);
+                at = journal::put_search(out, at, items, here as u8, turned.searched, turned.steps);
             }
         }
         let b = Board { window, slots };
@@ -381,7 +385,7 @@ fn put_shown(out: &mut [u8], at: usize, item: u64, slot: u8, question: Question)
     ensures { λ _. ⌜ now (out .exit) ≡ sets (now (out .entry)) at (shownText item slot question) ⌝ }
 {
     if question.k == 0 {
-        return text::put_r(out, at, item, Board::EMPTY);
+        return text::put_r(out, at, item, Shown::EMPTY);
     }
     let numbers = question.numbers;
     let scores = question.scores;

@@ -40,3 +40,9 @@ pub fn refused(n: u8) {
     text(b" refused");
     number(n as u64);
 }
+
+// What a call answers: the refusal's number, or 0.
+pub fn answers(refusal: u8) {
+    text(b" answers");
+    number(refusal as u64);
+}

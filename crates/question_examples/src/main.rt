@@ -1,160 +1,153 @@
-// Searches of document 01 through the public calls. Each case prints lines, and the file `stdout` has the lines that
-// document 01 asks for.
-mod compare;
-mod made;
-mod print;
+// Searches of document 01 through the public calls, on a window and one question. Each line of `stdin` is a case: it is printed, and
+// with it what is answered. `stdout` has what document 01 asks for, as tests/expected/question_examples works it out.
+//
+// new N                        a fresh window: the refusal's number, its size, and whether it is fit
+// enter LOSS SHAKE             the window with a report more
+// many REPORTS SEED KIND       with many more, drawn from a seed
+// counts SIZE ENTERED HELD     the window with other counts
+// hold AT NUMBER LOSS SHAKE    with another row
+// question K A B NEXT          a question with no lines whose search takes NEXT next, 256 for none
+// with K LINES NEXT            the question with other numbers
+// put AT NUMBER SCORE          with another line
+// add NUMBER SCORE             with an entry put in its rank
+// begin                        the search begun anew: the refusal's number, and the question left
+// step N                       N steps: the last one's refusal, and the question left
+// finish                       the search to its end: the steps, and whether that leaves the same question
+// try                          a step and a beginning, of which neither is kept
+// keep, old                    keeps the window and the question; hands back those kept
 mod search;
-mod seeds;
-mod unfit;
 
-use print::end;
-use print::number;
-use print::text;
-use search::asked;
-use search::shown;
-use search::told;
-use seeds::filled;
+use printing::answers;
+use printing::end;
+use printing::number;
+use printing::text;
+use question::Question;
 use window::Window;
 
 fn main() {
-    sizes();
-    examples();
-    again();
-    zeros();
-    others();
-    small_windows();
-    middle_windows();
-    large_windows();
-    unfit::all();
-    made::all();
+    let mut space = io::large_buffer();
+    let n = io::read_full(libc::STDIN_FILENO, &mut space);
+    all(wire::front(&space, n));
 }
 
-// Windows of sizes around those that there are.
-fn sizes() {
-    size(0);
-    size(1);
-    size(1024);
-    size(1025);
-    size(65535);
+// The window and the question as the cases so far have left them, and those kept.
+struct State {
+    window: Window,
+    question: Question,
+    old_window: Window,
+    old_question: Question,
 }
 
-fn size(n: u16) {
-    let fresh = Window::fresh(n);
-    let window = fresh.window;
-    text(b"N");
-    number(n as u64);
-    text(b" refusal");
-    number(fresh.refusal as u64);
-    text(b" size");
+fn all(text: &[u8]) {
+    let mut state = started(Window::fresh(1).window, Question::fresh());
+    let mut at: usize = 0;
+    while at < text.len() {
+        state = case(state, cases::line(text, at));
+        at = cases::next(text, at);
+    }
+}
+
+fn started(window: Window, question: Question) -> State {
+    State {
+        window,
+        question,
+        old_window: window,
+        old_question: question,
+    }
+}
+
+// Prints one case.
+fn case(state: State, line: &[u8]) -> State {
+    let old_window = state.old_window;
+    let old_question = state.old_question;
+    text(line);
+    let window = changed(state.window, old_window, line);
+    let question = called(window, state.question, old_question, line);
+    end();
+    if wire::byte(line, 0) == b'k' {
+        return started(window, question);
+    }
+    State {
+        window,
+        question,
+        old_window,
+        old_question,
+    }
+}
+
+// The window that a case leaves.
+fn changed(window: Window, old: Window, line: &[u8]) -> Window {
+    match wire::byte(line, 0) {
+        b'n' => fresh(line),
+        b'e' => window.with(cases::short(line, 1), cases::short(line, 2)),
+        b'm' => many(
+            window,
+            cases::short(line, 1),
+            cases::number(line, 2),
+            cases::byte(line, 3),
+        ),
+        b'c' => made_up::counts(window, line),
+        b'h' => made_up::row(window, line),
+        b'o' => old,
+        _ => window,
+    }
+}
+
+fn fresh(line: &[u8]) -> Window {
+    let made = Window::fresh(cases::short(line, 1));
+    let window = made.window;
+    answers(made.refusal);
     number(window.size as u64);
     if window.fit() {
         text(b" fit");
-    } else {
-        text(b" unfit");
     }
-    end();
+    window
 }
 
-// P5, P6 and P7, with a line for each step.
-fn examples() {
-    let window = Window::fresh(5).window;
-    text(b"P5\n");
-    shown(window.with(3840, 3840), asked(1, 1, 2));
-    text(b"P6\n");
-    shown(window.with(255, 7), asked(1, -1, 0));
-    text(b"P7\n");
-    shown(window.with(256, 7), asked(1, -1, 0));
+// The window after so many reports of a kind.
+fn many(from: Window, reports: u16, seed: u32, kind: u8) -> Window {
+    let mut window = from;
+    let mut at = seed;
+    let mut i: u16 = 0;
+    while i < reports {
+        let loss = turned(at);
+        at = turned(loss);
+        window = window.with(value(loss, kind), value(at, kind));
+        i += 1;
+    }
+    window
 }
 
-// P5 once more, begun where its search has ended.
-fn again() {
-    let window = Window::fresh(5).window.with(3840, 3840);
-    text(b"P5 again\n");
-    shown(window, asked(1, 1, 2).searched(window).question);
+// The number that follows one.
+fn turned(seed: u32) -> u32 {
+    ((seed as u64 * 1664525 + 1013904223) % 4294967296) as u32
 }
 
-// P8: windows that hold none, one and many.
-fn zeros() {
-    zero(filled(1, 0, 0, 0));
-    zero(filled(1, 1, 101, 0));
-    zero(filled(2, 5, 102, 1));
-    zero(filled(5, 3, 103, 2));
-    zero(filled(30, 44, 104, 3));
-    zero(filled(1024, 1024, 105, 0));
-    zero(filled(1024, 1400, 106, 4));
+// A value, from the upper 12 bits: of kind 0 any, of 1 the lowest in its cell, of 2 the highest, of 3 one of four, and of
+// any other kind always the same.
+fn value(seed: u32, kind: u8) -> u16 {
+    let drawn = (seed / 1048576) as u16;
+    match kind {
+        0 => drawn,
+        1 => drawn / 256 * 256,
+        2 => drawn / 256 * 256 + 255,
+        3 => drawn / 1365 * 1365,
+        _ => 4000,
+    }
 }
 
-fn zero(window: Window) {
-    text(b"P8 ");
-    told(window, asked(1, 0, 0));
-    text(b"P8 ");
-    told(window, asked(3, 0, 0));
-    text(b"P8 ");
-    told(window, asked(16, 0, 0));
-}
-
-// Other searches with a line for each step.
-fn others() {
-    shown(filled(5, 12, 216, 0), asked(2, 3, -2));
-    shown(filled(30, 47, 202, 3), asked(3, -3, 7));
-    shown(filled(1024, 1500, 203, 0), asked(16, 1000, 1000));
-    shown(filled(1024, 900, 204, 2), asked(16, -1000, 0));
-}
-
-fn small_windows() {
-    window(1, 0, 1, 0);
-    window(1, 1, 2, 0);
-    window(1, 4, 3, 0);
-    window(2, 1, 4, 0);
-    window(2, 2, 5, 1);
-    window(2, 7, 6, 3);
-    window(2, 9, 7, 2);
-    window(3, 5, 8, 1);
-    window(5, 3, 9, 0);
-    window(5, 5, 10, 2);
-    window(5, 12, 11, 3);
-    window(5, 12, 12, 0);
-    window(5, 20, 13, 4);
-}
-
-fn middle_windows() {
-    window(16, 33, 14, 3);
-    window(17, 40, 15, 0);
-    window(30, 0, 16, 0);
-    window(30, 16, 17, 0);
-    window(30, 30, 18, 1);
-    window(30, 30, 19, 2);
-    window(30, 47, 20, 3);
-    window(30, 61, 21, 0);
-    window(30, 90, 22, 4);
-}
-
-fn large_windows() {
-    window(1000, 1500, 23, 0);
-    window(1024, 3, 24, 0);
-    window(1024, 200, 25, 0);
-    window(1024, 1024, 26, 0);
-    window(1024, 1024, 27, 1);
-    window(1024, 1500, 28, 2);
-    window(1024, 1300, 29, 3);
-    window(1024, 3000, 30, 0);
-    window(1024, 1100, 31, 4);
-}
-
-// Seven searches of one window.
-fn window(size: u16, reports: u16, seed: u32, kind: u8) {
-    let window = filled(size, reports, seed, kind);
-    text(b"window");
-    number(size as u64);
-    number(reports as u64);
-    number(seed as u64);
-    number(kind as u64);
-    end();
-    told(window, asked(1, 1, 2));
-    told(window, asked(2, -3, 7));
-    told(window, asked(3, 1000, -1000));
-    told(window, asked(16, -1000, -1000));
-    told(window, asked(1, 0, 5));
-    told(window, asked(2, -1, 0));
-    told(window, asked(16, 17, 300));
+// The question that a case leaves.
+fn called(window: Window, question: Question, old: Question, line: &[u8]) -> Question {
+    match wire::byte(line, 0) {
+        b'q' => made_up::asked(line),
+        b'w' => made_up::numbers(question, line),
+        b'p' => made_up::entry(question, line),
+        b'a' => question.added(cases::number(line, 1), cases::score(line, 2)),
+        b'b' => search::left(question.begin(window)),
+        b's' => search::left(search::steps(window, question, cases::short(line, 1))),
+        b'f' => search::finish(window, question),
+        b't' => search::tries(window, question),
+        b'o' => old,
+        _ => question,
+    }
 }

@@ -1,270 +1,135 @@
-// The payload of document 01 tried at its edges. Each case prints a line, and the file `stdout` has the lines that
-// document 01 asks for.
-mod changed;
-mod print;
-
-use print::number;
-use print::reading;
-use print::text;
-use print::writing;
+// The payload of document 01 tried at its edges. Each line of `stdin` is a case: it is printed, and with it what is answered. `stdout`
+// has what document 01 asks for, as tests/expected/report_examples works it out.
+//
+// write ROOM LOSS SHAKE OWN NOTED LENGTH   the writer, with a note of that length: its answer, and the room of 255s that it leaves
+// huge                                     the writer, with a note of 65,536 bytes, in a room of 96 zeros
+// read BYTES..                             the reader: its answer, and the note
+// long SIZE LENGTH                         the reader on P1's payload with zeros behind it, so many bytes, its note's length changed
+// count AT BYTES..                         how many of the 255 other bytes at a place the reader takes
+//
+// BYTES are hexadecimal, the other numbers decimal.
+use printing::bytes;
+use printing::end;
+use printing::number;
+use printing::refused;
+use printing::text;
 use report::Payload;
+use report::Reading;
 use report::Report;
 use report::Written;
 use values::Values;
 
 fn main() {
-    first_example();
-    edges();
-    notes();
-    faults();
-    rooms();
-    sizes();
-    long_sizes();
-    changed::every_byte();
+    let mut space = io::large_buffer();
+    let n = io::read_full(libc::STDIN_FILENO, &mut space);
+    all(wire::front(&space, n));
 }
 
-// The report of document 01's example P1.
-fn example() -> Report {
-    Report {
-        values: Values {
-            loss: 100,
-            shake: 200,
-        },
-        own: 7,
+fn all(text: &[u8]) {
+    let mut at: usize = 0;
+    while at < text.len() {
+        case(cases::line(text, at));
+        at = cases::next(text, at);
     }
 }
 
-// P1: its payload as written, and read back.
-fn first_example() {
-    let mut space = [0u8; 17];
-    let room: &mut [u8] = &mut space;
-    text(b"P1");
-    writing(Payload::write(room, example(), false, b""));
-    text(b"P1 bytes");
-    print::bytes(room);
-    print::end();
-    text(b"P1");
-    reading(room);
-}
-
-// The least and the largest loss, shake and number, and what lies above.
-fn edges() {
-    loss(0);
-    loss(4095);
-    loss(4096);
-    loss(65535);
-    shake(0);
-    shake(4095);
-    shake(4096);
-    shake(65535);
-    own_number(0);
-    own_number(4294967295);
-}
-
-fn loss(value: u16) {
-    let report = Report {
-        values: Values {
-            loss: value,
-            shake: 200,
-        },
-        own: 7,
-    };
-    edge(b"loss", value, report, 3);
-}
-
-fn shake(value: u16) {
-    let report = Report {
-        values: Values {
-            loss: 100,
-            shake: value,
-        },
-        own: 7,
-    };
-    edge(b"shake", value, report, 8);
-}
-
-// The writer on a report that holds the value, then the reader on P1's payload with the value stored at its place.
-fn edge(name: &[u8], value: u16, report: Report, at: usize) {
-    let mut space = [0u8; 17];
-    let room: &mut [u8] = &mut space;
-    text(name);
-    number(value as u64);
-    writing(Payload::write(room, report, false, b""));
-    Payload::write(room, example(), false, b"");
-    wire::put16(room, at, value);
-    text(name);
-    number(value as u64);
-    reading(room);
-}
-
-fn own_number(value: u32) {
-    let mut space = [0u8; 17];
-    let room: &mut [u8] = &mut space;
-    let report = Report {
-        values: Values {
-            loss: 100,
-            shake: 200,
-        },
-        own: value,
-    };
-    text(b"number");
-    number(value as u64);
-    writing(Payload::write(room, report, false, b""));
-    text(b"number");
-    number(value as u64);
-    reading(room);
-}
-
-// No note, an empty one, notes up to the longest, and longer ones; the last has a length of 0 in two bytes.
-fn notes() {
-    let mut space = [0u8; 65];
-    let all: &mut [u8] = &mut space;
-    count_up(all);
-    noted(false, wire::front(all, 0));
-    noted(true, wire::front(all, 0));
-    noted(true, wire::front(all, 1));
-    noted(true, wire::front(all, 64));
-    noted(true, wire::front(all, 65));
-    let long = io::large_buffer();
-    noted(true, &long);
-}
-
-// Fills the bytes with 1, 2, 3 and so on.
-fn count_up(s: &mut [u8]) {
-    let mut i = 0;
-    let mut b: u8 = 0;
-    while i < s.len() {
-        b = std::num::wrapping_add_u8(b, 1);
-        s[i] = b;
-        i += 1;
+// Prints one case.
+fn case(line: &[u8]) {
+    let mut space = [0u8; 96];
+    text(line);
+    match wire::byte(line, 0) {
+        b'w' => write(line),
+        b'h' => written(&mut space, line, true, &io::large_buffer()),
+        b'r' => {
+            let n = cases::bytes(line, 1, &mut space);
+            read(wire::front(&space, n));
+        }
+        b'l' => long(line),
+        b'c' => {
+            let n = cases::bytes(line, 2, &mut space);
+            count(&mut space, n, cases::byte(line, 1) as usize);
+        }
+        _ => text(b""),
     }
+    end();
 }
 
-// Writes P1's report with a note, and reads back what was written.
-fn noted(noted: bool, note: &[u8]) {
-    let mut space = [0u8; 85];
-    let room: &mut [u8] = &mut space;
-    let answer = Payload::write(room, example(), noted, note);
-    note_name(noted, note);
-    writing(answer);
-    if let Written::Bytes(size) = answer {
-        note_name(noted, note);
-        text(b" bytes");
-        print::bytes(wire::front(room, size));
-        print::end();
-        note_name(noted, note);
-        reading(wire::front(room, size));
-    }
-}
-
-fn note_name(noted: bool, note: &[u8]) {
-    if noted {
-        text(b"note");
-        number(note.len() as u64);
-    } else {
-        text(b"no note");
-    }
-}
-
-// Where several refusals apply, the first of 12, 19 and 20. The last call writes no note, so the length of its note is no
-// fault.
-fn faults() {
-    let note = [0u8; 65];
-    let mut space = [0u8; 16];
-    let room: &mut [u8] = &mut space;
-    let report = Report {
-        values: Values {
-            loss: 4096,
-            shake: 200,
-        },
-        own: 7,
-    };
-    text(b"faults 12 19 20");
-    writing(Payload::write(room, report, true, &note));
-    text(b"faults 19 20");
-    writing(Payload::write(room, example(), true, &note));
-    text(b"faults 20");
-    writing(Payload::write(room, example(), false, &note));
-}
-
-// A room of 255s one byte too short, just long enough, and one byte longer: the answer, and the room afterwards.
-fn rooms() {
-    let mut space = [0u8; 64];
-    let note: &mut [u8] = &mut space;
-    count_up(note);
-    room(16, false, b"");
-    room(17, false, b"");
-    room(18, false, b"");
-    room(19, true, b"");
-    room(20, true, b"");
-    room(21, true, b"");
-    room(83, true, note);
-    room(84, true, note);
-    room(85, true, note);
-}
-
-fn room(size: usize, noted: bool, note: &[u8]) {
+fn write(line: &[u8]) {
     let mut space = [255u8; 85];
-    let all: &mut [u8] = &mut space;
-    if size <= all.len() {
-        write_in(&mut all[..size], noted, note);
+    let room: &mut [u8] = &mut space;
+    let size = cases::byte(line, 1) as usize;
+    let words: &[u8] = b"The left sieve lets more grain by than before, since the belt was";
+    let note = wire::front(words, cases::byte(line, 6) as usize);
+    if size <= room.len() {
+        written(&mut room[..size], line, cases::byte(line, 5) == 1, note);
     }
 }
 
-fn write_in(room: &mut [u8], noted: bool, note: &[u8]) {
-    text(b"room");
-    number(room.len() as u64);
-    writing(Payload::write(room, example(), noted, note));
-    text(b"room");
-    number(room.len() as u64);
-    text(b" bytes");
-    print::bytes(room);
-    print::end();
+// What the writer answers, and the room that it leaves.
+fn written(room: &mut [u8], line: &[u8], noted: bool, note: &[u8]) {
+    let values = Values {
+        loss: cases::short(line, 2),
+        shake: cases::short(line, 3),
+    };
+    let report = Report {
+        values,
+        own: cases::number(line, 4),
+    };
+    text(b" written");
+    match Payload::write(room, report, noted, note) {
+        Written::Bytes(n) => number(n as u64),
+        Written::Refused(n) => refused(n),
+    }
+    bytes(room);
 }
 
-// Sizes around those of a payload, where the note's length fits and where it doesn't.
-fn sizes() {
-    let mut space = [0u8; 85];
-    let p: &mut [u8] = &mut space;
-    Payload::write(p, example(), true, b"");
-    sized(p, 16, 0);
-    sized(p, 17, 0);
-    sized(p, 18, 0);
-    sized(p, 19, 0);
-    sized(p, 20, 0);
-    sized(p, 20, 1);
-    sized(p, 21, 0);
-    sized(p, 21, 1);
-    sized(p, 21, 2);
-    sized(p, 84, 63);
-    sized(p, 84, 64);
-    sized(p, 84, 65);
-    sized(p, 85, 64);
-    sized(p, 85, 65);
-    sized(p, 85, 66);
+// What the reader answers for the bytes, and the note in them.
+fn read(p: &[u8]) {
+    match Payload::read(p) {
+        Reading::Accepted(r) => accepted(r),
+        Reading::Refused(n) => refused(n),
+    }
+    if Payload::has_note(p) {
+        text(b" note");
+    }
+    bytes(Payload::note(p));
 }
 
-// No byte at all, and more than two bytes can count; 65553 and 65556 are 17 and 20 in two bytes.
-fn long_sizes() {
+fn accepted(r: Report) {
+    text(b" accepted");
+    number(r.values.loss as u64);
+    number(r.values.shake as u64);
+    number(r.own as u64);
+}
+
+fn long(line: &[u8]) {
     let mut space = [0u8; 65556];
     let p: &mut [u8] = &mut space;
-    Payload::write(p, example(), true, b"");
-    sized(p, 0, 0);
-    sized(p, 65535, 0);
-    sized(p, 65535, 64);
-    sized(p, 65535, 65515);
-    sized(p, 65536, 0);
-    sized(p, 65553, 0);
-    sized(p, 65556, 0);
-    sized(p, 65556, 64);
+    let start: &[u8] = b"\x01\x02\x00\x64\x00\x02\x02\x00\xc8\x00\x03\x04\x00\x07\x00\x00\x00\x04";
+    wire::put_all(p, 0, start);
+    wire::put16(p, 18, cases::short(line, 2));
+    read(wire::front(p, cases::number(line, 1) as usize));
 }
 
-// The reader on the first `size` bytes, once the note's length, at place 18, is `length`.
-fn sized(p: &mut [u8], size: usize, length: u16) {
-    wire::put16(p, 18, length);
-    text(b"size");
-    number(size as u64);
-    text(b" length");
-    number(length as u64);
-    reading(wire::front(p, size));
+// How many of the 255 other bytes at a place the reader takes.
+fn count(p: &mut [u8; 96], size: usize, at: usize) {
+    let mut count: u64 = 0;
+    let mut more: u8 = 0;
+    while more < 255 {
+        more += 1;
+        count = std::num::wrapping_add_u64(count, takes(p, size, at, more));
+    }
+    number(count);
+}
+
+// 1 where the reader takes the byte that is `more` above the one at a place, else 0; that one is put back.
+fn takes(p: &mut [u8; 96], size: usize, at: usize, more: u8) -> u64 {
+    let found = wire::byte(p, at);
+    wire::put(p, at, std::num::wrapping_add_u8(found, more));
+    let answer = Payload::read(wire::front(p, size));
+    wire::put(p, at, found);
+    match answer {
+        Reading::Accepted(_) => 1,
+        Reading::Refused(_) => 0,
+    }
 }

@@ -40,11 +40,11 @@ next-requires c κs = search needs
 enum-known-found : tie.Need-enum-known-found Inv-loop μ-loop
 enum-known-found c = search needs
 
-slice-aggregate-with : tie.Need-slice-aggregate-with Inv-loop μ-loop
-slice-aggregate-with c = search needs
+slice-aggregate-take : tie.Need-slice-aggregate-take Inv-loop μ-loop
+slice-aggregate-take c = search needs
 
-with-requires : tie.Need-with-requires Inv-loop μ-loop
-with-requires c κs = search needs
+take-requires : tie.Need-take-requires Inv-loop μ-loop
+take-requires c κs = search needs
 
 loop-less : tie.Need-loop-less Inv-loop μ-loop
 loop-less c = omega arith
@@ -75,8 +75,8 @@ main-spec =
     slice-aggregate-next-2
     next-requires
     enum-known-found
-    slice-aggregate-with
-    with-requires
+    slice-aggregate-take
+    take-requires
     loop-less
     loop-again
     summary-requires

@@ -18,8 +18,7 @@ use Rattle.journal.specs.declared.Log.{Log}
 use Rattle.pieces.specs.declared.Waiting.{Waiting}
 use Rattle.journal.specs.Log.{Outcome, itemDone}
 use Rattle.board.specs.declared.Board.{Board}
-use Rattle.slot.specs.Gauges.{noQuestion}
-use Rattle.slot.specs.Gauges.{gaugeOf, isIdle}
+use Rattle.slot.specs.Gauges.{noQuestion, gaugeOf, isIdle}
 use Rattle.joining.specs.declared.Session.{Session}
 use Rattle.bus.specs.Room.{sessionsIn}
 use Rattle.bus.proofs.Rooms.{next-room}
@@ -27,9 +26,9 @@ use Rattle.pieces.specs.Machine.{Feeds, valueIn, hasRoom}
 use Rattle.journal.proofs.Calls.{outcome-is}
 use Rattle.pieces.proofs.Feeding.{Ran, ran-none, ran-more, ran-feeds, place-fits, came-whole, came-not}
 use Rattle.pieces.proofs.Coming.{ran-item, part-part}
-use Rattle.pieces.proofs.InPlace.{Comes, frame-facts, show-here, frame-none, frame-enters, row-takes, row-fits, Turning, turning-none, turning-kept, turning-searched, Sizes}
+use Rattle.pieces.proofs.InPlace.{Comes, frame-facts, show-here, frame-none, frame-enters, row-takes, row-fits, Turning, turning-none, turning-turned, Sizes}
 use Rattle.pieces.proofs.Gauging.{Gauged, gauged-of, gauge-at, gauges-set, turning-quiet, turning-rest, gauged-turned}
-use Rattle.pieces.proofs.Rowing.{Rowed, rowed-of, rowed-with, rowed-all}
+use Rattle.pieces.proofs.Rowing.{Rowed, rowed-of, rowed-with}
 use Rattle.pieces.proofs.Seating.{slot-facts, first-byte, remove-here, set-here}
 use borrow.Author.Needs.{needs}
 use Rattle.pieces.proofs.Waiting.feed.Statement.{statement}
@@ -607,70 +606,46 @@ mul-question c = search needs
 array-copy-out-question : tie.Need-array-copy-out-question Inv-loop2 μ-loop2 Inv-loop μ-loop
 array-copy-out-question c = in-array (c .before .before .before)
 
-listed-requires : tie.Need-listed-requires Inv-loop2 μ-loop2 Inv-loop μ-loop
-listed-requires c κs = search needs
+-- The rows with the report's own.
+rowed-then : (a : tie.At-loop2 Inv-loop2 μ-loop2 Inv-loop μ-loop) → Rowed (set (a .before .before .before .before .before .before .before .before .before .before .before .before .before .before .before .before .before .before .before .before .loop .window .numbers) (a .before .before .before .place .result .row) (a .before .before .before .before .before .before .before .before .before .before .brings .result .number)) (a .before .with-row .result)
+rowed-then a =
+    rowed-with (a .before .before .before .before .before .before .before .before .before .before .before .before .before .before .before .before .before .before .before .before .loop .inv .5) (a .before .before .before .place .result .row) (a .before .before .before .before .before .before .before .before .before .before .brings .result .number)
+    (row-fits (a .before .before .before .before .before .before .before .before .before .before .before .before .before .before .before .before .before .before .before .before .loop .window) (frames (a .before .before .before .before .before .before .before .before .before .before .before .before .before .before .before .before) .window) (a .before .before .before .place .ensures)) (a .before .with-row .ensures)
 
-lists-requires : tie.Need-lists-requires Inv-loop2 μ-loop2 Inv-loop μ-loop
-lists-requires c κs = search needs
+turn-requires : tie.Need-turn-requires Inv-loop2 μ-loop2 Inv-loop μ-loop
+turn-requires c κs = search needs
 
 mul-slots-3 : tie.Need-mul-slots-3 Inv-loop2 μ-loop2 Inv-loop μ-loop
 mul-slots-3 c = search needs
 
 array-set-from-slots-3 : tie.Need-array-set-from-slots-3 Inv-loop2 μ-loop2 Inv-loop μ-loop
-array-set-from-slots-3 c = in-array (c .before .before .before .before .before .before .before)
+array-set-from-slots-3 c = in-array (c .before .before .before .before .before .before .before .before .before .before)
 
 of-requires-3 : tie.Need-of-requires-3 Inv-loop2 μ-loop2 Inv-loop μ-loop
 of-requires-3 c κs = search needs
 
 mul-gauges-3 : tie.Need-mul-gauges-3 Inv-loop2 μ-loop2 Inv-loop μ-loop
-mul-gauges-3 c = search needs
+mul-gauges-3 c = omega (arith, in-array (c .before .before .before .before .before .before .before .before .before .before .before))
 
 array-set-from-gauges-3 : tie.Need-array-set-from-gauges-3 Inv-loop2 μ-loop2 Inv-loop μ-loop
-array-set-from-gauges-3 c = in-array (c .before .before .before .before .before .before .before .before)
+array-set-from-gauges-3 c = in-array (c .before .before .before .before .before .before .before .before .before .before .before)
+
+cast-put-search : tie.Need-cast-put-search Inv-loop2 μ-loop2 Inv-loop μ-loop
+cast-put-search c = omega (arith, in-array (c .before .before .before .before .before .before .before .before .before .before .before .before))
+
+put-search-requires : tie.Need-put-search-requires Inv-loop2 μ-loop2 Inv-loop μ-loop
+put-search-requires c κs = search needs
 
 loop2-less-2 : tie.Need-loop2-less-2 Inv-loop2 μ-loop2 Inv-loop μ-loop
-loop2-less-2 c = omega (arith, next-slot (c .before .before .before .before .before .before .before .before))
+loop2-less-2 c = omega (arith, next-slot (c .before .before .before .before .before .before .before .before .before .before .before .before .before .before .before))
 
 loop2-again-2 : tie.Need-loop2-again-2 Inv-loop2 μ-loop2 Inv-loop μ-loop
 loop2-again-2 c =
-    let n = (c .before .before .before .before .before .before .before .before) in
-    let m = c .before .before .before .before .before .before .before .before .before .loop2 in
-    (next-slot n, m .inv .1, m .inv .2, m .inv .3, turning-kept _ _ _ _ _ _ _ _ _ (m .inv .4) (below n) (c .before .before .before .listed .ensures) (sym (c .before .before .lists .ensures) ∙ not-true _ (c .before .if9 .taken)) (small-then (c .before .before .before .before .before .before .before .before .before)) (place-then n), gauges-set (m .slots) (m .slot) (c .before .before .before .listed .result) (m .inv .5) (c .of3 .ensures))
-
-searched-in-requires : tie.Need-searched-in-requires Inv-loop2 μ-loop2 Inv-loop μ-loop
-searched-in-requires c κs = search needs
-
-mul-slots-4 : tie.Need-mul-slots-4 Inv-loop2 μ-loop2 Inv-loop μ-loop
-mul-slots-4 c = search needs
-
-array-set-from-slots-4 : tie.Need-array-set-from-slots-4 Inv-loop2 μ-loop2 Inv-loop μ-loop
-array-set-from-slots-4 c = in-array (c .before .before .before .before .before .before .before .before .before .before .before .before .before)
-
-of-requires-4 : tie.Need-of-requires-4 Inv-loop2 μ-loop2 Inv-loop μ-loop
-of-requires-4 c κs = search needs
-
-mul-gauges-4 : tie.Need-mul-gauges-4 Inv-loop2 μ-loop2 Inv-loop μ-loop
-mul-gauges-4 c = omega (arith, in-array (c .before .before .before .before .before .before .before .before .before .before .before .before .before .before))
-
-array-set-from-gauges-4 : tie.Need-array-set-from-gauges-4 Inv-loop2 μ-loop2 Inv-loop μ-loop
-array-set-from-gauges-4 c = in-array (c .before .before .before .before .before .before .before .before .before .before .before .before .before .before)
-
-cast-put-s : tie.Need-cast-put-s Inv-loop2 μ-loop2 Inv-loop μ-loop
-cast-put-s c = omega (arith, in-array (c .before .before .before .before .before .before .before .before .before .before .before .before .before .before .before))
-
-put-s-requires : tie.Need-put-s-requires Inv-loop2 μ-loop2 Inv-loop μ-loop
-put-s-requires c κs = search needs
-
-loop2-less-3 : tie.Need-loop2-less-3 Inv-loop2 μ-loop2 Inv-loop μ-loop
-loop2-less-3 c = omega (arith, next-slot (c .before .before .before .before .before .before .before .before .before .before .before .before .before .before .before .before .before .before))
-
-loop2-again-3 : tie.Need-loop2-again-3 Inv-loop2 μ-loop2 Inv-loop μ-loop
-loop2-again-3 c =
-    let n = (c .before .before .before .before .before .before .before .before .before .before .before .before .before .before .before .before .before .before) in
-    let m = c .before .before .before .before .before .before .before .before .before .before .before .before .before .before .before .before .before .before .before .loop2 in
-    let rowed = rowed-with (c .before .before .before .before .before .before .before .before .before .before .before .before .before .before .before .before .before .before .before .before .before .before .before .before .before .before .before .before .before .before .before .before .before .before .before .before .before .before .before .loop .inv .5) (c .before .before .before .before .before .before .before .before .before .before .before .before .before .before .before .before .before .before .before .before .before .before .place .result .row) (c .before .before .before .before .before .before .before .before .before .before .before .before .before .before .before .before .before .before .before .before .before .before .before .before .before .before .before .before .before .brings .result .number) (row-fits (c .before .before .before .before .before .before .before .before .before .before .before .before .before .before .before .before .before .before .before .before .before .before .before .before .before .before .before .before .before .before .before .before .before .before .before .before .before .before .before .loop .window) (frames (c .before .before .before .before .before .before .before .before .before .before .before .before .before .before .before .before .before .before .before .before .before .before .before .before .before .before .before .before .before .before .before .before .before .before .before) .window) (c .before .before .before .before .before .before .before .before .before .before .before .before .before .before .before .before .before .before .before .before .before .before .place .ensures)) (c .before .before .before .before .before .before .before .before .before .before .before .before .before .before .before .before .before .before .before .before .with-row .ensures) in
-    let t = turning-searched _ _ _ _ _ _ _ _ _ (m .inv .4) (below n) (c .before .before .before .before .before .before .before .before .before .before .before .before .before .listed .ensures) (sym (c .before .before .before .before .before .before .before .before .before .before .before .before .lists .ensures) ∙ not-false _ (c .before .before .before .before .before .before .before .before .before .before .before .if9 .left)) _ (rowed-all _ rowed) (c .before .before .before .before .before .before .searched-in .ensures) (small-then (c .before .before .before .before .before .before .before .before .before .before .before .before .before .before .before .before .before .before .before)) (put (c .before .before .put-s .ensures)) in
-    (next-slot n, m .inv .1, rw (t .printed .bytes, length-sets), m .inv .3, t, gauges-set (m .slots) (m .slot) (c .before .before .before .before .before .before .searched-in .result .question) (m .inv .5) (c .before .before .before .before .of4 .ensures))
+    let a = c .before .before .before .before .before .before .before .before .before .before .before .before .before .before .before .before in
+    let n = (c .before .before .before .before .before .before .before .before .before .before .before .before .before .before .before) in
+    let m = a .loop2 in
+    let t = turning-turned _ _ _ _ _ _ _ _ _ (m .inv .4) (below n) (rowed-then a) (c .before .before .before .before .before .before .turn .ensures) (small-then a) (put (c .before .before .put-search .ensures)) in
+    (next-slot n, m .inv .1, rw (t .printed .bytes, length-sets), m .inv .3, t, gauges-set (m .slots) (m .slot) (c .before .before .before .before .before .before .turn .result .question) (m .inv .5) (c .before .before .before .before .of3 .ensures))
 
 read-requires-2 : tie.Need-read-requires-2 Inv-loop2 μ-loop2 Inv-loop μ-loop
 read-requires-2 c κs = search needs
@@ -807,25 +782,16 @@ feed-spec =
     loop2-again
     mul-question
     array-copy-out-question
-    listed-requires
-    lists-requires
+    turn-requires
     mul-slots-3
     array-set-from-slots-3
     of-requires-3
     mul-gauges-3
     array-set-from-gauges-3
+    cast-put-search
+    put-search-requires
     loop2-less-2
     loop2-again-2
-    searched-in-requires
-    mul-slots-4
-    array-set-from-slots-4
-    of-requires-4
-    mul-gauges-4
-    array-set-from-gauges-4
-    cast-put-s
-    put-s-requires
-    loop2-less-3
-    loop2-again-3
     read-requires-2
     same-length
     returns)

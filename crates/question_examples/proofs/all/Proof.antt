@@ -1,0 +1,49 @@
+-- `question_examples::all` is safe and ends: of the text less is left with each line.
+-- Assumes nothing.
+use Prim.Native.Nat.{_-_}
+use lib.ListN.{length}
+use native.Mathlib.Omega.{arith}
+use borrow.Author.Needs.{needs}
+use Rattle.question_examples.proofs.all.Statement.{statement}
+use Rattle.question_examples.proofs.all.Tie as tie
+
+abbrev Inv-loop : tie.InvT-loop
+Inv-loop text state₀ at₀ state at = Unit {0}
+
+abbrev μ-loop : tie.MeasureT-loop
+μ-loop text state₀ at₀ state at = length text - at
+
+fresh-requires : tie.Need-fresh-requires Inv-loop μ-loop
+fresh-requires c κs = tt
+
+fresh-requires-2 : tie.Need-fresh-requires-2 Inv-loop μ-loop
+fresh-requires-2 c κs = tt
+
+started-requires : tie.Need-started-requires Inv-loop μ-loop
+started-requires c κs = tt
+
+loop-holds : tie.Need-loop-holds Inv-loop μ-loop
+loop-holds c = tt
+
+line-requires : tie.Need-line-requires Inv-loop μ-loop
+line-requires c κs = tt
+
+case-requires : tie.Need-case-requires Inv-loop μ-loop
+case-requires c κs = tt
+
+next-requires : tie.Need-next-requires Inv-loop μ-loop
+next-requires c κs = tt
+
+loop-less : tie.Need-loop-less Inv-loop μ-loop
+loop-less c = omega (arith, c .next .ensures)
+
+loop-again : tie.Need-loop-again Inv-loop μ-loop
+loop-again c = tt
+
+returns : tie.Need-returns Inv-loop μ-loop
+returns c = tt
+
+pub all-spec : {M : Type 1} → statement M
+all-spec =
+    tie.close
+    (tie.spec Inv-loop μ-loop fresh-requires fresh-requires-2 started-requires loop-holds line-requires case-requires next-requires loop-less loop-again returns)
