@@ -4,7 +4,6 @@ use mathlib.Core.Path.{_≡_, sym, ap, _∙_}
 use Prim.Native.Nat.{min}
 use native.Mathlib.Omega.{arith}
 use borrow.Author.Needs.{needs}
-use Rattle.list.specs.Lines.{stored}
 use Rattle.ranking.specs.Standing.{top}
 use Rattle.window.specs.Rows.{standing}
 use Rattle.list.specs.Rows.{rowsOf}
