@@ -5,22 +5,26 @@ use made_up::compared;
 use printing::answers;
 use printing::number;
 use printing::text;
+use ranking::Rule;
 use ranking::Weights;
+use slot::Gauge;
+use values::Values;
 
 pub fn fresh(n: u16) -> Board {
     let made = Board::fresh(n);
     let board = made.board;
     let window = board.window;
+    let counts = window.counts;
     answers(made.refusal);
-    number(window.size as u64);
+    number(counts.size as u64);
     if board.fit() {
         text(b" fit");
     }
     board
 }
 
-pub fn set(board: Board, slot: u8, k: u8, weights: Weights) -> Board {
-    let answer = board.set(slot, k, weights);
+pub fn set(board: Board, slot: u8, k: u8, rule: Rule) -> Board {
+    let answer = board.set(slot, k, rule);
     answers(answer.refusal);
     number(answer.steps as u64);
     back(answer.board, board)
@@ -42,8 +46,8 @@ pub fn list(board: Board, slot: u8) -> Board {
     board
 }
 
-pub fn enter(board: Board, loss: u16, shake: u16) -> Board {
-    let answer = board.enter(loss, shake);
+pub fn enter(board: Board, values: Values) -> Board {
+    let answer = board.enter(values);
     answers(answer.refusal);
     number(answer.number as u64);
     searches(answer);
@@ -52,10 +56,14 @@ pub fn enter(board: Board, loss: u16, shake: u16) -> Board {
 
 // Each of the four calls, on the same board.
 pub fn each(board: Board) -> Board {
-    set(board, 0, 1, Weights { loss: 1, shake: 2 });
+    set(board, 0, 1, Rule::of(Weights { loss: 1, shake: 2 }));
     remove(board, 3);
     list(board, 3);
-    enter(board, 2000, 2500);
+    let values = Values {
+        loss: 2000,
+        shake: 2500,
+    };
+    enter(board, values);
     board
 }
 
@@ -64,7 +72,7 @@ fn searches(entered: Entered) {
     let searched = entered.searched;
     let steps = entered.steps;
     let mut i: usize = 0;
-    while i < 32 {
+    while i < Gauge::SLOTS {
         search(i as u64, searched[i], steps[i]);
         i += 1;
     }
@@ -92,7 +100,7 @@ fn same_slots(a: Board, b: Board) -> bool {
     let all = a.slots;
     let others = b.slots;
     let mut i: usize = 0;
-    while i < 32 {
+    while i < Gauge::SLOTS {
         if !made_up::same(all[i], others[i]) {
             return false;
         }

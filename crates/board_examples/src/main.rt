@@ -63,11 +63,11 @@ fn called(board: Board, old: Board, line: &[u8]) -> Board {
             board,
             cases::byte(line, 1),
             cases::byte(line, 2),
-            made_up::weights(line, 3),
+            made_up::rule(line, 3),
         ),
         b'r' => calls::remove(board, cases::byte(line, 1)),
         b'l' => calls::list(board, cases::byte(line, 1)),
-        b'e' => calls::enter(board, cases::short(line, 1), cases::short(line, 2)),
+        b'e' => calls::enter(board, made_up::values(line, 1)),
         b't' => calls::each(board),
         b'b' => calls::back(board, old),
         b'o' => old,
@@ -104,7 +104,7 @@ fn with_window(board: Board, window: Window) -> Board {
 fn with_slot(board: Board, n: u8, question: Question) -> Board {
     let window = board.window;
     let mut slots = board.slots;
-    if n < 32 {
+    if n < Board::SLOTS {
         slots[n as usize] = question;
     }
     Board { window, slots }
@@ -112,7 +112,7 @@ fn with_slot(board: Board, n: u8, question: Question) -> Board {
 
 fn slot(board: Board, n: u8) -> Question {
     let slots = board.slots;
-    if n < 32 {
+    if n < Board::SLOTS {
         return slots[n as usize];
     }
     Question::fresh()

@@ -7,6 +7,7 @@ use Rattle.report.specs.declared.Reading.{Reading}
 use Rattle.report.specs.declared.Reading.the-variants as reading
 use Rattle.report.specs.declared.Written.{Written}
 use Rattle.report.specs.declared.Written.the-variants as written
+use Rattle.report.specs.Payload.{largest}
 use Rattle.joining.specs.declared.Session.{Session}
 use Rattle.joining.specs.declared.Answer.{Answer}
 use Rattle.joining.specs.declared.Answer.the-variants.{Refused, Kept, Complete}
@@ -16,7 +17,7 @@ use Rattle.calls.specs.States.{told}
 abbrev pub sessionOf : (counts payload : List ℕ) → Session
 sessionOf counts payload =
     record {
-      bytes = sets (replicate 84 0) 0 payload;
+      bytes = sets (replicate largest 0) 0 payload;
       size = getD counts 0 0 % 256;
       count = getD counts 1 0 % 256;
       next = getD counts 2 0 % 256;

@@ -5,7 +5,10 @@ use mathlib.Core.List.{List}
 use lib.ListN.{getD, set, replicate}
 use lib.Seq.{sets}
 use lib.IntN.{ℤ, pos}
+use Rattle.ranking.specs.Cells.{ruleOf}
 use Rattle.window.specs.declared.Window.{Window}
+use Rattle.window.specs.Rows.{rowCount}
+use Rattle.list.specs.Lines.{room}
 use Rattle.question.specs.declared.Question.{Question}
 use Rattle.question.specs.declared.Stepped.{Stepped}
 use Rattle.question.specs.Lines.{emptySlot}
@@ -13,34 +16,33 @@ use Rattle.question.specs.Calls.{stepCall, beginCall}
 use Rattle.board.specs.declared.Board.{Board}
 use Rattle.board.specs.declared.Placed.{Placed}
 use Rattle.slot.specs.declared.Shown.{Shown}
+use Rattle.slot.specs.Gauges.{slotCount}
 use Rattle.board.specs.declared.Entered.{Entered}
 
 -- Rows past the end of what is lent are 0; what is lent past the last row is not read.
 abbrev pub windowOf : (counts losses shakes numbers : List ℕ) → Window
 windowOf counts losses shakes numbers =
     record {
-      losses = sets (replicate 1024 0) 0 losses;
-      shakes = sets (replicate 1024 0) 0 shakes;
-      numbers = sets (replicate 1024 0) 0 numbers;
-      size = getD counts 0 0 % 65536;
-      entered = getD counts 1 0;
-      held = getD counts 2 0 % 65536;
+      losses = sets (replicate rowCount 0) 0 losses;
+      shakes = sets (replicate rowCount 0) 0 shakes;
+      numbers = sets (replicate rowCount 0) 0 numbers;
+      counts = record { size = getD counts 0 0 % 65536; entered = getD counts 1 0; held = getD counts 2 0 % 65536 };
     }
 
 abbrev pub questionOf : List ℕ → ℤ → ℤ → List ℕ → List ℤ → Question
 questionOf counts loss shake list scores =
     record {
       k = getD counts 3 0 % 256;
-      weights = record { loss = loss; shake = shake };
-      numbers = sets (replicate 16 0) 0 list;
-      scores = sets (replicate 16 (pos 0)) 0 scores;
+      rule = ruleOf (record { loss = loss; shake = shake });
+      numbers = sets (replicate room 0) 0 list;
+      scores = sets (replicate room (pos 0)) 0 scores;
       len = getD counts 4 0 % 256;
       next = getD counts 5 0 % 65536;
     }
 
 -- The slot that the question stands in.
 abbrev pub slotIn : List ℕ → ℕ
-slotIn counts = getD counts 6 0 % 32
+slotIn counts = getD counts 6 0 % slotCount
 
 module _ (counts losses shakes numbers : List ℕ) (loss shake : ℤ) (list : List ℕ) (scores : List ℤ) where
   -- The question's step and beginning, on the window.
@@ -55,7 +57,7 @@ module _ (counts losses shakes numbers : List ℕ) (loss shake : ℤ) (list : Li
   boardLent =
       record {
         window = windowOf counts losses shakes numbers;
-        slots = set (replicate 32 emptySlot) (slotIn counts) (questionOf counts loss shake list scores);
+        slots = set (replicate slotCount emptySlot) (slotIn counts) (questionOf counts loss shake list scores);
       }
 
 -- A question stored in the lent numbers; the window's are not touched.

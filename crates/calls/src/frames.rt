@@ -90,7 +90,7 @@ pub extern "C" fn calls_send(
 fn session_of(counts: &[u32], payload: &[u8]) -> Session
     ensures { λ r. ⌜ r ≡ sessionOf (now (counts .entry)) (now (payload .entry)) ⌝ }
 {
-    let mut own = [0u8; 84];
+    let mut own = [0u8; Payload::LARGEST];
     wire::put_all(&mut own, 0, payload);
     let size = (count(counts, 0) % 256) as u8;
     let packets = (count(counts, 1) % 256) as u8;

@@ -4,6 +4,7 @@
 ghost use mathlib.Core.Path.{_≡_};
 ghost use lib.ListN.{getD, set};
 ghost use lib.Seq.{sets};
+ghost use Rattle.ranking.specs.Cells.{ruleOf};
 ghost use Rattle.board.specs.Calls.{setCall, removeCall, readCall, enterCall};
 ghost use Rattle.board.specs.Work.{slotAt};
 ghost use Rattle.calls.specs.States.{windowOf, questionOf, stepLent, beginLent, boardLent, HandsBack, placedNumber, shownNumber, slotIn, told, enteredNumber};
@@ -15,8 +16,13 @@ pub use frames::calls_frame;
 pub use frames::calls_note;
 pub use frames::calls_payload;
 pub use frames::calls_send;
+use list::Lines;
 use question::Question;
+use ranking::Rule;
 use ranking::Weights;
+use slot::Gauge;
+use values::Values;
+use window::Counts;
 use window::Window;
 
 // One step of the question's search: the refusal's number, 0 for none, and the question as it is left.
@@ -81,12 +87,13 @@ pub extern "C" fn calls_set(
     a: i16,
     b: i16,
 ) -> u32
-    ensures { λ r. ⌜ r ≡ placedNumber (setCall (boardLent (now (counts .entry)) (now (losses .entry)) (now (shakes .entry)) (now (numbers .entry)) loss shake (now (list .entry)) (now (scores .entry))) slot k (record { loss = a; shake = b })) ⌝ }
+    ensures { λ r. ⌜ r ≡ placedNumber (setCall (boardLent (now (counts .entry)) (now (losses .entry)) (now (shakes .entry)) (now (numbers .entry)) loss shake (now (list .entry)) (now (scores .entry))) slot k (ruleOf (record { loss = a; shake = b }))) ⌝ }
 {
+    let rule = rule_of(a, b);
     let done = board_of(counts, losses, shakes, numbers, loss, shake, list, scores).set(
         slot,
         k,
-        Weights { loss: a, shake: b },
+        rule,
     );
     (done.refusal as u32) * 65536 + (done.steps as u32)
 }
@@ -145,14 +152,15 @@ pub extern "C" fn calls_enter(
     lost: u16,
     shaken: u16,
 ) -> u64
-    ensures { λ r. ⌜ r ≡ enteredNumber (enterCall (boardLent (now (counts .entry)) (now (losses .entry)) (now (shakes .entry)) (now (numbers .entry)) loss shake (now (list .entry)) (now (scores .entry))) lost shaken) (slotIn (now (counts .entry))) ⌝ }
-    ensures { λ _. ⌜ HandsBack (slotAt (enterCall (boardLent (now (counts .entry)) (now (losses .entry)) (now (shakes .entry)) (now (numbers .entry)) loss shake (now (list .entry)) (now (scores .entry))) lost shaken .board) (slotIn (now (counts .entry)))) (now (counts .entry)) (now (list .entry)) (now (scores .entry)) (now (counts .exit)) (now (list .exit)) (now (scores .exit)) ⌝ }
+    ensures { λ r. ⌜ r ≡ enteredNumber (enterCall (boardLent (now (counts .entry)) (now (losses .entry)) (now (shakes .entry)) (now (numbers .entry)) loss shake (now (list .entry)) (now (scores .entry))) (record { loss = lost; shake = shaken })) (slotIn (now (counts .entry))) ⌝ }
+    ensures { λ _. ⌜ HandsBack (slotAt (enterCall (boardLent (now (counts .entry)) (now (losses .entry)) (now (shakes .entry)) (now (numbers .entry)) loss shake (now (list .entry)) (now (scores .entry))) (record { loss = lost; shake = shaken }) .board) (slotIn (now (counts .entry)))) (now (counts .entry)) (now (list .entry)) (now (scores .entry)) (now (counts .exit)) (now (list .exit)) (now (scores .exit)) ⌝ }
 {
     let at = slot_in(counts);
-    let done = board_of(counts, losses, shakes, numbers, loss, shake, list, scores).enter(
-        lost,
-        shaken,
-    );
+    let values = Values {
+        loss: lost,
+        shake: shaken,
+    };
+    let done = board_of(counts, losses, shakes, numbers, loss, shake, list, scores).enter(values);
     let board = done.board;
     let slots = board.slots;
     let left = slots[at];
@@ -195,7 +203,7 @@ fn board_of(
     let window = window_of(counts, losses, shakes, numbers);
     let question = question_of(counts, loss, shake, list, scores);
     let empty = Question::fresh();
-    let mut slots = [empty; 32];
+    let mut slots = [empty; Gauge::SLOTS];
     let at = slot_in(counts);
     slots[at] = question;
     Board { window, slots }
@@ -205,22 +213,25 @@ fn board_of(
 fn window_of(counts: &[u32], losses: &[u16], shakes: &[u16], numbers: &[u32]) -> Window
     ensures { λ r. ⌜ r ≡ windowOf (now (counts .entry)) (now (losses .entry)) (now (shakes .entry)) (now (numbers .entry)) ⌝ }
 {
-    let mut own_losses = [0u16; 1024];
+    let mut own_losses = [0u16; Window::ROWS];
     fill16(&mut own_losses, losses);
-    let mut own_shakes = [0u16; 1024];
+    let mut own_shakes = [0u16; Window::ROWS];
     fill16(&mut own_shakes, shakes);
-    let mut own_numbers = [0u32; 1024];
+    let mut own_numbers = [0u32; Window::ROWS];
     fill32(&mut own_numbers, numbers);
     let size = (count(counts, 0) % 65536) as u16;
     let entered = count(counts, 1);
     let held = (count(counts, 2) % 65536) as u16;
+    let own_counts = Counts {
+        size,
+        entered,
+        held,
+    };
     Window {
         losses: own_losses,
         shakes: own_shakes,
         numbers: own_numbers,
-        size,
-        entered,
-        held,
+        counts: own_counts,
     }
 }
 
@@ -228,21 +239,29 @@ fn window_of(counts: &[u32], losses: &[u16], shakes: &[u16], numbers: &[u32]) ->
 fn question_of(counts: &[u32], loss: i16, shake: i16, list: &[u32], scores: &[i32]) -> Question
     ensures { λ r. ⌜ r ≡ questionOf (now (counts .entry)) loss shake (now (list .entry)) (now (scores .entry)) ⌝ }
 {
-    let mut own_numbers = [0u32; 16];
+    let mut own_numbers = [0u32; Lines::ROOM];
     fill32(&mut own_numbers, list);
-    let mut own_scores = [0i32; 16];
+    let mut own_scores = [0i32; Lines::ROOM];
     fill_scores(&mut own_scores, scores);
     let k = (count(counts, 3) % 256) as u8;
     let len = (count(counts, 4) % 256) as u8;
     let next = (count(counts, 5) % 65536) as u16;
+    let rule = rule_of(loss, shake);
     Question {
         k,
-        weights: Weights { loss, shake },
+        rule,
         numbers: own_numbers,
         scores: own_scores,
         len,
         next,
     }
+}
+
+// The rule of lent weights.
+fn rule_of(loss: i16, shake: i16) -> Rule
+    ensures { λ r. ⌜ r ≡ ruleOf (record { loss = loss; shake = shake }) ⌝ }
+{
+    Rule::of(Weights { loss, shake })
 }
 
 // Stores a question in the lent numbers.

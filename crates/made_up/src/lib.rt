@@ -1,17 +1,24 @@
 // Windows and questions made up by hand, compared and printed, for the test programs. A line of cases has the numbers, as the
 // comment before each function says.
+use list::Lines;
 use printing::number;
 use printing::text;
 use question::Question;
+use ranking::Rule;
 use ranking::Weights;
+use values::Values;
+use window::Counts;
 use window::Window;
 
 // counts SIZE ENTERED HELD
 pub fn counts(window: Window, line: &[u8]) -> Window {
+    let counts = Counts {
+        size: cases::short(line, 1),
+        entered: cases::number(line, 2),
+        held: cases::short(line, 3),
+    };
     let mut changed = window;
-    changed.size = cases::short(line, 1);
-    changed.entered = cases::number(line, 2);
-    changed.held = cases::short(line, 3);
+    changed.counts = counts;
     changed
 }
 
@@ -19,7 +26,7 @@ pub fn counts(window: Window, line: &[u8]) -> Window {
 pub fn row(window: Window, line: &[u8]) -> Window {
     let mut changed = window;
     let at = cases::short(line, 1) as usize;
-    if at < 1024 {
+    if at < Window::ROWS {
         changed.numbers[at] = cases::number(line, 2);
         changed.losses[at] = cases::short(line, 3);
         changed.shakes[at] = cases::short(line, 4);
@@ -27,20 +34,29 @@ pub fn row(window: Window, line: &[u8]) -> Window {
     changed
 }
 
-// The weights from a word on.
-pub fn weights(line: &[u8], from: u8) -> Weights {
-    Weights {
+// The values from a word on.
+pub fn values(line: &[u8], from: u8) -> Values {
+    Values {
+        loss: cases::short(line, from),
+        shake: cases::short(line, std::num::wrapping_add_u8(from, 1)),
+    }
+}
+
+// The rule of the weights from a word on.
+pub fn rule(line: &[u8], from: u8) -> Rule {
+    let weights = Weights {
         loss: cases::weight(line, from),
         shake: cases::weight(line, std::num::wrapping_add_u8(from, 1)),
-    }
+    };
+    Rule::of(weights)
 }
 
 // question K A B NEXT: one with no lines.
 pub fn asked(line: &[u8]) -> Question {
-    let weights = weights(line, 2);
+    let rule = rule(line, 2);
     let mut question = Question::fresh();
     question.k = cases::byte(line, 1);
-    question.weights = weights;
+    question.rule = rule;
     question.next = cases::short(line, 4);
     question
 }
@@ -58,7 +74,7 @@ pub fn numbers(question: Question, line: &[u8]) -> Question {
 pub fn entry(question: Question, line: &[u8]) -> Question {
     let mut changed = question;
     let at = cases::byte(line, 1) as usize;
-    if at < 16 {
+    if at < Lines::ROOM {
         changed.numbers[at] = cases::number(line, 2);
         changed.scores[at] = cases::score(line, 3);
     }
@@ -67,16 +83,20 @@ pub fn entry(question: Question, line: &[u8]) -> Question {
 
 // Whether two windows are the same in all that is stored.
 pub fn same_window(a: Window, b: Window) -> bool {
+    if !same_counts(a.counts, b.counts) {
+        return false;
+    }
+    same_rows(a, b)
+}
+
+fn same_counts(a: Counts, b: Counts) -> bool {
     if a.size != b.size {
         return false;
     }
     if a.entered != b.entered {
         return false;
     }
-    if a.held != b.held {
-        return false;
-    }
-    same_rows(a, b)
+    a.held == b.held
 }
 
 fn same_rows(a: Window, b: Window) -> bool {
@@ -87,7 +107,7 @@ fn same_rows(a: Window, b: Window) -> bool {
     let other_losses = b.losses;
     let other_shakes = b.shakes;
     let mut i: usize = 0;
-    while i < 1024 {
+    while i < Window::ROWS {
         if numbers[i] != other_numbers[i] {
             return false;
         }
@@ -104,12 +124,7 @@ fn same_rows(a: Window, b: Window) -> bool {
 
 // Whether two questions are the same in all that is stored.
 pub fn same(a: Question, b: Question) -> bool {
-    let x = a.weights;
-    let y = b.weights;
-    if x.loss != y.loss {
-        return false;
-    }
-    if x.shake != y.shake {
+    if !same_rule(a.rule, b.rule) {
         return false;
     }
     if a.k != b.k {
@@ -124,13 +139,22 @@ pub fn same(a: Question, b: Question) -> bool {
     same_lines(a, b)
 }
 
+fn same_rule(a: Rule, b: Rule) -> bool {
+    let x = a.weights;
+    let y = b.weights;
+    if x.loss != y.loss {
+        return false;
+    }
+    x.shake == y.shake
+}
+
 fn same_lines(a: Question, b: Question) -> bool {
     let numbers = a.numbers;
     let scores = a.scores;
     let other_numbers = b.numbers;
     let other_scores = b.scores;
     let mut i: usize = 0;
-    while i < 16 {
+    while i < Lines::ROOM {
         if numbers[i] != other_numbers[i] {
             return false;
         }
@@ -151,9 +175,9 @@ pub fn compared(same: bool) {
 }
 
 // The lines of a list, best first, and any place past them that is not 0.
-pub fn list(numbers: [u32; 16], scores: [i32; 16], len: u8) {
+pub fn list(numbers: [u32; Lines::ROOM], scores: [i32; Lines::ROOM], len: u8) {
     let mut i: u8 = 0;
-    while i < 16 {
+    while i < Question::LINES {
         place(i < len, numbers[i as usize], scores[i as usize]);
         i += 1;
     }

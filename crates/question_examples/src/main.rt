@@ -22,6 +22,7 @@ use printing::end;
 use printing::number;
 use printing::text;
 use question::Question;
+use values::Values;
 use window::Window;
 
 fn main() {
@@ -79,7 +80,7 @@ fn case(state: State, line: &[u8]) -> State {
 fn changed(window: Window, old: Window, line: &[u8]) -> Window {
     match wire::byte(line, 0) {
         b'n' => fresh(line),
-        b'e' => window.with(cases::short(line, 1), cases::short(line, 2)),
+        b'e' => window.with(made_up::values(line, 1)),
         b'm' => many(
             window,
             cases::short(line, 1),
@@ -96,8 +97,9 @@ fn changed(window: Window, old: Window, line: &[u8]) -> Window {
 fn fresh(line: &[u8]) -> Window {
     let made = Window::fresh(cases::short(line, 1));
     let window = made.window;
+    let counts = window.counts;
     answers(made.refusal);
-    number(window.size as u64);
+    number(counts.size as u64);
     if window.fit() {
         text(b" fit");
     }
@@ -112,7 +114,10 @@ fn many(from: Window, reports: u16, seed: u32, kind: u8) -> Window {
     while i < reports {
         let loss = turned(at);
         at = turned(loss);
-        window = window.with(value(loss, kind), value(at, kind));
+        window = window.with(Values {
+            loss: value(loss, kind),
+            shake: value(at, kind),
+        });
         i += 1;
     }
     window

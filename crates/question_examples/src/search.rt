@@ -32,7 +32,7 @@ fn standing(question: Question) {
 }
 
 // A number that tells which cells are marked.
-fn tally(marks: [bool; 256]) -> u64 {
+fn tally(marks: [bool; Question::MARKS]) -> u64 {
     let mut sum: u64 = 0;
     let mut cell: u64 = 0;
     while cell < 256 {

@@ -4,6 +4,7 @@ use mathlib.Core.Path.{_∙_}
 use denote.Ref.{now}
 use mir.Facts.{toZ-ofZ}
 use lib.ListN.{set, replicate}
+use Rattle.slot.specs.Gauges.{slotCount}
 use Rattle.calls.specs.States.{questionOf, boardLent}
 use borrow.Author.Needs.{needs}
 use Rattle.calls.proofs.board_of.Statement.{statement}
@@ -35,7 +36,7 @@ returns c =
     let question =
     c .before .before .question-of .ensures
     ∙ (λ i. questionOf (now (a .counts)) (toZ-ofZ (start .fits .loss) i) (toZ-ofZ (start .fits .shake) i) (now (a .list)) (now (a .scores))) in
-    λ i. record { window = (c .before .before .before .window-of .ensures) i; slots = set (replicate 32 ((c .before .fresh .ensures) i)) ((c .slot-in .ensures) i) (question i) }
+    λ i. record { window = (c .before .before .before .window-of .ensures) i; slots = set (replicate slotCount ((c .before .fresh .ensures) i)) ((c .slot-in .ensures) i) (question i) }
 
 pub board-of-spec : {M : Type 1} → statement M
 board-of-spec =

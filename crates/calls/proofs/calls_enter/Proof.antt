@@ -55,7 +55,7 @@ returns c =
     c .before .before .before .before .before .before .before .before .before .before .before .before .before .before .before .board-of .ensures
     ∙ (λ i. boardLent (now (a .counts)) (now (a .losses)) (now (a .shakes)) (now (a .numbers)) (toZ-ofZ (start .fits .loss) i) (toZ-ofZ (start .fits .shake) i) (now (a .list)) (now (a .scores))) in
     let at = c .before .before .before .before .before .before .before .before .before .before .before .before .before .before .before .before .before .before .before .slot-in .ensures in
-    let done = c .before .before .before .before .before .before .before .before .before .before .before .before .before .before .enter .ensures ∙ (λ i. enterCall (board i) (a .lost) (a .shaken)) in
+    let done = c .before .before .before .before .before .before .before .before .before .before .before .before .before .before .enter .ensures ∙ (λ i. enterCall (board i) (record { loss = a .lost; shake = a .shaken })) in
     (c .told .ensures ∙ (λ i. enteredNumber (done i) (at i)), handed (λ i. slotAt (done i .board) (at i)) (c .before .before .before .before .before .before .before .hand-back .ensures))
 
 pub calls-enter-spec : {M : Type 1} → statement M

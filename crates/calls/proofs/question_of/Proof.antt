@@ -1,7 +1,9 @@
 -- `calls::question_of` meets its contract: both arrays are filled from what is lent.
 -- Assumes nothing.
+use mathlib.Core.Path.{_∙_}
 use Prim.Native.Nat.{_%_}
 use mir.Facts.{toZ-ofZ}
+use Rattle.ranking.specs.Cells.{ruleOf}
 use borrow.Author.Needs.{needs}
 use Rattle.calls.proofs.question_of.Statement.{statement}
 use Rattle.calls.proofs.question_of.Tie as tie
@@ -36,17 +38,21 @@ count-requires-3 c κs = search needs
 cast-next : tie.Need-cast-next
 cast-next c = search needs
 
+rule-of-requires : tie.Need-rule-of-requires
+rule-of-requires c κs = search needs
+
 returns : tie.Need-returns
 returns c =
-    let fits = c .before .before .before .before .before .before .before .before .before .before .before .fits in
+    let fits = c .before .before .before .before .before .before .before .before .before .before .before .before .fits in
+    let rule = c .rule-of .ensures ∙ (λ i. ruleOf (record { loss = toZ-ofZ (fits .loss) i; shake = toZ-ofZ (fits .shake) i })) in
     λ i.
     record {
-      k = (c .before .before .count .ensures) i % 256;
-      weights = record { loss = toZ-ofZ (fits .loss) i; shake = toZ-ofZ (fits .shake) i };
-      numbers = (c .before .before .before .before .before .before .before .fill32 .ensures) i;
-      scores = (c .before .before .before .before .fill-scores .ensures) i;
-      len = (c .before .count2 .ensures) i % 256;
-      next = (c .count3 .ensures) i % 65536;
+      k = (c .before .before .before .count .ensures) i % 256;
+      rule = rule i;
+      numbers = (c .before .before .before .before .before .before .before .before .fill32 .ensures) i;
+      scores = (c .before .before .before .before .before .fill-scores .ensures) i;
+      len = (c .before .before .count2 .ensures) i % 256;
+      next = (c .before .count3 .ensures) i % 65536;
     }
 
 pub question-of-spec : {M : Type 1} → statement M
@@ -63,4 +69,5 @@ question-of-spec =
     cast-len
     count-requires-3
     cast-next
+    rule-of-requires
     returns)

@@ -45,9 +45,12 @@ returns c =
       losses = (c .before .before .before .before .before .before .before .before .before .before .fill16 .ensures) i;
       shakes = (c .before .before .before .before .before .before .before .fill162 .ensures) i;
       numbers = (c .before .before .before .before .fill32 .ensures) i;
-      size = (c .before .before .count .ensures) i % 65536;
-      entered = (c .before .count2 .ensures) i;
-      held = (c .count3 .ensures) i % 65536;
+      counts =
+          record {
+            size = (c .before .before .count .ensures) i % 65536;
+            entered = (c .before .count2 .ensures) i;
+            held = (c .count3 .ensures) i % 65536;
+          };
     }
 
 pub window-of-spec : {M : Type 1} → statement M
