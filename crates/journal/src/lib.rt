@@ -348,7 +348,14 @@ fn put_searches(
 }
 
 // Prints the line of a slot, if it was searched.
-fn put_search(out: &mut [u8], at: usize, item: u64, slot: u8, searched: bool, steps: u16) -> usize
+pub fn put_search(
+    out: &mut [u8],
+    at: usize,
+    item: u64,
+    slot: u8,
+    searched: bool,
+    steps: u16,
+) -> usize
     ensures { λ r. ⌜ r ≡ behind at (cond searched (sLine item slot steps) []) ⌝ }
     ensures { λ _. ⌜ now (out .exit) ≡ sets (now (out .entry)) at (cond searched (sLine item slot steps) []) ⌝ }
 {

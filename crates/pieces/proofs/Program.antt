@@ -22,7 +22,8 @@ use Rattle.journal.specs.declared.Log.{Log}
 use Rattle.pieces.specs.declared.Waiting.{Waiting}
 use Rattle.pieces.specs.declared.Fed.{Fed}
 use Rattle.journal.specs.Log.{nextItem, freshLog, logText}
-use Rattle.pieces.specs.Machine.{Came, nothing, withByte, isWhole, came, run, ran, hasRoom, Feeds, endLine}
+use Rattle.stretch.specs.Coming.{hasRoom}
+use Rattle.pieces.specs.Machine.{Came, nothing, withByte, isWhole, came, run, ran, Feeds, endLine}
 use Rattle.journal.specs.Reached.{Reached, fresh, item}
 use Rattle.pieces.specs.Program.{Program, feeds, finishes}
 use Rattle.pieces.proofs.Feeding.{follow, run-append, ran-next}
