@@ -1,174 +1,126 @@
--- Entering a report keeps every slot: the report is added to each list that it counts for, and where the oldest leaves, a list that doesn't name it is the best k without it
--- too, and one that does is searched afresh.
+-- A report enters and the oldest leaves: who is left is as a question's turn wants it, so that every turn leaves the true list; and a list names one that has gone exactly where it names
+-- the oldest.
 -- Assumes nothing.
-use mathlib.Core.Path.{_≡_, refl, sym, ap, _∙_, subst}
-use mathlib.Core.Logic.{⊎-elim}
-use mathlib.Core.Bool.{true, false, not, and-false}
-use mathlib.Core.List.{List, [], _∷_, _++_, map, List·Memᴰ·head, List·Memᴰ·cases-cons, Memᴰ·append-left, Memᴰ·append-right, List·Memᴰ·append-cases, List·Memᴰ·eq-of-singleton, Memᴰ·map, Memᴰ·of-map}
+use mathlib.Core.Path.{_≡_, sym, ap, _∙_, subst}
+use mathlib.Core.Logic.{_⊎_, inl, inr, ⊎-elim, _↔_}
+use mathlib.Core.Bool.{true}
+use mathlib.Core.List.{List, [], _∷_, _++_, map, List·Memᴰ·head, List·Memᴰ·cases-cons, Memᴰ·append-left, Memᴰ·append-right, List·Memᴰ·append-cases, List·Memᴰ·eq-of-singleton, Memᴰ·of-map}
 use Prim.Native.Nat.{ℕ, _+_, _-_, _≤_, _<_}
 use native.Mathlib.Omega.{arith}
-use borrow.Author.Tests.{ltb-true, ltb-false, ne-eqb}
-use lib.Dec.{ltb, eqb}
-use lib.ListN.{take, drop}
-use Rattle.ranking.specs.Best.{_∈_, best}
-use Rattle.ranking.specs.Cells.{visiting, cell}
-use Rattle.ranking.specs.Search.{has}
-use Rattle.ranking.specs.Standing.{Held, Entry, above, entry, searchOf}
-use Rattle.ranking.specs.declared.Weights.{Weights}
-use Rattle.ranking.proofs.Tests.{Tested, passed, failed, tested, clash, and-true}
-use Rattle.ranking.proofs.Lists.{_⊆_, Same, there, moved}
-use Rattle.ranking.proofs.Best.{best-same, best-leave, length-best-le}
-use Rattle.ranking.proofs.Search.{in-has}
+use borrow.Author.Tests.{ltb-true, ltb-false, lt-ltb, le-ltb}
+use lib.Dec.{ltb}
+use lib.ListN.{drop}
+use Rattle.ranking.specs.Best.{_∈_}
+use Rattle.ranking.specs.Standing.{Held, Entry, Permitted, above, entry}
+use Rattle.ranking.proofs.Tests.{Tested, passed, failed, tested}
+use Rattle.ranking.proofs.Lists.{_⊆_, there, drop-⊆}
+use Rattle.ranking.proofs.Best.{best-of}
 use Rattle.ranking.proofs.Standing.{above-strict}
-use Rattle.ranking.proofs.Guard.{Guarded}
 use Rattle.window.specs.declared.Window.{Window}
 use Rattle.window.specs.Rows.{heldReports, fitWindow, added, reportOf}
 use Rattle.window.proofs.Fitness as window
 use Rattle.window.proofs.Reports.{held-added, held-latest, oldest-first}
 use Rattle.question.specs.declared.Question.{Question}
-use Rattle.question.specs.Lines.{asked, lines, marked, stepsTaken, isMarked, emptySlot, searched}
-use Rattle.question.proofs.Stored.{lines-asked}
-use Rattle.question.proofs.Taking.{if-not}
-use Rattle.question.proofs.Searches.{searched-held}
-use Rattle.board.specs.Work.{listed, lists, leaving, outgoing, newReport, refreshed, entering}
-use Rattle.board.proofs.Listing.{listed-unmarked}
-use Rattle.board.proofs.Filling.{refreshed-searched, refreshed-kept}
-use Rattle.board.proofs.Slot.{top, taken, Stands, search-stands, listed-is, guard-more}
+use Rattle.question.specs.Lines.{lines}
+use Rattle.question.proofs.Taking.{if-so, if-not}
+use Rattle.slot.specs.Turn.{listed, lists}
+use Rattle.slot.proofs.Standing.{top, Stands}
+use Rattle.slot.proofs.Turns.{Leaves, lists-when, added-lines, turn-stands}
+use Rattle.board.specs.Work.{leaving, outgoing, newReport, turned}
 
--- ---- the same reports
-
-same-map : {A B : Type 0} (f : A → B) (l m : List A) → Same l m → Same (map f l) (map f m)
-same-map {A} {B} f l m s = (over l m (s .0), over m l (s .1))
+either : (a b : ℕ) → (a < b) ⊎ (b ≤ a)
+either a b = go (tested (ltb a b))
   where
-    over : (l m : List A) → l ⊆ m → map f l ⊆ map f m
-    over l m h y k = let r = Memᴰ·of-map f l k in moved (r .2) (Memᴰ·map f (h (r .0) (r .1)))
-
-same-end : {A : Type 0} (x : A) (l : List A) → Same (x ∷ l) (l ++ (x ∷ []))
-same-end {A} x l = (to, from)
-  where
-    to : x ∷ l ⊆ l ++ (x ∷ [])
-    to y k = ⊎-elim (λ e. Memᴰ·append-right l (List·Memᴰ·head e)) (λ m. Memᴰ·append-left (x ∷ []) m) (List·Memᴰ·cases-cons k)
-
-    from : l ++ (x ∷ []) ⊆ x ∷ l
-    from y k = ⊎-elim (λ m. there m) (λ m. List·Memᴰ·head (List·Memᴰ·eq-of-singleton m)) (List·Memᴰ·append-cases l k)
-
-same-swap : {A : Type 0} (x y : A) (l : List A) → Same (x ∷ y ∷ l) (y ∷ x ∷ l)
-same-swap {A} x y l = (swap x y, swap y x)
-  where
-    swap : (x y : A) → x ∷ y ∷ l ⊆ y ∷ x ∷ l
-    swap x y z k =
-        ⊎-elim (λ e. there (List·Memᴰ·head e)) (λ m. ⊎-elim (λ e. List·Memᴰ·head e) (λ n. there (there n)) (List·Memᴰ·cases-cons m)) (List·Memᴰ·cases-cons k)
-
-top-same : (k : ℕ) (ws : Weights) (l m : List Held) → Same l m → top k ws l ≡ top k ws m
-top-same k ws l m s = best-same above above-strict k (map (entry ws) l) (map (entry ws) m) (same-map (entry ws) l m s)
-
--- A listed report is named.
-lists-member : (q : Question) (e : Entry) → e ∈ lines q → 1 ≤ e .number → lists q (e .number) ≡ true
-unfolding lists
-lists-member q e m h =
-    and-true (ap not (ne-eqb (e .number) 0 (λ z. absurd (none z)))) (in-has (e .number) (map (λ e. e .number) (lines q)) (Memᴰ·map (λ e. e .number) m))
-  where
-    none : e .number ≡ 0 → ⊥
-    none z = omega arith
-
--- ---- an empty slot stays so
-
-no-steps : stepsTaken emptySlot ≡ 0
-unfolding stepsTaken
-no-steps = refl
-
-empty-unmarked : (c : ℕ) → isMarked emptySlot c ≡ false
-unfolding isMarked marked
-empty-unmarked c = ap (λ n. has c (take n (visiting (emptySlot .weights)))) no-steps
-
-pub empty-unnamed : (h : Held) (m : ℕ) → lists (listed emptySlot h) m ≡ false
-unfolding lists
-empty-unnamed h m =
-    ap (λ q. lists q m) (listed-unmarked emptySlot h (empty-unmarked (cell (h .loss) (h .shake)))) ∙ and-false (not (eqb m 0))
-
-pub empty-stays : (w : Window) (loss shake : ℕ) → entering w loss shake emptySlot ≡ record { steps = 0; question = emptySlot }
-unfolding entering lists
-empty-stays w loss shake =
-    ap (λ q. refreshed q (outgoing w) (added w loss shake)) (listed-unmarked emptySlot (newReport w loss shake) (empty-unmarked (cell loss shake)))
-    ∙ refreshed-kept emptySlot (outgoing w) (added w loss shake) (and-false (not (eqb (outgoing w) 0)))
+    go : Tested (ltb a b) → (a < b) ⊎ (b ≤ a)
+    go (passed t) = inl (ltb-true a b t)
+    go (failed t) = inr (ltb-false a b t)
 
 module _ (w : Window) (fit : fitWindow w ≡ true) (whole : window.Whole w) (loss shake : ℕ) (loss-fits : loss ≤ 4095) (shake-fits : shake ≤ 4095) (room : w .entered < 1000000) where
   ranges : window.Counts w
   ranges = window.fit-facts w fit .ranges
 
+  abbrev new : Held
+  new = newReport w loss shake
+
   pub next-fit : fitWindow (added w loss shake) ≡ true
   next-fit = window.added-fit w loss shake fit whole room loss-fits shake-fits
 
-  held-next : heldReports (added w loss shake) ≡ drop (w .held + 1 - w .size) (heldReports w) ++ (newReport w loss shake ∷ [])
+  held-next : heldReports (added w loss shake) ≡ drop (w .held + 1 - w .size) (heldReports w) ++ (new ∷ [])
   held-next = held-added w loss shake ranges whole room
+
+  permitted : Permitted new
+  permitted = record { loss-fits = loss-fits; shake-fits = shake-fits }
 
   newest : (r : Held) → r ∈ heldReports w → r .number < w .entered + 1
   newest r m = omega (arith, held-latest w ranges r m .1)
 
-  -- A list that doesn't name the report that leaves is the true list of the window after it.
-  pub kept-list : (k : ℕ) (ws : Weights) (next : ℕ) → k ≤ 16 → lists (asked k ws (top k ws (newReport w loss shake ∷ heldReports w)) next) (outgoing w) ≡ false
-      → top k ws (newReport w loss shake ∷ heldReports w) ≡ top k ws (heldReports (added w loss shake))
+  -- Who has gone: nobody, or the oldest.
+  pub gone-is : (w .held < w .size → outgoing w ≡ 0) × (w .size ≤ w .held → outgoing w ≡ w .entered - w .held + 1)
   unfolding leaving
-  kept-list k ws next small unnamed = go (tested (ltb (w .held) (w .size)))
+  gone-is = (none, one)
     where
-      go : Tested (ltb (w .held) (w .size)) → top k ws (newReport w loss shake ∷ heldReports w) ≡ top k ws (heldReports (added w loss shake))
-      go (passed t) =
-          let stays : w .held + 1 - w .size ≡ 0 = omega (arith, ltb-true (w .held) (w .size) t) in
-          top-same k ws (newReport w loss shake ∷ heldReports w) (heldReports w ++ (newReport w loss shake ∷ [])) (same-end (newReport w loss shake) (heldReports w))
-          ∙ ap (top k ws) (sym (held-next ∙ ap (λ n. drop n (heldReports w) ++ (newReport w loss shake ∷ [])) stays))
-      go (failed t) =
-          let full : w .held ≡ w .size = omega (arith, ltb-false (w .held) (w .size) t, ranges .ring .has-rows) in
-          let one : w .held + 1 - w .size ≡ 1 = omega arith in
+      none : w .held < w .size → leaving (w .size) (w .entered) (w .held) ≡ 0
+      none h = if-so _ _ (lt-ltb (w .held) (w .size) h)
+
+      one : w .size ≤ w .held → leaving (w .size) (w .entered) (w .held) ≡ w .entered - w .held + 1
+      one h = if-not _ _ (le-ltb (w .held) (w .size) h) ∙ omega (arith, ranges .ring .has-rows, ranges .ring .were-entered)
+
+  oldest-leaves : Leaves (heldReports w) new (outgoing w) (heldReports (added w loss shake))
+  oldest-leaves = record { among = among; stays = stays }
+    where
+      among : heldReports (added w loss shake) ⊆ new ∷ heldReports w
+      among r m =
+          ⊎-elim (λ k. there (drop-⊆ (w .held + 1 - w .size) (heldReports w) r k)) (λ k. List·Memᴰ·head (List·Memᴰ·eq-of-singleton k))
+          (List·Memᴰ·append-cases (drop (w .held + 1 - w .size) (heldReports w)) (subst (λ l. r ∈ l) held-next m))
+
+      old : (r : Held) → r ∈ heldReports w → outgoing w < r .number → (w .held < w .size) ⊎ (w .size ≤ w .held) → r ∈ drop (w .held + 1 - w .size) (heldReports w)
+      old r m h (inl few) =
+          let stay : w .held + 1 - w .size ≡ 0 = omega arith in
+          subst (λ n. r ∈ drop n (heldReports w)) (sym stay) m
+      old r m h (inr over) =
+          let full : w .held ≡ w .size = omega (arith, ranges .ring .has-rows) in
+          let first : w .held + 1 - w .size ≡ 1 = omega arith in
           let some : 1 ≤ w .held = omega (arith, ranges .ring .some) in
-          let split = oldest-first w some in
-          let rest = drop 1 (heldReports w) in
-          let o = reportOf w (w .entered - w .held + 1) in
-          let first = ap (λ l. top k ws (newReport w loss shake ∷ l)) split ∙ top-same k ws (newReport w loss shake ∷ o ∷ rest) (o ∷ newReport w loss shake ∷ rest) (same-swap (newReport w loss shake) o rest) in
-          let number : w .entered + 1 - w .size ≡ w .entered - w .held + 1 = omega (arith, ranges .ring .were-entered) in
-          let named : entry ws o ∈ best above k (entry ws o ∷ map (entry ws) (newReport w loss shake ∷ rest)) → ⊥ = λ m.
-          clash
-          (ap (lists (asked k ws (top k ws (newReport w loss shake ∷ heldReports w)) next)) (if-not 0 (w .entered + 1 - w .size) t ∙ number)
-          ∙ lists-member (asked k ws (top k ws (newReport w loss shake ∷ heldReports w)) next) (entry ws o)
-          (subst (λ l. entry ws o ∈ l) (sym first ∙ sym (lines-asked k ws (top k ws (newReport w loss shake ∷ heldReports w)) next (omega (arith, length-best-le above above-strict k (map (entry ws) (newReport w loss shake ∷ heldReports w)))))) m)
-          (omega arith))
-          unnamed in
-          first
-          ∙ best-leave above above-strict k (entry ws o) (map (entry ws) (newReport w loss shake ∷ rest)) named
-          ∙ top-same k ws (newReport w loss shake ∷ rest) (rest ++ (newReport w loss shake ∷ [])) (same-end (newReport w loss shake) rest)
-          ∙ ap (top k ws) (sym (held-next ∙ ap (λ n. drop n (heldReports w) ++ (newReport w loss shake ∷ [])) one))
+          let gone = gone-is .1 over in
+          subst (λ n. r ∈ drop n (heldReports w)) (sym first)
+          (⊎-elim
+          (λ e. let it : r .number ≡ w .entered - w .held + 1 = ap (λ (x : Held). x .number) e in absurd (omega (arith, gone)))
+          (λ k. k)
+          (List·Memᴰ·cases-cons (subst (λ l. r ∈ l) (oldest-first w some) m)))
 
-  module _ (q : Question) (s : Stands w q) where
-    -- The question with the report added.
-    pub added-is : listed q (newReport w loss shake) ≡ asked (s .k) (s .ws) (top (s .k) (s .ws) (newReport w loss shake ∷ heldReports w)) (s .next)
-    added-is =
-        ap (λ p. listed p (newReport w loss shake)) (s .is)
-        ∙ listed-is (heldReports w) (s .k) (s .ws) (s .next) (s .asks) (s .guarded) (newReport w loss shake) (record { loss-fits = loss-fits; shake-fits = shake-fits }) newest
+      stays : (r : Held) → r ∈ new ∷ heldReports w → outgoing w < r .number → r ∈ heldReports (added w loss shake)
+      stays r m h =
+          subst (λ l. r ∈ l) (sym held-next)
+          (⊎-elim (λ e. Memᴰ·append-right (drop (w .held + 1 - w .size) (heldReports w)) (List·Memᴰ·head e)) (λ k. Memᴰ·append-left (new ∷ []) (old r k h (either (w .held) (w .size))))
+          (List·Memᴰ·cases-cons m))
 
-    pub entry-stands : Stands (added w loss shake) (entering w loss shake q .question)
-    unfolding entering
-    entry-stands = go (tested (lists p (outgoing w)))
+  module _ (q : Question) (s : Stands (heldReports w) q) where
+    -- The turn of a question leaves the true list of the window after it.
+    pub turned-stands : Stands (heldReports (added w loss shake)) (turned w loss shake q .question)
+    turned-stands = turn-stands (heldReports w) new permitted newest q s (added w loss shake) next-fit (outgoing w) oldest-leaves
+
+    -- The list after the addition.
+    pub new-lines : lines (listed q new) ≡ top (s .k) (s .ws) (new ∷ heldReports w)
+    new-lines = added-lines (heldReports w) new permitted newest q s
+
+    -- It names one that has gone exactly where it names the report that leaves.
+    pub names-oldest : lists (listed q new) (outgoing w) ≡ true ↔ ((outgoing w ≡ 0 → ⊥) × ((e : Entry) × (e ∈ lines (listed q new)) × (e .number ≡ outgoing w)))
+    names-oldest = (to, from)
       where
-        p : Question
-        p = asked (s .k) (s .ws) (top (s .k) (s .ws) (newReport w loss shake ∷ heldReports w)) (s .next)
+        number-of : (e : Entry) → e ∈ lines (listed q new) → w .entered < e .number + w .held
+        number-of e m =
+            let r = Memᴰ·of-map (entry (s .ws)) (new ∷ heldReports w) (best-of above above-strict (s .k) (map (entry (s .ws)) (new ∷ heldReports w)) e (subst (λ l. e ∈ l) new-lines m)) in
+            let same : r .0 .number ≡ e .number = ap (λ (x : Entry). x .number) (r .2) in
+            ⊎-elim (λ n. let it : r .0 .number ≡ w .entered + 1 = ap (λ (x : Held). x .number) n in omega arith) (λ k. omega (arith, held-latest w ranges (r .0) k .0)) (List·Memᴰ·cases-cons (r .1))
 
-        is-p : entering w loss shake q ≡ refreshed p (outgoing w) (added w loss shake)
-        is-p = ap (λ p. refreshed p (outgoing w) (added w loss shake)) added-is
+        to : lists (listed q new) (outgoing w) ≡ true → (outgoing w ≡ 0 → ⊥) × ((e : Entry) × (e ∈ lines (listed q new)) × (e .number ≡ outgoing w))
+        to t =
+            let r = lists-when (listed q new) (outgoing w) .0 t in
+            let late = number-of (r .0) (r .1) in
+            ⊎-elim
+            (λ few. absurd (omega (arith, gone-is .0 few, ranges .ring .were-entered, r .2)))
+            (λ full. let gone = gone-is .1 full in ((λ z. absurd (omega arith)), (r .0, r .1, omega (arith, ranges .ring .were-entered, r .2))))
+            (either (w .held) (w .size))
 
-        go : Tested (lists p (outgoing w)) → Stands (added w loss shake) (entering w loss shake q .question)
-        go (passed t) =
-            subst (Stands (added w loss shake))
-            (sym (ap (λ r. r .question) (is-p ∙ refreshed-searched p (outgoing w) (added w loss shake) t ∙ searched-held (added w loss shake) next-fit p (s .asks .small))))
-            (search-stands (added w loss shake) next-fit p (s .asks))
-        go (failed t) =
-            let same = kept-list (s .k) (s .ws) (s .next) (s .asks .small) t in
-            subst (Stands (added w loss shake))
-            (sym (ap (λ r. r .question) (is-p ∙ refreshed-kept p (outgoing w) (added w loss shake) t)))
-            (record {
-              k = s .k;
-              ws = s .ws;
-              next = s .next;
-              asks = s .asks;
-              cell-range = s .cell-range;
-              is = ap (λ l. asked (s .k) (s .ws) l (s .next)) same;
-              guarded = subst (Guarded (searchOf (s .ws)) (s .k) (taken (s .ws) (s .next))) same (guard-more (heldReports w) (s .k) (s .ws) (s .next) (s .asks) (s .guarded) (newReport w loss shake) (record { loss-fits = loss-fits; shake-fits = shake-fits }) newest);
-            })
+        from : (outgoing w ≡ 0 → ⊥) × ((e : Entry) × (e ∈ lines (listed q new)) × (e .number ≡ outgoing w)) → lists (listed q new) (outgoing w) ≡ true
+        from r = lists-when (listed q new) (outgoing w) .1 (r .1 .0, r .1 .1, omega (arith, r .1 .2))

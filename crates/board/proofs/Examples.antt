@@ -2,30 +2,34 @@
 -- Assumes nothing.
 use mathlib.Core.Path.{_≡_, refl, sym, ap, _∙_, subst}
 use mathlib.Core.Logic.{inl}
-use mathlib.Core.Bool.{Bool, true, false, not, _&&_}
-use mathlib.Core.List.{List, [], _∷_, _++_, map}
+use mathlib.Core.Bool.{Bool, true, false, not}
+use mathlib.Core.List.{List, [], _∷_, _++_}
 use Prim.Native.Nat.{ℕ, _+_, min, _≤_, _<_}
 use native.Mathlib.Omega.{arith}
-use lib.Dec.{eqb}
 use lib.IntN.{pos}
 use lib.ListN.{length, getD, getD-replicate}
 use lib.Seq.{getD-set-same}
 use Rattle.ranking.specs.Cells.{visiting}
-use Rattle.ranking.specs.Search.{has, steps}
-use Rattle.ranking.specs.Standing.{Entry, entry, above, searchOf}
+use Rattle.ranking.specs.Search.{steps}
+use Rattle.ranking.specs.Standing.{Held, Entry, searchOf}
 use Rattle.ranking.specs.declared.Weights.{Weights}
 use Rattle.ranking.proofs.Tests.{Tested, passed, failed, tested}
-use Rattle.ranking.proofs.Best.{length-best-le}
-use Rattle.ranking.proofs.Standing.{above-strict}
 use Rattle.window.specs.Rows.{freshWindow, heldReports, fitWindow, added}
 use Rattle.window.specs.History.{Values, numbered, latest}
 use Rattle.question.specs.declared.Question.{Question}
 use Rattle.question.specs.declared.Searched.{Searched}
-use Rattle.question.specs.Lines.{asked, lines, emptySlot, searched, searchedIn, searchedOn}
-use Rattle.question.proofs.Stored.{lines-asked}
+use Rattle.question.specs.Lines.{asked, lines, emptySlot, searched, searchedIn, inRows}
+use Rattle.question.specs.Calls.{allOf}
 use Rattle.question.proofs.Taking.{if-so}
-use Rattle.question.proofs.Searches.{searched-held}
-use Rattle.board.specs.Work.{noQuestion, slotAt, freshBoard, setRefusal, setWork, leaving, outgoing, newReport, listed, lists, entering, enterRefusal, enterWork}
+use Rattle.slot.specs.declared.Seated.{Seated}
+use Rattle.slot.specs.declared.Turned.{Turned}
+use Rattle.slot.specs.Asking.{setIn}
+use Rattle.slot.specs.Turn.{listed, later, lists}
+use Rattle.slot.specs.Gauges.{noQuestion}
+use Rattle.slot.proofs.Standing.{top, Stands, stands-ended}
+use Rattle.slot.proofs.Setting.{set-refusal, set-searched, set-stands}
+use Rattle.slot.proofs.Turns.{among-held, listed-keeps, turn-searched, turn-kept, turn-when}
+use Rattle.board.specs.Work.{slotAt, freshBoard, leaving, outgoing, newReport, turned, enterRefusal, enterWork}
 use Rattle.board.specs.Calls.{fitBoard, setCall, enterCall}
 use Rattle.board.specs.Reached.{Reached, pastAfter, fresh, enter}
 use Rattle.board.specs.Reached as reach
@@ -33,25 +37,25 @@ use Rattle.board.specs.declared.Board.{Board}
 use Rattle.board.specs.declared.Placed.{Placed}
 use Rattle.board.specs.declared.Entered.{Entered}
 use Rattle.board.proofs.Refusals.{zero-is, Enterable, enterable}
-use Rattle.board.proofs.Filling.{refreshed-searched, refreshed-kept}
-use Rattle.board.proofs.Slot.{top, Stands, search-stands, stands-ended}
-use Rattle.board.proofs.Entry.{added-is, entry-stands, next-fit}
+use Rattle.board.proofs.Seats.{set-there}
+use Rattle.board.proofs.Known.{set-known}
+use Rattle.board.proofs.Entry.{new-lines, turned-stands, next-fit}
 use Rattle.board.proofs.Kept.{kept}
-use Rattle.board.proofs.Demands.{reached-window, reached-fit, demand-2, Answers, enter-answers, listed-keeps}
+use Rattle.board.proofs.Demands.{reached-window, reached-fit, demand-2, Answers, enter-answers}
 use Rattle.board.proofs.Fit.{fit-set, fit-enter}
 
--- Whether the report that leaves is on the list after the addition, by what was entered.
+-- Whether one that has gone is on the list after the addition, by what was entered.
 abbrev named : ℕ → List Values → Values → ℕ → Weights → Bool
 named n past v k ws =
-    not (eqb (leaving n (length past) (min n (length past))) 0)
-    && has (leaving n (length past) (min n (length past)))
-    (map (λ e. e .number) (top k ws (record { number = length past + 1; loss = v .loss; shake = v .shake } ∷ latest n (numbered 1 past))))
+    not
+    (allOf (later (leaving n (length past) (min n (length past))))
+    (top k ws (record { number = length past + 1; loss = v .loss; shake = v .shake } ∷ latest n (numbered 1 past))))
 
 -- A reached fit board with a question of that k and those weights in slot 0.
 record Stage (n : ℕ) (past : List Values) (k : ℕ) (ws : Weights) (b : Board) : Type 0 where
   reached : Reached n past b
   fit : fitBoard b ≡ true
-  stood : Stands (b .window) (slotAt b 0)
+  stood : Stands (heldReports (b .window)) (slotAt b 0)
   at-k : slotAt b 0 .k ≡ k
   at-ws : slotAt b 0 .weights ≡ ws
 
@@ -76,7 +80,7 @@ module _ {n : ℕ} {past : List Values} {k : ℕ} {ws : Weights} (b : Board) (g 
   may : Enterable (b .window .entered) (v .loss) (v .shake)
   may = enterable (b .window .entered) (v .loss) (v .shake) may-enter
 
-  abbrev s : Stands (b .window) (slotAt b 0)
+  abbrev s : Stands (heldReports (b .window)) (slotAt b 0)
   s = g .stood
 
   its-k : s .k ≡ k
@@ -95,28 +99,22 @@ module _ {n : ℕ} {past : List Values} {k : ℕ} {ws : Weights} (b : Board) (g 
   next-held : heldReports (added (b .window) (v .loss) (v .shake)) ≡ latest n (numbered 1 (past ++ (v ∷ [])))
   next-held = ap heldReports (sym next-window) ∙ kept reached-next .since .holds-latest
 
-  room : length (top (s .k) (s .ws) (newReport (b .window) (v .loss) (v .shake) ∷ heldReports (b .window))) ≤ 16
-  room =
-      omega (
-        arith,
-        s .asks .small,
-        length-best-le above above-strict (s .k) (map (entry (s .ws)) (newReport (b .window) (v .loss) (v .shake) ∷ heldReports (b .window))),
-      )
+  abbrev new : Held
+  new = newReport (b .window) (v .loss) (v .shake)
 
-  named-is : lists (listed (slotAt b 0) (newReport (b .window) (v .loss) (v .shake))) (outgoing (b .window)) ≡ named n past v k ws
+  named-is : lists (listed (slotAt b 0) new) (outgoing (b .window)) ≡ named n past v k ws
   unfolding lists
   named-is =
       let m = may in
       let since = kept (g .reached) .since in
-      ap (λ q. lists q (outgoing (b .window))) (added-is (b .window) (reached-window (g .reached)) (since .whole) (v .loss) (v .shake) (m .loss-fits) (m .shake-fits) (m .room) (slotAt b 0) s)
-      ∙ ap (λ l. not (eqb (outgoing (b .window)) 0) && has (outgoing (b .window)) (map (λ e. e .number) l))
-      (lines-asked (s .k) (s .ws) (top (s .k) (s .ws) (newReport (b .window) (v .loss) (v .shake) ∷ heldReports (b .window))) (s .next) room)
+      ap (λ l. not (allOf (later (outgoing (b .window))) l)) (new-lines (b .window) (reached-window (g .reached)) (since .whole) (v .loss) (v .shake) (m .loss-fits) (m .shake-fits) (m .room) (slotAt b 0) s)
       ∙ (λ i.
-      let gone = leaving (since .of-size i) (since .all-entered i) (since .as-many-held i) in
-      not (eqb gone 0) && has gone (map (λ e. e .number) (top (its-k i) (its-ws i) (record { number = since .all-entered i + 1; loss = v .loss; shake = v .shake } ∷ since .holds-latest i))))
+      not
+      (allOf (later (leaving (since .of-size i) (since .all-entered i) (since .as-many-held i)))
+      (top (its-k i) (its-ws i) (record { number = since .all-entered i + 1; loss = v .loss; shake = v .shake } ∷ since .holds-latest i))))
 
-  stands-next : Stands (added (b .window) (v .loss) (v .shake)) (entering (b .window) (v .loss) (v .shake) (slotAt b 0) .question)
-  stands-next = entry-stands (b .window) (reached-window (g .reached)) (kept (g .reached) .since .whole) (v .loss) (v .shake) (may .loss-fits) (may .shake-fits) (may .room) (slotAt b 0) s
+  stands-next : Stands (heldReports (added (b .window) (v .loss) (v .shake))) (turned (b .window) (v .loss) (v .shake) (slotAt b 0) .question)
+  stands-next = turned-stands (b .window) (reached-window (g .reached)) (kept (g .reached) .since .whole) (v .loss) (v .shake) (may .loss-fits) (may .shake-fits) (may .room) (slotAt b 0) s
 
   abbrev p : Question
   p = listed (slotAt b 0) (newReport (b .window) (v .loss) (v .shake))
@@ -133,28 +131,29 @@ module _ {n : ℕ} {past : List Values} {k : ℕ} {ws : Weights} (b : Board) (g 
   after-fit : fitWindow (added (b .window) (v .loss) (v .shake)) ≡ true
   after-fit = next-fit (b .window) (reached-window (g .reached)) (kept (g .reached) .since .whole) (v .loss) (v .shake) (may .loss-fits) (may .shake-fits) (may .room)
 
-  searched-so : lists p (outgoing (b .window)) ≡ true → entering (b .window) (v .loss) (v .shake) (slotAt b 0) ≡ searchedIn p (heldReports (added (b .window) (v .loss) (v .shake)))
-  unfolding entering
-  searched-so h = refreshed-searched p (outgoing (b .window)) (added (b .window) (v .loss) (v .shake)) h ∙ searched-held (added (b .window) (v .loss) (v .shake)) after-fit p p-small
+  searched-so : lists p (outgoing (b .window)) ≡ true
+      → turned (b .window) (v .loss) (v .shake) (slotAt b 0) ≡ (let f = searchedIn p (heldReports (added (b .window) (v .loss) (v .shake))) in record { searched = true; steps = f .steps; question = f .question })
+  searched-so h =
+      turn-searched (slotAt b 0) new (outgoing (b .window)) (inRows (added (b .window) (v .loss) (v .shake))) h
+      ∙ ap (λ (f : Searched). record { searched = true; steps = f .steps; question = f .question }) (among-held (added (b .window) (v .loss) (v .shake)) after-fit p p-small)
 
-  kept-so : lists p (outgoing (b .window)) ≡ false → entering (b .window) (v .loss) (v .shake) (slotAt b 0) ≡ record { steps = 0; question = p }
-  unfolding entering
-  kept-so h = refreshed-kept p (outgoing (b .window)) (added (b .window) (v .loss) (v .shake)) h
+  kept-so : lists p (outgoing (b .window)) ≡ false → turned (b .window) (v .loss) (v .shake) (slotAt b 0) ≡ record { searched = false; steps = 0; question = p }
+  kept-so h = turn-kept (slotAt b 0) new (outgoing (b .window)) (inRows (added (b .window) (v .loss) (v .shake))) h
 
-  left-k : (entering (b .window) (v .loss) (v .shake) (slotAt b 0) .question .k ≡ k) × (entering (b .window) (v .loss) (v .shake) (slotAt b 0) .question .weights ≡ ws)
+  left-k : (turned (b .window) (v .loss) (v .shake) (slotAt b 0) .question .k ≡ k) × (turned (b .window) (v .loss) (v .shake) (slotAt b 0) .question .weights ≡ ws)
   unfolding searched
   left-k = go (tested (lists p (outgoing (b .window))))
     where
-      go : Tested (lists p (outgoing (b .window))) → (entering (b .window) (v .loss) (v .shake) (slotAt b 0) .question .k ≡ k) × (entering (b .window) (v .loss) (v .shake) (slotAt b 0) .question .weights ≡ ws)
-      go (passed h) = (ap (λ (r : Searched). r .question .k) (searched-so h) ∙ p-k, ap (λ (r : Searched). r .question .weights) (searched-so h) ∙ p-ws)
-      go (failed h) = (ap (λ (r : Searched). r .question .k) (kept-so h) ∙ p-k, ap (λ (r : Searched). r .question .weights) (kept-so h) ∙ p-ws)
+      go : Tested (lists p (outgoing (b .window))) → (turned (b .window) (v .loss) (v .shake) (slotAt b 0) .question .k ≡ k) × (turned (b .window) (v .loss) (v .shake) (slotAt b 0) .question .weights ≡ ws)
+      go (passed h) = (ap (λ (r : Turned). r .question .k) (searched-so h) ∙ p-k, ap (λ (r : Turned). r .question .weights) (searched-so h) ∙ p-ws)
+      go (failed h) = (ap (λ (r : Turned). r .question .k) (kept-so h) ∙ p-k, ap (λ (r : Turned). r .question .weights) (kept-so h) ∙ p-ws)
 
   stage-next : Stage n (past ++ (v ∷ [])) k ws (enterCall b (v .loss) (v .shake) .board)
   stage-next =
       record {
         reached = reached-next;
         fit = fit-enter b (kept (g .reached)) (g .fit) (v .loss) (v .shake);
-        stood = subst (λ w. Stands w (slotAt (enterCall b (v .loss) (v .shake) .board) 0)) (sym next-window) (subst (Stands (added (b .window) (v .loss) (v .shake))) (sym (answers .left-as)) stands-next);
+        stood = subst (λ w. Stands (heldReports w) (slotAt (enterCall b (v .loss) (v .shake) .board) 0)) (sym next-window) (subst (Stands (heldReports (added (b .window) (v .loss) (v .shake)))) (sym (answers .left-as)) stands-next);
         at-k = ap (λ (q : Question). q .k) (answers .left-as) ∙ left-k .0;
         at-ws = ap (λ (q : Question). q .weights) (answers .left-as) ∙ left-k .1;
       }
@@ -163,8 +162,8 @@ module _ {n : ℕ} {past : List Values} {k : ℕ} {ws : Weights} (b : Board) (g 
   says =
       record {
         taken = answered;
-        searched-is = answers .set-of-searched ∙ named-is;
-        steps-are = λ h. answers .steps-of ∙ ap (λ (r : Searched). r .steps) (searched-so (named-is ∙ h)) ∙ (λ i. steps (searchOf (p-ws i)) (p-k i) (next-held i));
+        searched-is = answers .set-of-searched ∙ turn-when (slotAt b 0) new (outgoing (b .window)) (inRows (added (b .window) (v .loss) (v .shake))) ∙ named-is;
+        steps-are = λ h. answers .steps-of ∙ ap (λ (r : Turned). r .steps) (searched-so (named-is ∙ h)) ∙ (λ i. steps (searchOf (p-ws i)) (p-k i) (next-held i));
         list-is =
             demand-2 reached-next 0 (omega arith) (stands-ended (enterCall b (v .loss) (v .shake) .board .window) (reached-window reached-next) (slotAt (enterCall b (v .loss) (v .shake) .board) 0) (stage-next .stood))
             ∙ (λ i. top (stage-next .at-k i) (stage-next .at-ws i) (kept reached-next .since .holds-latest i));
@@ -194,28 +193,28 @@ all-empty slot h = getD-replicate 32 slot emptySlot noQuestion h
 fresh-fit : fitBoard (freshBoard 2 .board) ≡ true
 fresh-fit = reached-fit begun-fresh (λ slot h. inl (all-empty slot h))
 
-can-set : setRefusal (freshBoard 2 .board) 0 1 (record { loss = pos 1; shake = pos 1 }) ≡ 0
-unfolding setRefusal freshBoard
-can-set = refl
+can-set : setIn (slotAt (freshBoard 2 .board) 0) 1 (record { loss = pos 1; shake = pos 1 }) (inRows (freshBoard 2 .board .window)) .refusal ≡ 0
+unfolding freshBoard
+can-set = set-refusal (slotAt (freshBoard 2 .board) 0) 1 (record { loss = pos 1; shake = pos 1 }) (inRows (freshBoard 2 .board .window))
 
 record Placed-so (r : Placed) : Type 0 where
-  stood : Stands (r .board .window) (slotAt (r .board) 0)
+  stood : Stands (heldReports (r .board .window)) (slotAt (r .board) 0)
   at-k : slotAt (r .board) 0 .k ≡ 1
   at-ws : slotAt (r .board) 0 .weights ≡ record { loss = pos 1; shake = pos 1 }
 
 placed-so : Placed-so (setCall (freshBoard 2 .board) 0 1 (record { loss = pos 1; shake = pos 1 }))
-unfolding setCall setWork searched
+unfolding searched
 placed-so =
     let b = freshBoard 2 .board in
     let ws : Weights = record { loss = pos 1; shake = pos 1 } in
     let q = asked 1 ws [] 0 in
     let fit = reached-window begun-fresh in
-    let many = kept begun-fresh .many in
-    let at = getD-set-same (b .slots) 0 (searchedOn q (b .window) .question) noQuestion (omega (arith, many)) in
-    let is = at ∙ ap (λ (r : Searched). r .question) (searched-held (b .window) fit q (omega arith)) in
-    subst Placed-so (sym (if-so _ _ fresh-fit ∙ zero-is _ _ can-set))
+    let seated = setIn (slotAt b 0) 1 ws (inRows (b .window)) in
+    let at = getD-set-same (b .slots) 0 (seated .question) noQuestion (omega (arith, kept begun-fresh .many)) in
+    let is = at ∙ ap (λ (r : Seated). r .question) (set-searched (slotAt b 0) 1 ws (inRows (b .window)) can-set) ∙ ap (λ (r : Searched). r .question) (among-held (b .window) fit q (omega arith)) in
+    subst Placed-so (sym (set-known b fresh-fit 0 1 ws ∙ set-there b 0 1 ws (omega arith)))
     (record {
-      stood = subst (Stands (b .window)) (sym is) (search-stands (b .window) fit q (record { some = omega arith; small = omega arith; loss-range = refl; shake-range = refl }));
+      stood = subst (Stands (heldReports (b .window))) (sym at) (set-stands (b .window) fit (slotAt b 0) 1 ws can-set);
       at-k = ap (λ (p : Question). p .k) is;
       at-ws = ap (λ (p : Question). p .weights) is;
     })

@@ -2,43 +2,45 @@
 -- Assumes nothing.
 use mathlib.Core.Path.{_≡_, refl, sym, ap, _∙_, subst}
 use mathlib.Core.Logic.{_⊎_, inl, inr, ⊎-elim}
-use mathlib.Core.Bool.{true, _&&_}
+use mathlib.Core.Bool.{true}
 use mathlib.Core.List.{List, [], _∷_, _++_, map, List·Memᴰ·head, List·Memᴰ·not-nil, List·Memᴰ·cases-cons, Memᴰ·of-map}
 use Prim.Native.Nat.{ℕ, zero, suc, _<_}
 use native.Mathlib.Omega.{arith}
-use borrow.Author.Tests.{eqb-true}
-use lib.Dec.{eqb}
-use lib.IntN.{pos}
+use borrow.Author.Tests.{eqb-true, eqb-false, ltb-true, ltb-false}
+use lib.Dec.{eqb, ltb}
 use lib.ListN.{length, set, replicate, length-set, length-map}
 use Rattle.ranking.specs.Best.{_∈_}
 use Rattle.ranking.specs.declared.Weights.{Weights}
-use Rattle.ranking.specs.Cells.{inRange}
-use Rattle.ranking.proofs.Tests.{Tested, passed, failed, tested, clash, and-both, or-either}
+use Rattle.ranking.proofs.Tests.{Tested, passed, failed, tested, and-both}
 use Rattle.ranking.proofs.Lists.{there, getD-in}
-use Rattle.window.specs.declared.Window.{Window}
 use Rattle.window.specs.declared.Fresh.{Fresh}
-use Rattle.window.specs.Rows.{sized, empty, freshWindow, fitWindow, added}
+use Rattle.window.specs.Rows.{sized, freshWindow, fitWindow, added}
 use Rattle.window.specs.History.{Values}
 use Rattle.window.proofs.History.{Since, since-fresh, since-added}
 use Rattle.question.specs.declared.Question.{Question}
-use Rattle.question.specs.Lines.{asked, linesOf, emptySlot, finished, searchedOn}
-use Rattle.question.specs.Calls.{allOf, equal, blank, fitQuestion, stepCall, beginCall}
-use Rattle.question.proofs.Steps.{reached}
+use Rattle.question.specs.Lines.{emptySlot, inRows}
+use Rattle.question.specs.Calls.{allOf, stepCall, beginCall}
 use Rattle.question.proofs.Taking.{if-so, if-not}
 use Rattle.question.proofs.Listed.{all-in}
-use Rattle.question.proofs.Searches.{searched-held}
-use Rattle.board.specs.Work.{noQuestion, slotAt, withSlot, freshBoard, setRefusal, setWork, slotRefusal, removeWork, enterRefusal, enterWork, entering}
-use Rattle.board.specs.Calls.{isEmpty, slotFit, fitBoard, setCall, removeCall, enterCall}
+use Rattle.slot.specs.declared.Seated.{Seated}
+use Rattle.slot.specs.Asking.{setIn, emptyRefusal, emptied}
+use Rattle.slot.specs.Fitness.{slotFit}
+use Rattle.slot.specs.Gauges.{noQuestion}
+use Rattle.slot.proofs.Standing.{Slot, stands, searches, step-slot, begin-slot, not-searching}
+use Rattle.slot.proofs.Standing as state
+use Rattle.slot.proofs.Setting.{set-stands, set-kept, emptied-kept, emptied-fresh}
+use Rattle.slot.proofs.Turns.{empty-stays}
+use Rattle.board.specs.Work.{slotAt, withSlot, freshBoard, newReport, outgoing, turned, enterRefusal, enterWork}
+use Rattle.board.specs.Calls.{fitBoard, setCall, removeCall, enterCall}
 use Rattle.board.specs.Reached.{pastAfter, Reached, fresh, remove, enter, begin, step}
 use Rattle.board.specs.Reached as reach
 use Rattle.board.specs.declared.Board.{Board}
 use Rattle.board.specs.declared.Placed.{Placed}
 use Rattle.board.specs.declared.Removed.{Removed}
 use Rattle.board.specs.declared.Entered.{Entered}
-use Rattle.board.proofs.Refusals.{settable, Enterable, enterable}
-use Rattle.board.proofs.Slot.{Asks, Searches, Slot, stands, searches, search-stands, searches-on, step-slot, begin-slot}
-use Rattle.board.proofs.Slot as state
-use Rattle.board.proofs.Entry.{empty-stays, entry-stands}
+use Rattle.board.proofs.Refusals.{Enterable, enterable}
+use Rattle.board.proofs.Seats.{set-nowhere, set-there, remove-nowhere, remove-there}
+use Rattle.board.proofs.Entry.{turned-stands}
 
 pub record Kept (n : ℕ) (past : List Values) (b : Board) : Type 0 where
   pub since : Since n past (b .window)
@@ -73,69 +75,60 @@ kept-slot b k i q s =
 pub slot-of : {n : ℕ} {past : List Values} (b : Board) → Kept n past b → (i : ℕ) → i < 32 → Slot (b .window) (slotAt b i)
 slot-of b k i h = k .each (slotAt b i) (getD-in noQuestion (b .slots) i (omega (arith, k .many)))
 
--- ---- a fit board has no question in the middle of its search
-
-empty-k : (q : Question) → isEmpty q ≡ true → q .k ≡ 0
-unfolding isEmpty
-empty-k q e =
-    let a = eqb (q .k) 0 in
-    let b = equal (q .weights .loss) (pos 0) && equal (q .weights .shake) (pos 0) in
-    let c = eqb (q .len) 0 in
-    let d = eqb (q .next) 0 in
-    let r = and-both (a && b && c && d) (allOf blank (linesOf (q .numbers) (q .scores))) e .0 in
-    eqb-true (q .k) 0 (and-both a b (and-both (a && b) c (and-both (a && b && c) d r .0) .0) .0)
-
-module _ (w : Window) (fit : fitWindow w ≡ true) (q : Question) where
-  pub not-searching : slotFit w q ≡ true → Searches w q → ⊥
-  unfolding slotFit reached
-  not-searching t s = ⊎-elim full ended (or-either (isEmpty q) (fitQuestion w q && finished q) t)
-    where
-      full : isEmpty q ≡ true → ⊥
-      full e = let none : s .k ≡ 0 = sym (ap (λ p. p .k) (s .is)) ∙ empty-k q e in omega (arith, s .asks .some)
-
-      ended : fitQuestion w q && finished q ≡ true → ⊥
-      ended e = clash (and-both (fitQuestion w q) (finished q) e .1) (searches-on w fit q s)
-
 -- ---- the calls
 
 module _ {n : ℕ} {past : List Values} (b : Board) (kept : Kept n past b) where
   fit : fitWindow (b .window) ≡ true
   fit = kept .since .fit
 
+  set-slot : (slot k : ℕ) (weights : Weights) → slot < 32 → Slot (b .window) (setIn (slotAt b slot) k weights (inRows (b .window)) .question)
+  set-slot slot k weights h = go (tested (eqb (seated .refusal) 0))
+    where
+      seated : Seated
+      seated = setIn (slotAt b slot) k weights (inRows (b .window))
+
+      go : Tested (eqb (seated .refusal) 0) → Slot (b .window) (seated .question)
+      go (passed t) = stands (set-stands (b .window) fit (slotAt b slot) k weights (eqb-true (seated .refusal) 0 t))
+      go (failed t) = subst (Slot (b .window)) (sym (set-kept (slotAt b slot) k weights (inRows (b .window)) (eqb-false (seated .refusal) 0 t))) (slot-of b kept slot h)
+
   pub kept-set : (slot k : ℕ) (weights : Weights) → Kept n past (setCall b slot k weights .board)
-  unfolding setCall setWork
-  kept-set slot k weights = go (tested (fitBoard b)) (tested (eqb (setRefusal b slot k weights) 0))
+  unfolding setCall
+  kept-set slot k weights = go (tested (fitBoard b)) (tested (ltb slot 32))
     where
       P : Placed → Type 0
       P r = Kept n past (r .board)
 
-      go : Tested (fitBoard b) → Tested (eqb (setRefusal b slot k weights) 0) → Kept n past (setCall b slot k weights .board)
+      go : Tested (fitBoard b) → Tested (ltb slot 32) → Kept n past (setCall b slot k weights .board)
       go (failed f) t = subst P (sym (if-not _ _ f)) kept
-      go (passed f) (failed t) = subst P (sym (if-so _ _ f ∙ if-not _ _ t)) kept
+      go (passed f) (failed t) = subst P (sym (if-so _ _ f ∙ set-nowhere b slot k weights (ltb-false slot 32 t))) kept
       go (passed f) (passed t) =
-          let may = settable b slot k weights (eqb-true (setRefusal b slot k weights) 0 t) in
-          let both = and-both (inRange (weights .loss)) (inRange (weights .shake)) (may .in-range) in
-          let asks : Asks k weights = record { some = may .some; small = may .few; loss-range = both .0; shake-range = both .1 } in
-          subst P (sym (if-so _ _ f ∙ if-so _ _ t))
-          (kept-slot b kept slot (searchedOn (asked k weights [] 0) (b .window) .question)
-          (subst (Slot (b .window)) (sym (ap (λ r. r .question) (searched-held (b .window) fit (asked k weights [] 0) (may .few))))
-          (stands (search-stands (b .window) fit (asked k weights [] 0) asks))))
+          let h = ltb-true slot 32 t in
+          subst P (sym (if-so _ _ f ∙ set-there b slot k weights h)) (kept-slot b kept slot (setIn (slotAt b slot) k weights (inRows (b .window)) .question) (set-slot slot k weights h))
+
+  removed-slot : (slot : ℕ) → slot < 32 → Slot (b .window) (emptied (slotAt b slot))
+  removed-slot slot h = go (tested (eqb (emptyRefusal (slotAt b slot .k)) 0))
+    where
+      go : Tested (eqb (emptyRefusal (slotAt b slot .k)) 0) → Slot (b .window) (emptied (slotAt b slot))
+      go (passed t) = state.empty (emptied-fresh (slotAt b slot) (eqb-true (emptyRefusal (slotAt b slot .k)) 0 t))
+      go (failed t) = subst (Slot (b .window)) (sym (emptied-kept (slotAt b slot) (eqb-false (emptyRefusal (slotAt b slot .k)) 0 t))) (slot-of b kept slot h)
 
   pub kept-remove : (slot : ℕ) → Kept n past (removeCall b slot .board)
-  unfolding removeCall removeWork
-  kept-remove slot = go (tested (fitBoard b)) (tested (eqb (slotRefusal b slot) 0))
+  unfolding removeCall
+  kept-remove slot = go (tested (fitBoard b)) (tested (ltb slot 32))
     where
       P : Removed → Type 0
       P r = Kept n past (r .board)
 
-      go : Tested (fitBoard b) → Tested (eqb (slotRefusal b slot) 0) → Kept n past (removeCall b slot .board)
+      go : Tested (fitBoard b) → Tested (ltb slot 32) → Kept n past (removeCall b slot .board)
       go (failed f) t = subst P (sym (if-not _ _ f)) kept
-      go (passed f) (failed t) = subst P (sym (if-so _ _ f ∙ if-not _ _ t)) kept
-      go (passed f) (passed t) = subst P (sym (if-so _ _ f ∙ if-so _ _ t)) (kept-slot b kept slot emptySlot (state.empty refl))
+      go (passed f) (failed t) = subst P (sym (if-so _ _ f ∙ remove-nowhere b slot (ltb-false slot 32 t))) kept
+      go (passed f) (passed t) =
+          let h = ltb-true slot 32 t in
+          subst P (sym (if-so _ _ f ∙ remove-there b slot h)) (kept-slot b kept slot (emptied (slotAt b slot)) (removed-slot slot h))
 
   -- Entering, where nothing refuses it.
   kept-entered : (v : Values) → fitBoard b ≡ true → enterRefusal (b .window .entered) (v .loss) (v .shake) ≡ 0
-      → Kept n (past ++ (v ∷ [])) (record { window = added (b .window) (v .loss) (v .shake); slots = map (λ q. entering (b .window) (v .loss) (v .shake) q .question) (b .slots) })
+      → Kept n (past ++ (v ∷ [])) (record { window = added (b .window) (v .loss) (v .shake); slots = map (λ q. turned (b .window) (v .loss) (v .shake) q .question) (b .slots) })
   unfolding fitBoard
   kept-entered v f t =
       let w = b .window in
@@ -143,18 +136,18 @@ module _ {n : ℕ} {past : List Values} (b : Board) (kept : Kept n past b) where
       let slots-fit = and-both (fitWindow (b .window)) (allOf (slotFit (b .window)) (b .slots)) f .1 in
       record {
         since = since-added n past w v (kept .since) (may .loss-fits) (may .shake-fits) (omega (arith, may .room, kept .since .all-entered));
-        many = length-map (b .slots) (λ q. entering w (v .loss) (v .shake) q .question) ∙ kept .many;
+        many = length-map (b .slots) (λ q. turned w (v .loss) (v .shake) q .question) ∙ kept .many;
         each = λ z m.
-            let r = Memᴰ·of-map (λ q. entering w (v .loss) (v .shake) q .question) (b .slots) m in
+            let r = Memᴰ·of-map (λ q. turned w (v .loss) (v .shake) q .question) (b .slots) m in
             subst (Slot (added w (v .loss) (v .shake))) (r .2) (go (r .0) (all-in (slotFit w) (b .slots) slots-fit (r .0) (r .1)) (kept .each (r .0) (r .1)));
       }
     where
       may-enter : Enterable (b .window .entered) (v .loss) (v .shake)
       may-enter = enterable (b .window .entered) (v .loss) (v .shake) t
 
-      go : (q : Question) → slotFit (b .window) q ≡ true → Slot (b .window) q → Slot (added (b .window) (v .loss) (v .shake)) (entering (b .window) (v .loss) (v .shake) q .question)
-      go q s (state.empty e) = state.empty (ap (λ p. entering (b .window) (v .loss) (v .shake) p .question) e ∙ ap (λ r. r .question) (empty-stays (b .window) (v .loss) (v .shake)))
-      go q s (stands x) = stands (entry-stands (b .window) fit (kept .since .whole) (v .loss) (v .shake) (may-enter .loss-fits) (may-enter .shake-fits) (may-enter .room) q x)
+      go : (q : Question) → slotFit (b .window) q ≡ true → Slot (b .window) q → Slot (added (b .window) (v .loss) (v .shake)) (turned (b .window) (v .loss) (v .shake) q .question)
+      go q s (state.empty e) = state.empty (ap (λ p. turned (b .window) (v .loss) (v .shake) p .question) e ∙ ap (λ r. r .question) (empty-stays (newReport (b .window) (v .loss) (v .shake)) (outgoing (b .window)) (inRows (added (b .window) (v .loss) (v .shake)))))
+      go q s (stands x) = stands (turned-stands (b .window) fit (kept .since .whole) (v .loss) (v .shake) (may-enter .loss-fits) (may-enter .shake-fits) (may-enter .room) q x)
       go q s (searches x) = absurd (not-searching (b .window) fit q s x)
 
   pub kept-enter : (v : Values) → Kept n (pastAfter past v (enterCall b (v .loss) (v .shake) .refusal)) (enterCall b (v .loss) (v .shake) .board)

@@ -24,22 +24,6 @@ use Rattle.board.proofs.Board.enter_known.Kinds as enter-known-kinds
 use Rattle.board.proofs.Board.enter_known.Reads as enter-known-reads
 use Rattle.board.proofs.Arrival.of.Kinds as arrival-kinds
 use Rattle.board.proofs.Arrival.of.Reads as arrival-reads
-use Rattle.board.proofs.listed.Kinds as listed-kinds
-use Rattle.board.proofs.listed.Reads as listed-reads
-use Rattle.board.proofs.lists.Kinds as lists-kinds
-use Rattle.board.proofs.lists.Reads as lists-reads
-use Rattle.board.proofs.set_in.Kinds as set-in-kinds
-use Rattle.board.proofs.set_in.Reads as set-in-reads
-use Rattle.board.proofs.emptied.Kinds as emptied-kinds
-use Rattle.board.proofs.emptied.Reads as emptied-reads
-use Rattle.board.proofs.gauge.Gauge.of.Kinds as gauge-kinds
-use Rattle.board.proofs.gauge.Gauge.of.Reads as gauge-reads
-use Rattle.board.proofs.gauge.Gauge.quiet.Kinds as quiet-kinds
-use Rattle.board.proofs.gauge.Gauge.quiet.Reads as quiet-reads
-use Rattle.board.proofs.gauge.Gauge.all.Kinds as gauges-kinds
-use Rattle.board.proofs.gauge.Gauge.all.Reads as gauges-reads
-use Rattle.board.proofs.gauge.Gauge.in_use.Kinds as in-use-kinds
-use Rattle.board.proofs.gauge.Gauge.in_use.Reads as in-use-reads
 
 fresh-once : OneAnswer 0 fresh-kinds.ps fresh-kinds.r fresh-reads.Post
 fresh-once κs a x y s t p q = p ∙ sym q
@@ -73,27 +57,3 @@ enter-known-once κs a x y s t p q = p ∙ sym q
 
 arrival-once : OneAnswer 0 arrival-kinds.ps arrival-kinds.r arrival-reads.Post
 arrival-once κs a x y s t p q = p ∙ sym q
-
-listed-once : OneAnswer 0 listed-kinds.ps listed-kinds.r listed-reads.Post
-listed-once κs a x y s t p q = p ∙ sym q
-
-lists-once : OneAnswer 0 lists-kinds.ps lists-kinds.r lists-reads.Post
-lists-once κs a x y s t p q = p ∙ sym q
-
-set-in-once : OneAnswer 1 set-in-kinds.ps set-in-kinds.r set-in-reads.Post
-set-in-once κs a x y s t p q = p ∙ sym q
-
-emptied-once : OneAnswer 0 emptied-kinds.ps emptied-kinds.r emptied-reads.Post
-emptied-once κs a x y s t p q = p ∙ sym q
-
-gauge-once : OneAnswer 0 gauge-kinds.ps gauge-kinds.r gauge-reads.Post
-gauge-once κs a x y s t p q = p ∙ sym q
-
-quiet-once : OneAnswer 0 quiet-kinds.ps quiet-kinds.r quiet-reads.Post
-quiet-once κs a x y s t p q = p ∙ sym q
-
-gauges-once : OneAnswer 0 gauges-kinds.ps gauges-kinds.r gauges-reads.Post
-gauges-once κs a x y s t p q = p ∙ sym q
-
-in-use-once : OneAnswer 0 in-use-kinds.ps in-use-kinds.r in-use-reads.Post
-in-use-once κs a x y s t p q = p ∙ sym q

@@ -10,10 +10,9 @@ use lib.ListN.{length, drop, getD, drop-of-length-le}
 use lib.Seq.{drop-cons}
 use Rattle.window.specs.declared.Window.{Window}
 use Rattle.question.specs.declared.Question.{Question}
-use Rattle.question.specs.Lines.{finished}
-use Rattle.question.specs.Calls.{allOf, fitQuestion}
-use Rattle.board.specs.Work.{noQuestion}
-use Rattle.board.specs.Calls.{isEmpty, slotFit}
+use Rattle.question.specs.Calls.{allOf}
+use Rattle.slot.specs.Fitness.{slotFit}
+use Rattle.slot.specs.Gauges.{noQuestion}
 
 -- The walk has come to the slot i.
 pub record Walk (w : Window) (whole : List Question) (i : ℕ) : Type 0 where
@@ -41,12 +40,3 @@ module _ (w : Window) (l : List Question) (i : ℕ) (walk : Walk w l i) where
           many = walk .many;
           decides = sym (next ∙ ap (λ b. b && allOf (slotFit w) (drop (i + 1) l)) e) ∙ walk .decides;
         }
-
-module _ (w : Window) (q : Question) where
-  pub slot-empty : isEmpty q ≡ true → slotFit w q ≡ true
-  unfolding slotFit
-  slot-empty e = rw e
-
-  pub slot-used : isEmpty q ≡ false → slotFit w q ≡ fitQuestion w q && finished q
-  unfolding slotFit
-  slot-used e = rw e

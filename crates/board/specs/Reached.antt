@@ -7,6 +7,7 @@ use lib.Dec.{eqb}
 use Rattle.ranking.specs.declared.Weights.{Weights}
 use Rattle.window.specs.History.{Values}
 use Rattle.question.specs.Calls.{stepCall, beginCall}
+use Rattle.slot.specs.Gauges.{slotCount}
 use Rattle.board.specs.Work.{slotAt, withSlot, freshBoard}
 use Rattle.board.specs.Calls.{setCall, removeCall, enterCall}
 use Rattle.board.specs.declared.Board.{Board}
@@ -21,5 +22,5 @@ pub data Reached (n : ℕ) : List Values → Board → Type 0 where
   set : {past : List Values} {b : Board} → Reached n past b → (slot k : ℕ) (weights : Weights) → Reached n past (setCall b slot k weights .board)
   remove : {past : List Values} {b : Board} → Reached n past b → (slot : ℕ) → Reached n past (removeCall b slot .board)
   enter : {past : List Values} {b : Board} → Reached n past b → (v : Values) → Reached n (pastAfter past v (enterCall b (v .loss) (v .shake) .refusal)) (enterCall b (v .loss) (v .shake) .board)
-  begin : {past : List Values} {b : Board} → Reached n past b → (slot : ℕ) → slot < 32 → Reached n past (withSlot b slot (beginCall (b .window) (slotAt b slot) .question))
-  step : {past : List Values} {b : Board} → Reached n past b → (slot : ℕ) → slot < 32 → Reached n past (withSlot b slot (stepCall (b .window) (slotAt b slot) .question))
+  begin : {past : List Values} {b : Board} → Reached n past b → (slot : ℕ) → slot < slotCount → Reached n past (withSlot b slot (beginCall (b .window) (slotAt b slot) .question))
+  step : {past : List Values} {b : Board} → Reached n past b → (slot : ℕ) → slot < slotCount → Reached n past (withSlot b slot (stepCall (b .window) (slotAt b slot) .question))

@@ -1,33 +1,26 @@
 -- What setting, removing, reading and entering do to a board, whatever it holds (document 01, "Window and questions" and "Entering a report").
 use Prim.Native.Nat.{ℕ, _+_, _-_}
-use mathlib.Core.Bool.{Bool, false, not, cond, _&&_, _||_}
-use mathlib.Core.List.{[], map}
+use mathlib.Core.Bool.{false, cond, _&&_}
+use mathlib.Core.List.{map}
 use lib.ListN.{getD, set, replicate}
 use lib.Dec.{leb, ltb, eqb}
-use lib.IntN.{ℤ, pos}
-use lib.Signed.{leZ}
 use Rattle.ranking.specs.declared.Weights.{Weights}
-use Rattle.ranking.specs.Best.{onLast}
-use Rattle.ranking.specs.Cells.{inRange, cell, score}
-use Rattle.ranking.specs.Search.{has}
-use Rattle.ranking.specs.Standing.{Held, entry}
+use Rattle.ranking.specs.Standing.{Held}
 use Rattle.window.specs.declared.Window.{Window}
 use Rattle.window.specs.Rows.{freshWindow, added}
 use Rattle.question.specs.declared.Question.{Question}
-use Rattle.question.specs.declared.Searched.{Searched}
-use Rattle.question.specs.Lines.{asked, lines, emptySlot, withEntry, cutToK, isMarked, searchedOn}
+use Rattle.question.specs.Lines.{emptySlot, inRows}
+use Rattle.slot.specs.declared.Shown.{Shown}
+use Rattle.slot.specs.declared.Turned.{Turned}
+use Rattle.slot.specs.Asking.{setIn, emptyRefusal, emptied, notShown, readIn}
+use Rattle.slot.specs.Turn.{turn}
+use Rattle.slot.specs.Gauges.{noQuestion, slotCount}
 use Rattle.board.specs.declared.Board.{Board}
 use Rattle.board.specs.declared.NewBoard.{NewBoard}
 use Rattle.board.specs.declared.Placed.{Placed}
 use Rattle.board.specs.declared.Removed.{Removed}
-use Rattle.board.specs.declared.Seated.{Seated}
-use Rattle.board.specs.declared.Shown.{Shown}
 use Rattle.board.specs.declared.Entered.{Entered}
 use Rattle.board.specs.declared.Arrival.{Arrival}
-
--- What stands past the last slot.
-abbrev pub noQuestion : Question
-noQuestion = record { k = 0; weights = record { loss = pos 0; shake = pos 0 }; numbers = []; scores = []; len = 0; next = 0 }
 
 -- "A question has a slot 0 to 31."
 abbrev pub slotAt : Board → ℕ → Question
@@ -39,79 +32,30 @@ withSlot b slot q = record { window = b .window; slots = set (b .slots) slot q }
 
 -- A fresh window with 32 empty slots; "18: N out of range: no window".
 unfoldable pub freshBoard : ℕ → NewBoard
-freshBoard n = record { refusal = freshWindow n .refusal; board = record { window = freshWindow n .window; slots = replicate 32 emptySlot } }
+freshBoard n = record { refusal = freshWindow n .refusal; board = record { window = freshWindow n .window; slots = replicate slotCount emptySlot } }
 
--- "14: k not 1 to 16. 15: weight out of range. 16: slot in use", of a slot that holds a question with that k, or 0.
-abbrev pub askRefusal : (held k : ℕ) → Weights → ℕ
-askRefusal held k weights =
-    cond (leb 1 k && leb k 16) (cond (inRange (weights .loss) && inRange (weights .shake)) (cond (eqb held 0) 0 16) 15) 14
-
--- "13: slot over 31", then those.
-unfoldable pub setRefusal : Board → ℕ → ℕ → Weights → ℕ
-setRefusal b slot k weights = cond (ltb slot 32) (askRefusal (slotAt b slot .k) k weights) 13
-
--- "A question is searched when it is set"; "setting answers the steps".
+-- "13: slot over 31", then what setting answers in that slot.
 unfoldable pub setWork : Board → ℕ → ℕ → Weights → Placed
 setWork b slot k weights =
-    cond (eqb (setRefusal b slot k weights) 0)
-    (let found = searchedOn (asked k weights [] 0) (b .window) in
-    record { refusal = 0; steps = found .steps; board = withSlot b slot (found .question) })
-    (record { refusal = setRefusal b slot k weights; steps = 0; board = b })
+    cond (ltb slot slotCount)
+    (let seated = setIn (slotAt b slot) k weights (inRows (b .window)) in
+    record { refusal = seated .refusal; steps = seated .steps; board = withSlot b slot (seated .question) })
+    (record { refusal = 13; steps = 0; board = b })
 
--- The same of one slot: what it holds then.
-unfoldable pub setIn : Question → ℕ → Weights → Window → Seated
-setIn q k weights w =
-    cond (eqb (askRefusal (q .k) k weights) 0)
-    (let found = searchedOn (asked k weights [] 0) w in
-    record { refusal = 0; steps = found .steps; question = found .question })
-    (record { refusal = askRefusal (q .k) k weights; steps = 0; question = q })
-
--- "13: slot over 31. 17: slot empty (remove, read)."
-unfoldable pub slotRefusal : Board → ℕ → ℕ
-slotRefusal b slot = cond (ltb slot 32) (cond (eqb (slotAt b slot .k) 0) 17 0) 13
-
--- "A removed slot equals a fresh one."
+-- "13: slot over 31. 17: slot empty (remove, read)"; then that slot is emptied.
 unfoldable pub removeWork : Board → ℕ → Removed
 removeWork b slot =
-    cond (eqb (slotRefusal b slot) 0)
-    (record { refusal = 0; board = withSlot b slot emptySlot })
-    (record { refusal = slotRefusal b slot; board = b })
+    cond (ltb slot slotCount)
+    (record { refusal = emptyRefusal (slotAt b slot .k); board = withSlot b slot (emptied (slotAt b slot)) })
+    (record { refusal = 13; board = b })
 
--- The same of one slot: what it holds then.
-unfoldable pub emptied : Question → Question
-emptied q = cond (eqb (q .k) 0) q emptySlot
-
--- The list as it is stored, or "a refusal answers its number, every other field 0".
+-- "13: slot over 31", then what reading answers in that slot.
 unfoldable pub readWork : Board → ℕ → Shown
-readWork b slot =
-    cond (eqb (slotRefusal b slot) 0)
-    (let q = slotAt b slot in
-    record { refusal = 0; len = q .len; numbers = q .numbers; scores = q .scores })
-    (record { refusal = slotRefusal b slot; len = 0; numbers = replicate 16 0; scores = replicate 16 (pos 0) })
-
--- "The list has fewer than k entries or its score is at least the last entry's."
-unfoldable pub hasPlace : Question → ℤ → Bool
-hasPlace q s = ltb (q .len) (q .k) || onLast (λ e. leZ (e .score) s) (lines q)
-
--- "Each question with a mark on its cell", whose list has a place for these values.
-unfoldable pub takes : Question → (loss shake : ℕ) → Bool
-takes q loss shake = isMarked q (cell loss shake) && hasPlace q (score (q .weights) loss shake)
-
--- "It is put on the list if" the question takes it; "the list is cut to k."
-unfoldable pub listed : Question → Held → Question
-listed q h = cond (takes q (h .loss) (h .shake)) (cutToK (withEntry q (entry (q .weights) h))) q
+readWork b slot = cond (ltb slot slotCount) (readIn (slotAt b slot)) (notShown 13)
 
 -- "If more than N are held, the oldest leaves": its number, where one report is added; 0 for none.
 unfoldable pub leaving : (size entered held : ℕ) → ℕ
 leaving size entered held = cond (ltb held size) 0 (entered + 1 - size)
-
--- The question lists the report of that number.
-unfoldable pub lists : Question → ℕ → Bool
-lists q number = not (eqb number 0) && has number (map (λ e. e .number) (lines q))
-
--- "Each question listing it is searched afresh, and its marks are replaced."
-unfoldable pub refreshed : Question → ℕ → Window → Searched
-refreshed q number w = cond (lists q number) (searchedOn q w) (record { steps = 0; question = q })
 
 -- The report that enters a window.
 abbrev pub newReport : Window → ℕ → ℕ → Held
@@ -121,13 +65,14 @@ newReport w loss shake = record { number = w .entered + 1; loss = loss; shake = 
 abbrev pub outgoing : Window → ℕ
 outgoing w = leaving (w .size) (w .entered) (w .held)
 
--- What entering leaves of one question: first the report is added, then the oldest leaves.
-unfoldable pub entering : Window → ℕ → ℕ → Question → Searched
-entering w loss shake q = refreshed (listed q (newReport w loss shake)) (outgoing w) (added w loss shake)
+-- The turn of one question: over the reports that the window then holds.
+abbrev pub turned : Window → ℕ → ℕ → Question → Turned
+turned w loss shake q = turn q (newReport w loss shake) (outgoing w) (inRows (added w loss shake))
 
--- It is searched, in this entry.
-unfoldable pub isSearched : Window → ℕ → ℕ → Question → Bool
-isSearched w loss shake q = lists (listed q (newReport w loss shake)) (outgoing w)
+-- "A refusal answers its number, every other field 0."
+abbrev pub notEntered : Board → ℕ → Entered
+notEntered b refusal =
+    record { refusal = refusal; number = 0; searched = replicate slotCount false; steps = replicate slotCount 0; board = b }
 
 -- "12: loss or shake over 4095. 11: 1,000,000 already entered."
 unfoldable pub enterRefusal : (entered loss shake : ℕ) → ℕ
@@ -147,14 +92,8 @@ enterWork b loss shake =
     (record {
       refusal = 0;
       number = b .window .entered + 1;
-      searched = map (isSearched (b .window) loss shake) (b .slots);
-      steps = map (λ q. entering (b .window) loss shake q .steps) (b .slots);
-      board = record { window = added (b .window) loss shake; slots = map (λ q. entering (b .window) loss shake q .question) (b .slots) };
+      searched = map (λ q. turned (b .window) loss shake q .searched) (b .slots);
+      steps = map (λ q. turned (b .window) loss shake q .steps) (b .slots);
+      board = record { window = added (b .window) loss shake; slots = map (λ q. turned (b .window) loss shake q .question) (b .slots) };
     })
-    (record {
-      refusal = enterRefusal (b .window .entered) loss shake;
-      number = 0;
-      searched = replicate 32 false;
-      steps = replicate 32 0;
-      board = b;
-    })
+    (notEntered b (enterRefusal (b .window .entered) loss shake))

@@ -1,27 +1,21 @@
 // The window with its 32 slots: standing questions that each have a list.
 ghost use mathlib.Core.Path.{_≡_};
-ghost use mathlib.Core.Bool.{false, _&&_};
-ghost use Prim.Native.Nat.{min, _%_, _<_};
-ghost use lib.IntN.{pos};
-ghost use lib.ListN.{replicate};
-ghost use Rattle.question.specs.Lines.{finished, rowsOf};
-ghost use Rattle.question.specs.Calls.{allOf, equal, fitQuestion};
-ghost use Rattle.board.specs.Work.{freshBoard, setWork, setIn, slotRefusal, removeWork, emptied, askRefusal, readWork, hasPlace, takes, listed, leaving, arrival, lists, enterRefusal, enterWork, withSlot};
-ghost use Rattle.board.specs.Calls.{isEmpty, slotFit, fitBoard, setCall, removeCall, readCall, enterCall};
-
-mod gauge;
-
-pub use gauge::Gauge;
+ghost use Prim.Native.Nat.{_<_};
+ghost use Rattle.question.specs.Calls.{allOf};
+ghost use Rattle.slot.specs.Fitness.{slotFit};
+ghost use Rattle.board.specs.Work.{freshBoard, withSlot, setWork, removeWork, readWork, leaving, arrival, notEntered, enterRefusal, enterWork};
+ghost use Rattle.board.specs.Calls.{fitBoard, setCall, removeCall, readCall, enterCall};
 use question::Question;
-use question::Searched;
 use ranking::Grid;
 use ranking::Weights;
+use slot::Gauge;
+use slot::Shown;
 use window::Window;
 
 // The held reports, and a question in each slot that isn't empty.
 pub struct Board {
     pub window: Window,
-    pub slots: [Question; 32],
+    pub slots: [Question; Gauge::SLOTS],
 }
 
 // A board, or the refusal's number and a board of zeros.
@@ -37,32 +31,17 @@ pub struct Placed {
     pub board: Board,
 }
 
-// What setting a question in one slot answers: the steps of its search, and what the slot holds then.
-pub struct Seated {
-    pub refusal: u8,
-    pub steps: u16,
-    pub question: Question,
-}
-
 pub struct Removed {
     pub refusal: u8,
     pub board: Board,
-}
-
-// A list: its first `len` lines, and 0 past them.
-pub struct Shown {
-    pub refusal: u8,
-    pub len: u8,
-    pub numbers: [u32; 16],
-    pub scores: [i32; 16],
 }
 
 // What entering a report answers: its number, which questions were searched, and the steps of each.
 pub struct Entered {
     pub refusal: u8,
     pub number: u32,
-    pub searched: [bool; 32],
-    pub steps: [u16; 32],
+    pub searched: [bool; Gauge::SLOTS],
+    pub steps: [u16; Gauge::SLOTS],
     pub board: Board,
 }
 
@@ -82,14 +61,6 @@ impl Board {
 
     pub const NO_SLOT: u8 = 13;
 
-    pub const LINES_OUT_OF_RANGE: u8 = 14;
-
-    pub const WEIGHT_OUT_OF_RANGE: u8 = 15;
-
-    pub const IN_USE: u8 = 16;
-
-    pub const EMPTY: u8 = 17;
-
     pub const UNFIT: u8 = 24;
 
     // A window of n rows and 32 empty slots, or refusal 18.
@@ -99,7 +70,7 @@ impl Board {
         let made = Window::fresh(n);
         let window = made.window;
         let slot = Question::fresh();
-        let slots = [slot; 32];
+        let slots = [slot; Gauge::SLOTS];
         NewBoard {
             refusal: made.refusal,
             board: Board { window, slots },
@@ -152,7 +123,7 @@ impl Board {
         if self.fit() {
             return self.read_known(slot);
         }
-        not_shown(Board::UNFIT)
+        Shown::refused(Board::UNFIT)
     }
 
     // Enters a report: its number, which questions were searched, and the steps of each. Refused 24, 12, 11.
@@ -180,7 +151,7 @@ impl Board {
         let window = self.window;
         let slots = self.slots;
         let question = slots[at];
-        let seated = set_in(
+        let seated = slot::set_in(
             question,
             k,
             weights,
@@ -200,16 +171,18 @@ impl Board {
     pub fn remove_known(self, slot: u8) -> Removed
         ensures { λ r. ⌜ r ≡ removeWork self slot ⌝ }
     {
-        let refusal = self.slot_refusal(slot);
-        if refusal != 0 {
+        if Board::SLOTS <= slot {
             return Removed {
-                refusal,
+                refusal: Board::NO_SLOT,
                 board: self,
             };
         }
+        let at = slot as usize;
+        let slots = self.slots;
+        let question = slots[at];
         Removed {
-            refusal: 0,
-            board: self.with_slot(slot, Question::fresh()),
+            refusal: slot::empty_refusal(question.k),
+            board: self.with_slot(slot, slot::emptied(question)),
         }
     }
 
@@ -217,21 +190,12 @@ impl Board {
     pub fn read_known(self, slot: u8) -> Shown
         ensures { λ r. ⌜ r ≡ readWork self slot ⌝ }
     {
-        let refusal = self.slot_refusal(slot);
-        if refusal != 0 {
-            return not_shown(refusal);
+        if Board::SLOTS <= slot {
+            return Shown::refused(Board::NO_SLOT);
         }
         let at = slot as usize;
         let slots = self.slots;
-        let question = slots[at];
-        let numbers = question.numbers;
-        let scores = question.scores;
-        Shown {
-            refusal: 0,
-            len: question.len,
-            numbers,
-            scores,
-        }
+        slot::read_in(slots[at])
     }
 
     // Enters a report on a board that is known to be fit: each question lists it as its marks say, then the oldest leaves, and
@@ -255,26 +219,28 @@ impl Board {
         let old = self.slots;
         let before = self.window;
         let number = before.entered + 1;
-        let oldest = leaving(before.size, before.entered, before.held);
+        let gone = leaving(before.size, before.entered, before.held);
         let window = before.with(loss, shake);
         let mut slots = self.slots;
-        let mut searched = [false; 32];
-        let mut steps = [0u16; 32];
+        let mut searched = [false; Gauge::SLOTS];
+        let mut steps = [0u16; Gauge::SLOTS];
         let mut i: usize = 0;
-        while i < 32 {
-            let with = listed(old[i], number, loss, shake);
-            let again = lists(with, oldest);
-            let mut found = Searched {
-                steps: 0,
-                question: with,
-            };
-            if again {
-                found = with.searched(window);
-            }
-            let left = found.question;
+        while i < Gauge::SLOTS {
+            let turned = slot::turn(
+                old[i],
+                number,
+                loss,
+                shake,
+                gone,
+                &window.losses,
+                &window.shakes,
+                &window.numbers,
+                Window::ROWS,
+            );
+            let left = turned.question;
             slots[i] = left;
-            searched[i] = again;
-            steps[i] = found.steps;
+            searched[i] = turned.searched;
+            steps[i] = turned.steps;
             i += 1;
         }
         let board = Board { window, slots };
@@ -288,12 +254,10 @@ impl Board {
     }
 
     fn not_entered(self, refusal: u8) -> Entered
-        ensures { λ r. ⌜
-            r ≡ record { refusal = refusal; number = 0; searched = replicate 32 false; steps = replicate 32 0; board = self }
-            ⌝ }
+        ensures { λ r. ⌜ r ≡ notEntered self refusal ⌝ }
     {
-        let searched = [false; 32];
-        let steps = [0u16; 32];
+        let searched = [false; Gauge::SLOTS];
+        let steps = [0u16; Gauge::SLOTS];
         Entered {
             refusal,
             number: 0,
@@ -310,29 +274,13 @@ impl Board {
         let window = self.window;
         let slots = self.slots;
         let mut i: usize = 0;
-        while i < 32 {
-            let question = slots[i];
-            if !is_empty(question) {
-                if !stands(question, window) {
-                    return false;
-                }
+        while i < Gauge::SLOTS {
+            if !slot::fit(slots[i], window) {
+                return false;
             }
             i += 1;
         }
         true
-    }
-
-    // Why a slot is not removed or read; 0 for no reason.
-    fn slot_refusal(self, slot: u8) -> u8
-        ensures { λ r. ⌜ r ≡ slotRefusal self slot ⌝ }
-    {
-        if Board::SLOTS <= slot {
-            return Board::NO_SLOT;
-        }
-        let at = slot as usize;
-        let slots = self.slots;
-        let question = slots[at];
-        if question.k == 0 { Board::EMPTY } else { 0 }
     }
 
     // The board with that question in that slot.
@@ -345,22 +293,6 @@ impl Board {
         let mut slots = self.slots;
         slots[at] = question;
         Board { window, slots }
-    }
-}
-
-// The answer of a refused reading.
-fn not_shown(refusal: u8) -> Shown
-    ensures { λ r. ⌜
-        r ≡ record { refusal = refusal; len = 0; numbers = replicate 16 0; scores = replicate 16 (pos 0) }
-        ⌝ }
-{
-    let numbers = [0u32; 16];
-    let scores = [0i32; 16];
-    Shown {
-        refusal,
-        len: 0,
-        numbers,
-        scores,
     }
 }
 
@@ -415,173 +347,4 @@ impl Arrival {
             oldest: leaving(size, entered, held),
         }
     }
-}
-
-// Sets a question in a slot that holds this one, and searches it over the rows that are lent. Refused 14, 15, 16.
-pub fn set_in<'a>(
-    question: Question,
-    k: u8,
-    weights: Weights,
-    losses: &'a [u16; 1024],
-    shakes: &'a [u16; 1024],
-    numbers: &'a [u32; 1024],
-) -> Seated
-    ensures { λ r. ⌜ r ≡ setIn question k weights (rowsOf (now (losses .entry)) (now (shakes .entry)) (now (numbers .entry))) ⌝ }
-{
-    let refusal = ask_refusal(question.k, k, weights);
-    if refusal != 0 {
-        return Seated {
-            refusal,
-            steps: 0,
-            question,
-        };
-    }
-    let mut fresh = Question::fresh();
-    fresh.k = k;
-    fresh.weights = weights;
-    let found = fresh.searched_in(losses, shakes, numbers, Window::ROWS);
-    let placed = found.question;
-    Seated {
-        refusal: 0,
-        steps: found.steps,
-        question: placed,
-    }
-}
-
-// Why a question is not set in a slot that holds one of that k, or 0; 0 for no reason.
-fn ask_refusal(held: u8, k: u8, weights: Weights) -> u8
-    ensures { λ r. ⌜ r ≡ askRefusal held k weights ⌝ }
-{
-    if k < 1 {
-        return Board::LINES_OUT_OF_RANGE;
-    }
-    if Question::LINES < k {
-        return Board::LINES_OUT_OF_RANGE;
-    }
-    if !weights.fit() {
-        return Board::WEIGHT_OUT_OF_RANGE;
-    }
-    if held == 0 { 0 } else { Board::IN_USE }
-}
-
-// What a slot holds that is removed; one that is empty stays.
-pub fn emptied(question: Question) -> Question
-    ensures { λ r. ⌜ r ≡ emptied question ⌝ }
-{
-    if question.k == 0 {
-        return question;
-    }
-    Question::fresh()
-}
-
-// The question with a report more, if its list takes it. Of the values the low 12 bits count.
-pub fn listed(question: Question, number: u32, loss: u16, shake: u16) -> Question
-    ensures { λ r. ⌜ r ≡ listed question (record { number = number; loss = loss % 4096; shake = shake % 4096 }) ⌝ }
-{
-    if takes(question, loss, shake) {
-        return question.joined(number, question.weights.score(loss, shake));
-    }
-    question
-}
-
-// The question has a mark on the report's cell, and its list a place for the score.
-fn takes(question: Question, loss: u16, shake: u16) -> bool
-    ensures { λ r. ⌜ r ≡ takes question (loss % 4096) (shake % 4096) ⌝ }
-{
-    if has_place(question, question.weights.score(loss, shake)) {
-        return question.marked(Grid::cell(loss, shake));
-    }
-    false
-}
-
-// The list has fewer than k entries, or the score is at least its last entry's.
-fn has_place(question: Question, score: i32) -> bool
-    ensures { λ r. ⌜ r ≡ hasPlace question score ⌝ }
-{
-    let len = question.len;
-    if len < question.k {
-        return true;
-    }
-    let n = lines_in(len);
-    if n == 0 {
-        return false;
-    }
-    let scores = question.scores;
-    let last = n - 1;
-    scores[last] <= score
-}
-
-// How many lines a list of that length has.
-fn lines_in(len: u8) -> usize
-    ensures { λ r. ⌜ r ≡ min len 16 ⌝ }
-{
-    if len < Question::LINES {
-        len as usize
-    } else {
-        Question::LINES as usize
-    }
-}
-
-// The question lists the report of that number.
-pub fn lists(question: Question, number: u32) -> bool
-    ensures { λ r. ⌜ r ≡ lists question number ⌝ }
-{
-    if number == 0 {
-        return false;
-    }
-    let n = lines_in(question.len);
-    let numbers = question.numbers;
-    let mut i: usize = 0;
-    while i < n {
-        if numbers[i] == number {
-            return true;
-        }
-        i += 1;
-    }
-    false
-}
-
-// A fit question whose search has ended.
-fn stands(question: Question, window: Window) -> bool
-    ensures { λ r. ⌜ r ≡ (fitQuestion window question && finished question) ⌝ }
-{
-    if question.fit(window) {
-        return question.finished();
-    }
-    false
-}
-
-// k is 0, and so is everything else.
-fn is_empty(question: Question) -> bool
-    ensures { λ r. ⌜ r ≡ isEmpty question ⌝ }
-{
-    let weights = question.weights;
-    if question.k != 0 {
-        return false;
-    }
-    if !no_weights(weights) {
-        return false;
-    }
-    if question.len != 0 {
-        return false;
-    }
-    if question.next != 0 {
-        return false;
-    }
-    question.rest_blank()
-}
-
-fn no_weights(weights: Weights) -> bool
-    ensures { λ r. ⌜ r ≡ (equal (weights .loss) (pos 0) && equal (weights .shake) (pos 0)) ⌝ }
-{
-    if is_zero(weights.loss) {
-        return is_zero(weights.shake);
-    }
-    false
-}
-
-fn is_zero(weight: i16) -> bool
-    ensures { λ r. ⌜ r ≡ equal weight (pos 0) ⌝ }
-{
-    weight == 0
 }

@@ -4,11 +4,11 @@ use board::Board;
 use board::Entered;
 use board::Placed;
 use board::Removed;
-use board::Shown;
 use printing::end;
 use printing::number;
 use printing::text;
 use ranking::Weights;
+use slot::Shown;
 use text::put_signed;
 
 pub fn started(n: u16) -> Board {

@@ -12,7 +12,7 @@ use Rattle.question.specs.Lines.{emptySlot}
 use Rattle.question.specs.Calls.{stepCall, beginCall}
 use Rattle.board.specs.declared.Board.{Board}
 use Rattle.board.specs.declared.Placed.{Placed}
-use Rattle.board.specs.declared.Shown.{Shown}
+use Rattle.slot.specs.declared.Shown.{Shown}
 use Rattle.board.specs.declared.Entered.{Entered}
 
 -- Rows past the end of what is lent are 0; what is lent past the last row is not read.

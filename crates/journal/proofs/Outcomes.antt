@@ -13,6 +13,8 @@ use Rattle.journal.proofs.next_item.Kinds as next-item-kinds
 use Rattle.journal.proofs.next_item.Reads as next-item-reads
 use Rattle.journal.proofs.weights_in.Kinds as weights-in-kinds
 use Rattle.journal.proofs.weights_in.Reads as weights-in-reads
+use Rattle.journal.proofs.put_search.Kinds as put-search-kinds
+use Rattle.journal.proofs.put_search.Reads as put-search-reads
 
 fresh-once : OneAnswer 0 fresh-kinds.ps fresh-kinds.r fresh-reads.Post
 fresh-once κs a x y s t p q = p ∙ sym q
@@ -31,3 +33,9 @@ next-item-once κs a x y s t p q = p ∙ sym q
 
 weights-in-once : OneAnswer 1 weights-in-kinds.ps weights-in-kinds.r weights-in-reads.Post
 weights-in-once κs a x y s t p q = p ∙ sym q
+
+put-search-once : OneAnswer 1 put-search-kinds.ps put-search-kinds.r put-search-reads.Post
+put-search-once κs a x y s t p q = p .0 ∙ sym (q .0)
+
+put-search-leaves-once : OneLeft 1 put-search-kinds.ps put-search-kinds.r put-search-reads.Post (List ℕ) (λ κs s. now (s .0))
+put-search-leaves-once κs a x y s t p q = p .1 ∙ sym (q .1)

@@ -7,7 +7,7 @@ use mathlib.Core.Bool.{Bool, true, false, cond, _&&_}
 use mathlib.Core.List.{List, [], _∷_, _++_, append-nil}
 use Prim.Native.Nat.{ℕ, _≤_, _<_}
 use native.Mathlib.Omega.{arith}
-use borrow.Author.Tests.{eqb-true, eqb-false, ne-eqb}
+use borrow.Author.Tests.{eqb-true, eqb-false, ne-eqb, ltb-true, ltb-false}
 use lib.Dec.{eqb, ltb, leb}
 use lib.ListN.{length, getD, take, length-map, length-take, getD-replicate}
 use Rattle.wire.specs.Bytes.{number, part}
@@ -16,27 +16,32 @@ use Rattle.ranking.specs.declared.Weights.{Weights}
 use Rattle.ranking.proofs.Tests.{Tested, passed, failed, tested, and-both}
 use Rattle.ranking.proofs.Lists.{there, getD-in}
 use Rattle.window.specs.declared.Fresh.{Fresh}
-use Rattle.window.specs.Rows.{sized, freshWindow, fitWindow}
+use Rattle.window.specs.Rows.{sized, freshWindow, fitWindow, added}
 use Rattle.window.specs.History.{Values}
 use Rattle.window.proofs.Fitness.{fit-facts}
 use Rattle.question.specs.declared.Question.{Question}
-use Rattle.question.specs.Lines.{asked, emptySlot, finished}
+use Rattle.question.specs.Lines.{emptySlot, finished, inRows}
 use Rattle.question.specs.Calls.{allOf}
 use Rattle.question.proofs.Taking.{if-so, if-not}
 use Rattle.question.proofs.Listed.{all-in}
-use Rattle.board.specs.Work.{noQuestion, slotAt, freshBoard, setRefusal, setWork, slotRefusal, removeWork, readWork, enterRefusal, enterWork, entering, isSearched}
-use Rattle.board.specs.Calls.{fitBoard, slotFit, enterCall}
+use Rattle.board.specs.Work.{slotAt, freshBoard, setWork, removeWork, readWork, newReport, outgoing, turned, enterRefusal, enterWork}
+use Rattle.board.specs.Calls.{fitBoard, enterCall}
 use Rattle.board.specs.Reached as board
+use Rattle.slot.specs.declared.Shown.{Shown}
+use Rattle.slot.specs.Asking.{readIn}
+use Rattle.slot.specs.Fitness.{slotFit}
+use Rattle.slot.specs.Gauges.{noQuestion}
+use Rattle.slot.proofs.Standing.{Slot, stands-ended, not-searching}
+use Rattle.slot.proofs.Standing as state
+use Rattle.slot.proofs.Setting.{set-refusal, set-few}
+use Rattle.slot.proofs.Turns.{turn-few}
 use Rattle.board.specs.declared.Board.{Board}
 use Rattle.board.specs.declared.NewBoard.{NewBoard}
 use Rattle.board.specs.declared.Placed.{Placed}
 use Rattle.board.specs.declared.Removed.{Removed}
-use Rattle.board.specs.declared.Shown.{Shown}
 use Rattle.board.specs.declared.Entered.{Entered}
-use Rattle.board.proofs.Refusals.{settable, slot-there}
-use Rattle.board.proofs.Slot.{Slot, stands-ended}
-use Rattle.board.proofs.Slot as state
-use Rattle.board.proofs.Kept.{kept, slot-of, not-searching}
+use Rattle.board.proofs.Seats.{set-nowhere, set-there, set-kept, settable, remove-kept}
+use Rattle.board.proofs.Kept.{kept, slot-of}
 use Rattle.board.proofs.Demands.{reached-fit}
 use Rattle.board.proofs.Fit.{fit-set, fit-remove, fit-enter}
 use Rattle.board.proofs.Known.{set-known, remove-known, enter-known}
@@ -56,7 +61,7 @@ use Rattle.journal.specs.Log.{Outcome, freshLog, counted, nextItem, with
 use Rattle.journal.specs.Reached.{frameOf, enteredBy}
 use Rattle.journal.proofs.Printed.{Prints, nothing, refusal, search, searches, list}
 use Rattle.journal.proofs.Answers.{either, Fine, answer-fine, none-yet, answer, nothing-more, one-more, enter-refusal, enters-when}
-use Rattle.journal.proofs.Shown.{Small, slot-small, searched-few, entering-few, map-few}
+use Rattle.journal.proofs.Shown.{Small, slot-small, map-few}
 
 -- The board that frames lead to.
 pub data Boarded (fs : List Frame) (b : Board) : Type 0 where
@@ -114,16 +119,19 @@ window-does {fs} log own first v = go (tested (eqb (made .refusal) 0))
 
 -- ---- the board's calls
 
-set-code : (b : Board) (slot k : ℕ) (ws : Weights) → setRefusal b slot k ws ≤ 23
-unfolding setRefusal
-set-code b slot k ws =
-    code (ltb slot 32) 13 (omega arith)
-    (code (leb 1 k && leb k 16) 14 (omega arith)
-    (code (inRange (ws .loss) && inRange (ws .shake)) 15 (omega arith) (code (eqb (slotAt b slot .k) 0) 16 {x = 0} (omega arith) (omega arith))))
+set-code : (b : Board) (slot k : ℕ) (ws : Weights) → setWork b slot k ws .refusal ≤ 23
+set-code b slot k ws = go (tested (ltb slot 32))
+  where
+    go : Tested (ltb slot 32) → setWork b slot k ws .refusal ≤ 23
+    go (failed t) = omega (arith, ap (λ (r : Placed). r .refusal) (set-nowhere b slot k ws (ltb-false slot 32 t)))
+    go (passed t) =
+        subst (λ (n : ℕ). n ≤ 23) (sym (ap (λ (r : Placed). r .refusal) (set-there b slot k ws (ltb-true slot 32 t)) ∙ set-refusal (slotAt b slot) k ws (inRows (b .window))))
+        (code (leb 1 k && leb k 16) 14 (omega arith)
+        (code (inRange (ws .loss) && inRange (ws .shake)) 15 (omega arith) (code (eqb (slotAt b slot .k) 0) 16 {x = 0} (omega arith) (omega arith))))
 
-slot-code : (b : Board) (slot : ℕ) → slotRefusal b slot ≤ 23
-unfolding slotRefusal
-slot-code b slot = code (ltb slot 32) 13 (omega arith) (code (eqb (slotAt b slot .k) 0) 0 {x = 17} (omega arith) (omega arith))
+remove-code : (b : Board) (slot : ℕ) → removeWork b slot .refusal ≤ 23
+unfolding removeWork
+remove-code b slot = either (λ (r : Removed). r .refusal ≤ 23) (ltb slot 32) (λ t. code (eqb (slotAt b slot .k) 0) 0 {x = 17} (omega arith) (omega arith)) (λ t. omega arith)
 
 enter-code : (entered loss shake : ℕ) → enterRefusal entered loss shake ≤ 23
 unfolding enterRefusal
@@ -178,40 +186,36 @@ module _ (fs : List Frame) (log : Log) (heard : log .sessions ≡ sessionsAt fre
   owns : {c : Board} → Boarded fs c → Own fs (withBoard log c)
   owns is = record { board-is = is; heard = heard }
 
+  refused-does : (n : ℕ) (done : Outcome) → Boarded fs b → n ≤ 23 → eqb n 0 ≡ false → Does fs (log .items) (unless log n done)
+  refused-does n done is few t = refuses log n done (record { board-is = is; heard = heard }) few t
+
   set-does : (v : List ℕ) → Boarded fs (setWork b (getD v 0 0) (getD v 1 0) (weightsIn v) .board) → Does fs (log .items) (setItem log v)
-  unfolding setItem setWork
-  set-does v = go (tested (eqb (setRefusal b slot k ws) 0))
+  unfolding setItem
+  set-does v is = go (tested (eqb (placed .refusal) 0))
     where
       slot : ℕ
       slot = getD v 0 0
 
-      k : ℕ
-      k = getD v 1 0
+      placed : Placed
+      placed = setWork b (getD v 0 0) (getD v 1 0) (weightsIn v)
 
-      ws : Weights
-      ws = weightsIn v
+      few : slot < 32 → placed .steps ≤ 256
+      few h = subst (λ (r : Placed). r .steps ≤ 256) (sym (set-there b slot (getD v 1 0) (weightsIn v) h)) (set-few (slotAt b slot) (getD v 1 0) (weightsIn v) (inRows (b .window)))
 
-      P : Placed → Type 0
-      P r = Boarded fs (r .board) → Does fs (log .items) (unless log (r .refusal) (record { text = sLine (log .items) slot (r .steps); log = withBoard log (r .board) }))
-
-      go : Tested (eqb (setRefusal b slot k ws) 0) → P (setWork b slot k ws)
+      go : Tested (eqb (placed .refusal) 0) → Does fs (log .items) (setItem log v)
       go (passed t) =
-          subst P (sym (if-so _ _ t))
-          (λ is.
-          does log 0 refl
-          (record { own = owns is; prints = search slot _ (settable b slot k ws (eqb-true _ 0 t) .there) (searched-few (asked k ws [] 0) (b .window)) refl }))
-      go (failed t) = subst P (sym (if-not _ _ t)) (λ is. refuses log (setRefusal b slot k ws) _ (owns is) (set-code b slot k ws) t)
+          let there = settable b slot (getD v 1 0) (weightsIn v) (eqb-true _ 0 t) .there in
+          does log (placed .refusal) t (record { own = owns is; prints = search slot _ there (few there) refl })
+      go (failed t) =
+          refused-does (placed .refusal) _ (subst (Boarded fs) (set-kept b slot (getD v 1 0) (weightsIn v) (eqb-false _ 0 t)) is) (set-code b slot (getD v 1 0) (weightsIn v)) t
 
   remove-does : (v : List ℕ) → Boarded fs (removeWork b (getD v 0 0) .board) → Does fs (log .items) (removeItem log v)
-  unfolding removeItem removeWork
-  remove-does v = go (tested (eqb (slotRefusal b (getD v 0 0)) 0))
+  unfolding removeItem
+  remove-does v is = go (tested (eqb (removeWork b (getD v 0 0) .refusal) 0))
     where
-      P : Removed → Type 0
-      P r = Boarded fs (r .board) → Does fs (log .items) (unless log (r .refusal) (quiet (withBoard log (r .board))))
-
-      go : Tested (eqb (slotRefusal b (getD v 0 0)) 0) → P (removeWork b (getD v 0 0))
-      go (passed t) = subst P (sym (if-so _ _ t)) (λ is. does log 0 refl (record { own = owns is; prints = nothing refl }))
-      go (failed t) = subst P (sym (if-not _ _ t)) (λ is. refuses log (slotRefusal b (getD v 0 0)) _ (owns is) (slot-code b (getD v 0 0)) t)
+      go : Tested (eqb (removeWork b (getD v 0 0) .refusal) 0) → Does fs (log .items) (removeItem log v)
+      go (passed t) = does log (removeWork b (getD v 0 0) .refusal) t (record { own = owns is; prints = nothing refl })
+      go (failed t) = refused-does (removeWork b (getD v 0 0) .refusal) _ (subst (Boarded fs) (remove-kept b (getD v 0 0) (eqb-false _ 0 t)) is) (remove-code b (getD v 0 0)) t
 
   enter-does : length (b .slots) ≡ 32 → (loss shake : ℕ) → Boarded fs (enterWork b loss shake .board) → Does fs (log .items) (enterItem log loss shake)
   unfolding enterItem enterWork
@@ -221,7 +225,7 @@ module _ (fs : List Frame) (log : Log) (heard : log .sessions ≡ sessionsAt fre
       P r = Boarded fs (r .board) → Does fs (log .items) (unless log (r .refusal) (record { text = sLines (log .items) 0 (r .searched) (r .steps); log = withBoard log (r .board) }))
 
       steps : Question → ℕ
-      steps q = entering (b .window) loss shake q .steps
+      steps q = turned (b .window) loss shake q .steps
 
       go : Tested (eqb (enterRefusal (b .window .entered) loss shake) 0) → P (enterWork b loss shake)
       go (passed t) =
@@ -230,13 +234,13 @@ module _ (fs : List Frame) (log : Log) (heard : log .sessions ≡ sessionsAt fre
           does log 0 refl
           (record {
             own = owns is;
-            prints = searches _ _ (length-map (b .slots) (isSearched (b .window) loss shake) ∙ many) (map-few steps (entering-few (b .window) loss shake) (b .slots)) refl;
+            prints = searches _ _ (length-map (b .slots) (λ q. turned (b .window) loss shake q .searched) ∙ many) (map-few steps (λ q. turn-few q (newReport (b .window) loss shake) (outgoing (b .window)) (inRows (added (b .window) loss shake))) (b .slots)) refl;
           }))
       go (failed t) = subst P (sym (if-not _ _ t)) (λ is. refuses log (enterRefusal (b .window .entered) loss shake) _ (owns is) (enter-code (b .window .entered) loss shake) t)
 
   show-does : (v : List ℕ) → Boarded fs b → ((slot : ℕ) → slot < 32 → Small (slotAt b slot)) → Does fs (log .items) (showItem log v)
-  unfolding showItem readWork
-  show-does v is each = go (tested (eqb (slotRefusal b slot) 0))
+  unfolding showItem readWork readIn
+  show-does v is each = go (tested (ltb slot 32)) (tested (eqb (slotAt b slot .k) 0))
     where
       slot : ℕ
       slot = getD v 0 0
@@ -244,15 +248,16 @@ module _ (fs : List Frame) (log : Log) (heard : log .sessions ≡ sessionsAt fre
       P : Shown → Type 0
       P r = Does fs (log .items) (unless log (r .refusal) (record { text = qLine slot (take (r .len) (text.listed (r .numbers) (r .scores))); log = log }))
 
-      go : Tested (eqb (slotRefusal b slot) 0) → P (readWork b slot)
-      go (passed t) =
-          let there = slot-there b slot (eqb-true _ 0 t) in
+      go : Tested (ltb slot 32) → Tested (eqb (slotAt b slot .k) 0) → P (readWork b slot)
+      go (passed t) (failed u) =
+          let there = ltb-true slot 32 t in
           let q = slotAt b slot in
           let small = each slot there in
           let short : length (take (q .len) (text.listed (q .numbers) (q .scores))) ≤ 16 = simp length-take (omega (arith, small .few)) in
-          subst P (sym (if-so _ _ t))
+          subst P (sym (if-so _ _ t ∙ if-not _ _ u))
           (does log 0 refl (record { own = owns is; prints = list slot _ there short (listed-in-range (q .len) (q .numbers) (q .scores) (small .numbers) (small .scores)) refl }))
-      go (failed t) = subst P (sym (if-not _ _ t)) (refuses log (slotRefusal b slot) _ (owns is) (slot-code b slot) t)
+      go (passed t) (passed u) = subst P (sym (if-so _ _ t ∙ if-so _ _ u)) (refused-does 17 _ is (omega arith) refl)
+      go (failed t) u = subst P (sym (if-not _ _ t)) (refused-does 13 _ is (omega arith) refl)
 
 -- ---- a frame
 

@@ -19,7 +19,8 @@ use Rattle.window.specs.Rows.{freshWindow, heldReports}
 use Rattle.window.specs.History.{Values, numbered, latest}
 use Rattle.window.proofs.Reports.{empty-holds}
 use Rattle.question.specs.Lines.{lines, linesOf}
-use Rattle.board.specs.Work.{slotAt, freshBoard, setWork, removeWork, readWork, enterWork, slotRefusal}
+use Rattle.board.specs.Work.{slotAt, freshBoard, setWork, removeWork, readWork, enterWork}
+use Rattle.slot.specs.Asking.{readIn}
 use Rattle.board.specs.Calls.{fitBoard, setCall, removeCall, readCall, enterCall}
 use Rattle.board.specs.Reached as board
 use Rattle.board.specs.declared.Board.{Board}
@@ -64,7 +65,7 @@ shown-lines (suc n) (x ∷ ns) (s ∷ ss) = ap (λ (l : List Entry). record { nu
 
 show-text : (log : Log) (slot : ℕ) → eqb (log .board .window .size) 0 ≡ false → slot < 32 → (slotAt (log .board) slot .k ≡ 0 → ⊥)
     → itemDone log 20 (slot ∷ []) .text ≡ qLine slot (take (slotAt (log .board) slot .len) (listed (slotAt (log .board) slot .numbers) (slotAt (log .board) slot .scores)))
-unfolding itemDone itemRefusal known byTag showItem readWork slotRefusal unless
+unfolding itemDone itemRefusal known byTag showItem readWork readIn unless
 show-text log slot there h used = rw (there, lt-ltb slot 32 h, ne-eqb (slotAt (log .board) slot .k) 0 used)
 
 module _ {log : Log} (reached : Reached log) where

@@ -1,4 +1,4 @@
--- A list that a fit board shows fits its line: its numbers are those of held reports, and its scores those of permitted weights and values. No search takes more than 256 steps.
+-- A list that a fit board shows fits its line: its numbers are those of held reports, and its scores those of permitted weights and values.
 -- Assumes nothing.
 use mathlib.Core.Path.{_≡_, sym, subst}
 use mathlib.Core.Bool.{true}
@@ -22,20 +22,17 @@ use Rattle.ranking.proofs.Tests.{and-both}
 use Rattle.ranking.proofs.Lists.{here, there}
 use Rattle.ranking.proofs.Best.{best-of, length-best-le}
 use Rattle.ranking.proofs.Cells.{score-fits}
-use Rattle.ranking.proofs.Standing.{above-strict, steps-bounded}
+use Rattle.ranking.proofs.Standing.{above-strict}
 use Rattle.window.specs.declared.Window.{Window}
-use Rattle.window.specs.Rows.{heldReports, fitWindow, added}
+use Rattle.window.specs.Rows.{heldReports, fitWindow}
 use Rattle.window.proofs.Fitness.{fit-facts}
 use Rattle.window.proofs.Reports.{held-latest}
 use Rattle.window.proofs.Standing.{held-permitted}
 use Rattle.question.specs.declared.Question.{Question}
-use Rattle.question.specs.declared.Searched.{Searched}
-use Rattle.question.specs.Lines.{asked, inRows, searchedOn}
-use Rattle.board.specs.Work.{listed, lists, newReport, outgoing, refreshed, entering}
-use Rattle.board.specs.Calls.{slotFit}
-use Rattle.board.proofs.Slot.{Slot, top}
-use Rattle.board.proofs.Slot as state
-use Rattle.board.proofs.Kept.{not-searching}
+use Rattle.question.specs.Lines.{asked}
+use Rattle.slot.specs.Fitness.{slotFit}
+use Rattle.slot.proofs.Standing.{Slot, top, not-searching}
+use Rattle.slot.proofs.Standing as state
 use Rattle.journal.proofs.Answers.{either}
 
 -- The numbers and scores of a question, as they are stored, fit their lines.
@@ -85,16 +82,6 @@ slot-small w fits q t (state.stands s) =
         subst (λ (x : ranked.Entry). (x .number < 2 ^ 32) × (mag (x .score) < 2 ^ 31)) (r .2) (omega (arith, number, ranges .at-most), fits32 .sfits)
 
 -- ---- steps
-
-pub searched-few : (q : Question) (w : Window) → searchedOn q w .steps ≤ 256
-unfolding searchedOn
-searched-few q w = either (λ (r : Searched). r .steps ≤ 256) (leb (q .k) 16) {y = record { steps = 0; question = q }} (λ t. steps-bounded (q .weights) (q .k) (inRows w)) (λ t. omega arith)
-
-pub entering-few : (w : Window) (loss shake : ℕ) (q : Question) → entering w loss shake q .steps ≤ 256
-unfolding entering refreshed
-entering-few w loss shake q =
-    let p = listed q (newReport w loss shake) in
-    either (λ (r : Searched). r .steps ≤ 256) (lists p (outgoing w)) {y = record { steps = 0; question = p }} (λ t. searched-few p (added w loss shake)) (λ t. omega arith)
 
 pub map-few : {A : Type 0} (f : A → ℕ) → ((x : A) → f x ≤ 256) → (l : List A) (i : ℕ) → getD (map f l) i 0 ≤ 256
 map-few f h [] i = omega arith

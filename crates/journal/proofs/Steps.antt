@@ -8,7 +8,7 @@ use borrow.Author.Tests.{ne-eqb}
 use lib.Dec.{eqb}
 use lib.ListN.{length, getD}
 use Rattle.window.specs.Rows.{added}
-use Rattle.board.specs.Work.{slotAt, setRefusal, enterRefusal, setWork}
+use Rattle.board.specs.Work.{slotAt, enterRefusal, setWork}
 use Rattle.board.specs.Calls.{setCall, enterCall}
 use Rattle.board.specs.declared.Board.{Board}
 use Rattle.board.specs.declared.Placed.{Placed}
@@ -47,15 +47,14 @@ module _ {log : Log} (reached : Reached log) (there : log .board .window .size �
   abbrev placed : Placed
   placed = setCall b slot (getD v 1 0) (weightsIn v)
 
-  module _ (six : length v ≡ 6) (taken : setRefusal b slot (getD v 1 0) (weightsIn v) ≡ 0) where
+  module _ (six : length v ≡ 6) (taken : placed .refusal ≡ 0) where
     -- It prints the steps of its search.
     pub set-prints : itemDone log 17 v ≡ record { text = sLine (nextItem (log .items)) slot (placed .steps); log = withBoard (counted log) (placed .board) }
-    unfolding byTag setItem setWork unless known
+    unfolding byTag setItem unless known
     set-prints =
         let done : Placed → Outcome = λ r. record { text = sLine (nextItem (log .items)) slot (r .steps); log = withBoard (counted log) (r .board) } in
-        let work = zero-is _ _ taken in
-        passes log 17 v (no-refusal 17 6 refl refl six) ∙ ap (λ (r : Placed). unless (counted log) (r .refusal) (done r)) work
-        ∙ sym (ap done (same-answers reached there .set slot (getD v 1 0) (weightsIn v) ∙ work))
+        let same = same-answers reached there .set slot (getD v 1 0) (weightsIn v) in
+        passes log 17 v (no-refusal 17 6 refl refl six) ∙ zero-is _ _ (sym (ap (λ (r : Placed). r .refusal) same) ∙ taken) ∙ sym (ap done same)
 
     -- And that search is exact.
     pub set-steps : Exactly (b .window) (getD v 1 0) (weightsIn v) (placed .steps) (slotAt (itemDone log 17 v .log .board) slot)

@@ -1,44 +1,42 @@
 -- A frame, done where the log stands: it changes one session, and a report that enters its row and the slots that have a turn.
 -- Assumes nothing.
 use mathlib.Core.Path.{_≡_, refl, sym, ap, subst, _∙_}
-use mathlib.Core.Bool.{Bool, true, false, not, cond, _||_, and-false}
+use mathlib.Core.Bool.{true, false, cond, _||_}
 use mathlib.Core.List.{List, [], _++_, map}
 use Prim.Native.Nat.{ℕ, _+_, _-_, _%_, _≤_, _<_}
 use native.Mathlib.Nat.{mod-eq-of-lt, mod-lt}
 use native.Mathlib.Omega.{arith}
 use borrow.Author.Tests.{eqb-true, lt-ltb, ne-eqb, eq-eqb}
 use lib.Dec.{eqb}
-use lib.ListN.{length, set, take, length-map}
+use lib.ListN.{length, set, length-map}
 use lib.Seq.{take-all}
-use Rattle.ranking.proofs.Tests.{Tested, passed, failed, tested, clash, and-both}
 use Rattle.ranking.specs.Standing.{Held}
+use Rattle.ranking.proofs.Tests.{Tested, passed, failed, tested, clash}
 use Rattle.window.specs.declared.Window.{Window}
 use Rattle.window.specs.declared.Place.{Place}
 use Rattle.window.specs.Rows.{sized, standing, added, placeFor}
 use Rattle.window.proofs.Fitness.{size-range}
 use Rattle.question.specs.declared.Question.{Question}
-use Rattle.ranking.specs.Cells.{score}
-use Rattle.question.specs.Lines.{rowsOf}
-use Rattle.question.specs.Inner.{shown}
-use Rattle.question.proofs.Stored.{no-lines}
-use Rattle.question.proofs.Finding.{searched-rows, searched-arrays}
-use Rattle.question.proofs.Taking.{if-so, if-not}
-use Rattle.board.specs.declared.Board.{Board}
-use Rattle.board.specs.Work.{takes, listed, lists, refreshed, outgoing, entering, isSearched, enterRefusal, enterWork, arrival}
-use Rattle.board.specs.Gauges.{isIdle}
+use Rattle.question.specs.Lines.{inRows, rowsOf}
+use Rattle.question.proofs.Taking.{if-so}
+use Rattle.slot.specs.declared.Turned.{Turned}
+use Rattle.slot.specs.Turn.{takes, lists}
+use Rattle.slot.specs.Turn as one
+use Rattle.slot.specs.Gauges.{isIdle}
+use Rattle.slot.proofs.Filling.{filled-all}
+use Rattle.slot.proofs.Gauges.{idle-untouched}
+use Rattle.slot.proofs.Turns.{turn-still, rows-alone}
+use Rattle.board.specs.Work.{outgoing, turned, enterRefusal, enterWork, arrival}
 use Rattle.board.proofs.Refusals.{enterable}
-use Rattle.board.proofs.Listing.{listed-not, takes-no-place, place-none}
-use Rattle.board.proofs.Filling.{filled-all, refreshed-searched, refreshed-kept}
 use Rattle.joining.specs.Run.{sessionsAfter, answerTo}
 use Rattle.joining.specs.declared.Answer.{Answer}
 use Rattle.joining.specs.declared.Answer.the-variants.{Refused, Kept, Complete}
 use Rattle.joining.specs.declared.Session.{Session}
 use Rattle.text.specs.Text.{rLine}
 use Rattle.journal.specs.declared.Log.{Log}
-use Rattle.journal.specs.Log.{Outcome, nextItem, counted, withBoard, refused, unless, known, itemRefusal, sLines, enterItem, answered, frameIn, frameItem, byTag, itemDone}
+use Rattle.journal.specs.Log.{nextItem, counted, withBoard, refused, unless, known, itemRefusal, sLines, enterItem, answered, frameIn, frameItem, byTag, itemDone}
 use Rattle.stretch.specs.declared.Brought.{Brought}
-use Rattle.stretch.specs.declared.Turned.{Turned}
-use Rattle.stretch.specs.Inner.{brought, turned}
+use Rattle.stretch.specs.Inner.{brought}
 use Rattle.stretch.proofs.Serving.{some-rows}
 use Rattle.stretch.proofs.Turns.{Turning, told}
 
@@ -47,49 +45,24 @@ use Rattle.stretch.proofs.Turns.{Turning, told}
 abbrev pub report : Brought → Held
 report b = record { number = b .number; loss = b .loss % 4096; shake = b .shake % 4096 }
 
--- What entering leaves of a question.
+-- What its entry leaves of a question.
 abbrev pub turn : Brought → Window → Question → Turned
-turn b w q =
-    let with = listed q (report b) in
-    record { searched = lists with (b .gone); steps = refreshed with (b .gone) w .steps; question = refreshed with (b .gone) w .question }
+turn b w q = one.turn q (report b) (b .gone) (inRows w)
 
 module _ (b : Brought) (w : Window) (q : Question) where
+  -- A turn over the rows in use is one over all rows.
   pub turned-is : (rows : ℕ) → standing (rowsOf (w .losses) (w .shakes) (w .numbers)) rows ≡ standing (rowsOf (w .losses) (w .shakes) (w .numbers)) 1024
-      → turned q (report b) (b .gone) (rowsOf (w .losses) (w .shakes) (w .numbers)) rows ≡ turn b w q
-  unfolding turned
-  turned-is rows all = go (tested (lists (listed q (report b)) (b .gone)))
-    where
-      go : Tested (lists (listed q (report b)) (b .gone)) → turned q (report b) (b .gone) (rowsOf (w .losses) (w .shakes) (w .numbers)) rows ≡ turn b w q
-      go (passed t) =
-          let with = listed q (report b) in
-          let found = searched-rows with (rowsOf (w .losses) (w .shakes) (w .numbers)) rows all ∙ searched-arrays with w ∙ sym (refreshed-searched with (b .gone) w t) in
-          if-so _ _ t ∙ (λ j. record { searched = sym t j; steps = found j .steps; question = found j .question })
-      go (failed t) =
-          let kept = sym (refreshed-kept (listed q (report b)) (b .gone) w t) in
-          if-not _ _ t ∙ (λ j. record { searched = sym t j; steps = kept j .steps; question = kept j .question })
+      → one.turn q (report b) (b .gone) (standing (rowsOf (w .losses) (w .shakes) (w .numbers)) rows) ≡ turn b w q
+  unfolding inRows
+  turned-is rows all = ap (one.turn q (report b) (b .gone)) (all ∙ rows-alone w 1024)
 
   -- A question that takes no report and loses none stays.
-  pub turn-still : takes q (b .loss % 4096) (b .shake % 4096) || lists q (b .gone) ≡ false → record { searched = false; steps = 0; question = q } ≡ turn b w q
-  turn-still e =
-      let both = or-neither (takes q (b .loss % 4096) (b .shake % 4096)) (lists q (b .gone)) e in
-      let same = listed-not q (report b) (both .0) in
-      let kept = sym (ap (λ p. refreshed p (b .gone) w) same ∙ refreshed-kept q (b .gone) w (both .1)) in
-      let not = sym (ap (λ p. lists p (b .gone)) same ∙ both .1) in
-      λ j. record { searched = not j; steps = kept j .steps; question = kept j .question }
-    where
-      or-neither : (x y : Bool) → x || y ≡ false → (x ≡ false) × (y ≡ false)
-      or-neither true y h = clash {b = true} refl h
-      or-neither false y h = (refl, h)
+  pub turn-stays : takes q (b .loss % 4096) (b .shake % 4096) || lists q (b .gone) ≡ false → record { searched = false; steps = 0; question = q } ≡ turn b w q
+  turn-stays e = sym (turn-still q (report b) (b .gone) (inRows w) e)
 
   -- A slot with no k and no lines takes no report, and lists none.
   pub turn-idle : isIdle q ≡ true → record { searched = false; steps = 0; question = q } ≡ turn b w q
-  unfolding lists
-  turn-idle e =
-      let both = and-both (eqb (q .k) 0) (eqb (q .len) 0) e in
-      let k = eqb-true (q .k) 0 (both .0) in
-      let len = eqb-true (q .len) 0 (both .1) in
-      let empty : shown q ≡ 0 = omega (arith, len) in
-      turn-still (rw (takes-no-place q (b .loss % 4096) (b .shake % 4096) (place-none q (score (q .weights) (b .loss % 4096) (b .shake % 4096)) (omega (arith, k)) empty), no-lines q empty) (and-false (not (eqb (b .gone) 0))))
+  turn-idle e = turn-stays (idle-untouched q (b .gone) (b .loss % 4096) (b .shake % 4096) e)
 
 -- ---- what a frame's answer brings
 
@@ -138,7 +111,7 @@ module _ (log : Log) where
       go (failed t) z = absurd (z (rw t))
 
   pub enter-so : (loss shake : ℕ) → enterRefusal (w .entered) loss shake ≡ 0
-      → enterItem log loss shake ≡ record { text = sLines (log .items) 0 (map (isSearched w loss shake) (log .board .slots)) (map (λ q. entering w loss shake q .steps) (log .board .slots)); log = withBoard log (record { window = added w loss shake; slots = map (λ q. entering w loss shake q .question) (log .board .slots) }) }
+      → enterItem log loss shake ≡ record { text = sLines (log .items) 0 (map (λ q. turned w loss shake q .searched) (log .board .slots)) (map (λ q. turned w loss shake q .steps) (log .board .slots)); log = withBoard log (record { window = added w loss shake; slots = map (λ q. turned w loss shake q .question) (log .board .slots) }) }
   unfolding enterItem enterWork unless
   enter-so loss shake e = rw (eq-eqb (enterRefusal (w .entered) loss shake) 0 e)
 
@@ -146,7 +119,6 @@ module _ (log : Log) where
   entered-done : (a : Answer) → (gives a .number ≡ 0 → ⊥) → {window : Window} {slots : List Question} {n at₀ at : ℕ} {out₀ out : List ℕ} → window ≡ added w (gives a .loss) (gives a .shake)
       → length (log .board .slots) ≤ n → Turning (turn (gives a) window) (log .items) (log .board .slots) out₀ at₀ n slots at out
       → answered log a ≡ record { text = cond (gives a .refused) (rLine (log .items) (gives a .code)) [] ++ told (turn (gives a) window) (log .items) (log .board .slots) out₀ at₀ n; log = withBoard log (record { window = window; slots = slots }) }
-  unfolding entering isSearched
   entered-done a some {window} {slots} {n} {at₀} {at} {out₀} {out} grown all t =
       let old = log .board .slots in
       let b = gives a in
@@ -155,9 +127,9 @@ module _ (log : Log) where
       let l : b .loss % 4096 ≡ b .loss = mod-eq-of-lt (omega (arith, may .loss-fits)) in
       let s : b .shake % 4096 ≡ b .shake = mod-eq-of-lt (omega (arith, may .shake-fits)) in
       let f = turn b window in
-      let slots-are = filled-all (λ q. f q .question) old n slots all (t .first) ∙ (λ i. map (λ q. refreshed (listed q (record { number = e .next i; loss = l i; shake = s i })) (e .oldest i) (grown i) .question) old) in
-      let again-are = take-all n (map (λ q. f q .searched) old) (omega (arith, length-map old (λ q. f q .searched))) ∙ (λ i. map (λ q. lists (listed q (record { number = e .next i; loss = l i; shake = s i })) (e .oldest i)) old) in
-      let steps-are = take-all n (map (λ q. f q .steps) old) (omega (arith, length-map old (λ q. f q .steps))) ∙ (λ i. map (λ q. refreshed (listed q (record { number = e .next i; loss = l i; shake = s i })) (e .oldest i) (grown i) .steps) old) in
+      let slots-are = filled-all (λ q. f q .question) old n slots all (t .first) ∙ (λ i. map (λ q. one.turn q (record { number = e .next i; loss = l i; shake = s i }) (e .oldest i) (inRows (grown i)) .question) old) in
+      let again-are = take-all n (map (λ q. f q .searched) old) (omega (arith, length-map old (λ q. f q .searched))) ∙ (λ i. map (λ q. one.turn q (record { number = e .next i; loss = l i; shake = s i }) (e .oldest i) (inRows (grown i)) .searched) old) in
+      let steps-are = take-all n (map (λ q. f q .steps) old) (omega (arith, length-map old (λ q. f q .steps))) ∙ (λ i. map (λ q. one.turn q (record { number = e .next i; loss = l i; shake = s i }) (e .oldest i) (inRows (grown i)) .steps) old) in
       e .is ∙ enter-so (b .loss) (b .shake) (e .free)
       ∙ sym (λ i. record { text = cond (e .silent i) (rLine (log .items) (b .code)) [] ++ sLines (log .items) 0 (again-are i) (steps-are i); log = withBoard log (record { window = grown i; slots = slots-are i }) })
 

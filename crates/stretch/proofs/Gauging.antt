@@ -10,10 +10,9 @@ use lib.ListN.{length, getD, set, drop}
 use lib.Seq.{getD-drop}
 use Rattle.window.specs.declared.Window.{Window}
 use Rattle.question.specs.declared.Question.{Question}
-use Rattle.board.specs.declared.gauge.Gauge.{Gauge}
-use Rattle.board.specs.Work.{noQuestion}
-use Rattle.board.specs.Gauges.{gaugeOf, isQuiet, isIdle, inUse}
-use Rattle.board.proofs.Gauges.{quiet-untouched, used-blank, used-few}
+use Rattle.slot.specs.declared.gauge.Gauge.{Gauge}
+use Rattle.slot.specs.Gauges.{noQuestion, gaugeOf, isIdle, inUse}
+use Rattle.slot.proofs.Gauges.{used-blank, used-few}
 
 -- The gauges are those of the slots, and from the bound on the slots are idle.
 pub record Gauged (slots : List Question) (gauges : List Gauge) (used : ℕ) : Type 0 where

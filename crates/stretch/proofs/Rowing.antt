@@ -13,7 +13,7 @@ use Rattle.window.specs.declared.Window.{Window}
 use Rattle.window.specs.Rows.{standing}
 use Rattle.window.proofs.Standing.{standing-end}
 use Rattle.question.proofs.Taking.{if-so, if-not}
-use Rattle.board.proofs.Gauges.{used-few, used-blank}
+use Rattle.slot.proofs.Gauges.{used-few, used-blank}
 use Rattle.stretch.specs.Inner.{rowsUsed, withRow}
 
 pub record Rowed (numbers : List ℕ) (rows : ℕ) : Type 0 where

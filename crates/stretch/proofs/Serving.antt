@@ -10,19 +10,20 @@ use borrow.Author.Tests.{lt-ltb, eq-eqb, ne-eqb, eqb-false}
 use lib.Dec.{eqb}
 use lib.ListN.{length, getD, set}
 use lib.Seq.{set-getD}
-use Rattle.ranking.specs.declared.Weights.{Weights}
+use Rattle.ranking.specs.Standing.{Held}
 use Rattle.ranking.proofs.Tests.{Tested, passed, failed, tested}
-use Rattle.window.specs.declared.Window.{Window}
-use Rattle.window.specs.Rows.{sized}
+use Rattle.window.specs.Rows.{sized, standing}
 use Rattle.window.proofs.Fitness.{size-range}
 use Rattle.question.specs.declared.Question.{Question}
 use Rattle.question.specs.Lines.{rowsOf}
 use Rattle.question.proofs.Taking.{if-so, if-not}
 use Rattle.board.specs.declared.Board.{Board}
 use Rattle.board.specs.declared.Placed.{Placed}
-use Rattle.board.specs.declared.Seated.{Seated}
-use Rattle.board.specs.Work.{noQuestion, slotAt, withSlot, setRefusal, setWork, setIn, slotRefusal, removeWork, readWork, emptied}
-use Rattle.board.proofs.Seats.{set-seated}
+use Rattle.slot.specs.declared.Seated.{Seated}
+use Rattle.slot.specs.Asking.{setIn, emptied, readIn}
+use Rattle.slot.specs.Gauges.{noQuestion}
+use Rattle.board.specs.Work.{slotAt, withSlot, setWork, removeWork, readWork}
+use Rattle.board.proofs.Seats.{set-seated, set-kept}
 use Rattle.text.specs.Text.{rLine, sLine}
 use Rattle.journal.specs.declared.Log.{Log}
 use Rattle.journal.specs.Log.{Outcome, nextItem, counted, withBoard, unless, known, itemRefusal, weightsIn, setItem, removeItem, showItem, byTag, itemDone}
@@ -34,7 +35,7 @@ Known tag v = ((tag ≡ 20) × (length v ≡ 1)) ⊎ (((tag ≡ 19) × (length v
 
 -- ---- by the tag
 
-module _ (tag item : ℕ) (v : List ℕ) (q : Question) (w : Window) where
+module _ (tag item : ℕ) (v : List ℕ) (q : Question) (w : List Held) where
   pub served-show : tag ≡ 20 → served tag item v q w ≡ record { text = shownText item (getD v 0 0) q; question = q }
   unfolding served
   served-show e = if-so _ _ (eq-eqb tag 20 e)
@@ -57,15 +58,6 @@ one-byte [] e = absurd (omega arith)
 one-byte (x ∷ []) e = refl
 one-byte (x ∷ y ∷ l) e = absurd (omega arith)
 
--- A refused question leaves the board.
-set-kept : (b : Board) (slot k : ℕ) (weights : Weights) → eqb (setWork b slot k weights .refusal) 0 ≡ false → setWork b slot k weights .board ≡ b
-unfolding setWork
-set-kept b slot k weights h = go (tested (eqb (setRefusal b slot k weights) 0))
-  where
-    go : Tested (eqb (setRefusal b slot k weights) 0) → setWork b slot k weights .board ≡ b
-    go (passed t) = absurd (eqb-false 0 0 (rw t at h) refl)
-    go (failed t) = rw t
-
 module _ (log : Log) (window : sized (log .board .window .size) ≡ true) where
   pub some-rows : log .board .window .size ≡ 0 → ⊥
   some-rows e = let range = size-range (log .board .window .size) window in absurd (omega (arith, range .0, e))
@@ -73,8 +65,8 @@ module _ (log : Log) (window : sized (log .board .window .size) ≡ true) where
   abbrev b : Board
   b = log .board
 
-  abbrev rows : Window
-  rows = rowsOf (b .window .losses) (b .window .shakes) (b .window .numbers)
+  abbrev rows : List Held
+  rows = standing (rowsOf (b .window .losses) (b .window .shakes) (b .window .numbers)) 1024
 
   abbrev n : ℕ
   n = nextItem (log .items)
@@ -87,7 +79,7 @@ module _ (log : Log) (window : sized (log .board .window .size) ≡ true) where
   same-slot s = λ i. withBoard (counted log) (record { window = b .window; slots = sym (set-getD (b .slots) s noQuestion) i })
 
   show-done : (s : ℕ) → s < 32 → itemDone log 20 (s ∷ []) ≡ record { text = shownText n s (slotAt b s); log = counted log }
-  unfolding itemDone itemRefusal known byTag showItem readWork slotRefusal unless shownText
+  unfolding itemDone itemRefusal known byTag showItem readWork readIn unless shownText
   show-done s h = go (tested (eqb (slotAt b s .k) 0))
     where
       go : Tested (eqb (slotAt b s .k) 0) → itemDone log 20 (s ∷ []) ≡ record { text = shownText n s (slotAt b s); log = counted log }
@@ -95,7 +87,7 @@ module _ (log : Log) (window : sized (log .board .window .size) ≡ true) where
       go (failed t) = rw (ne-eqb (b .window .size) 0 some-rows) (rw (lt-ltb s 32 h, t))
 
   remove-done : (s : ℕ) → s < 32 → itemDone log 19 (s ∷ []) ≡ record { text = cond (eqb (slotAt b s .k) 0) (rLine n 17) []; log = holding s (emptied (slotAt b s)) }
-  unfolding itemDone itemRefusal known byTag removeItem removeWork slotRefusal unless emptied
+  unfolding itemDone itemRefusal known byTag removeItem removeWork unless emptied
   remove-done s h = go (tested (eqb (slotAt b s .k) 0))
     where
       go : Tested (eqb (slotAt b s .k) 0) → itemDone log 19 (s ∷ []) ≡ record { text = cond (eqb (slotAt b s .k) 0) (rLine n 17) []; log = holding s (emptied (slotAt b s)) }
@@ -112,7 +104,7 @@ module _ (log : Log) (window : sized (log .board .window .size) ≡ true) where
   set-done v long few {seated} e =
       let s = getD v 0 0 in
       let placed : setWork b s (getD v 1 0) (weightsIn v) ≡ record { refusal = seated .refusal; steps = seated .steps; board = withSlot b s (seated .question) } = set-seated b s (getD v 1 0) (weightsIn v) few e in
-      let same : eqb (seated .refusal) 0 ≡ false → withSlot b s (seated .question) ≡ b = λ t. sym (ap (λ (p : Placed). p .board) placed) ∙ set-kept b s (getD v 1 0) (weightsIn v) (ap (λ (p : Placed). eqb (p .refusal) 0) placed ∙ t) in
+      let same : eqb (seated .refusal) 0 ≡ false → withSlot b s (seated .question) ≡ b = λ t. sym (ap (λ (p : Placed). p .board) placed) ∙ set-kept b s (getD v 1 0) (weightsIn v) (eqb-false _ 0 (ap (λ (p : Placed). eqb (p .refusal) 0) placed ∙ t)) in
       set-known v long ∙ ap (λ (p : Placed). unless (counted log) (p .refusal) (record { text = sLine n s (p .steps); log = withBoard (counted log) (p .board) })) placed
       ∙ go (tested (eqb (seated .refusal) 0)) same
     where

@@ -11,14 +11,14 @@ use Rattle.wire.specs.Bytes.{part}
 use Rattle.wire.proofs.Fields.{length-part}
 use Rattle.ranking.proofs.Tests.{and-both}
 use Rattle.window.specs.declared.Window.{Window}
-use Rattle.window.specs.Rows.{sized, added}
+use Rattle.window.specs.Rows.{sized, standing, added}
 use Rattle.question.specs.declared.Question.{Question}
 use Rattle.question.specs.Lines.{rowsOf}
 use Rattle.board.specs.declared.Board.{Board}
-use Rattle.board.specs.declared.gauge.Gauge.{Gauge}
-use Rattle.board.specs.Work.{noQuestion}
-use Rattle.board.specs.Gauges.{gaugeOf, isQuiet, isIdle, inUse}
-use Rattle.board.proofs.Gauges.{quiet-untouched}
+use Rattle.slot.specs.declared.gauge.Gauge.{Gauge}
+use Rattle.slot.specs.Gauges.{noQuestion, gaugeOf, isQuiet, isIdle, inUse}
+use Rattle.slot.specs.Turn as one
+use Rattle.slot.proofs.Gauges.{quiet-untouched}
 use Rattle.joining.specs.Room.{sessionsIn, roomOf}
 use Rattle.joining.specs.Run.{sessionsAfter, answerTo}
 use Rattle.joining.proofs.Rooms.{next-room}
@@ -27,13 +27,13 @@ use Rattle.text.proofs.Places.{Put, put, then}
 use Rattle.journal.specs.declared.Log.{Log}
 use Rattle.journal.specs.Log.{nextItem, frameIn, itemDone}
 use Rattle.stretch.specs.declared.Brought.{Brought}
-use Rattle.stretch.specs.declared.Turned.{Turned}
+use Rattle.slot.specs.declared.Turned.{Turned}
 use Rattle.stretch.specs.Coming.{sizeAt, comes, hasRoom}
-use Rattle.stretch.specs.Inner.{served, Serves, brought, Stored, turned}
+use Rattle.stretch.specs.Inner.{served, Serves, brought, Stored}
 use Rattle.stretch.specs.Doing.{Did, Runs, itemAt}
 use Rattle.stretch.proofs.Coming.{Item, Slot, has-window, a-frame, for-slot}
 use Rattle.stretch.proofs.Serving.{slot-here}
-use Rattle.stretch.proofs.Frames.{report, turn, turned-is, turn-still, turn-idle, frame-none, row-in, row-takes, frame-enters}
+use Rattle.stretch.proofs.Frames.{report, turn, turned-is, turn-stays, turn-idle, frame-none, row-in, row-takes, frame-enters}
 use Rattle.stretch.proofs.Turns.{Turning, turning-none, turning-more, turning-still, turning-rest, still-old}
 use Rattle.stretch.proofs.Gauging.{Gauged, gauged-of, gauge-at, gauges-set}
 use Rattle.stretch.proofs.Rowing.{Rowed, rowed-with, rowed-all}
@@ -87,13 +87,13 @@ module _ {b : Brought} {w : Window} {items rows : ℕ} {slots₀ : List Question
           small = t .small;
           all-slots = t .all-slots;
           same = t .same;
-          turning = turning-still (turn b w) items slots₀ out₀ at₀ (t .turning) below (t .small) (place-fits (t .turning .printed)) (turn-still b w (getD slots n noQuestion) (quiet-untouched (getD slots n noQuestion) (b .gone) (b .loss % 4096) (b .shake % 4096) quiet));
+          turning = turning-still (turn b w) items slots₀ out₀ at₀ (t .turning) below (t .small) (place-fits (t .turning .printed)) (turn-stays b w (getD slots n noQuestion) (quiet-untouched (getD slots n noQuestion) (b .gone) (b .loss % 4096) (b .shake % 4096) quiet));
           each = t .each;
           rowed = t .rowed;
         }
 
     -- A slot that has its turn.
-    pub turns-more : {r : Turned} {g : Gauge} {at₁ : ℕ} {out₁ : List ℕ} → r ≡ turned (getD slots n noQuestion) (report b) (b .gone) (rowsOf (w .losses) (w .shakes) (w .numbers)) (min rows 1024)
+    pub turns-more : {r : Turned} {g : Gauge} {at₁ : ℕ} {out₁ : List ℕ} → r ≡ one.turn (getD slots n noQuestion) (report b) (b .gone) (standing (rowsOf (w .losses) (w .shakes) (w .numbers)) (min rows 1024))
         → (at₁ ≡ behind at (cond (r .searched) (sLine items n (r .steps)) [])) × (out₁ ≡ sets out at (cond (r .searched) (sLine items n (r .steps)) [])) → g ≡ gaugeOf (r .question)
         → Turns b w items rows slots₀ used out₀ at₀ (n + 1) (set slots n (r .question)) (set gauges n g) at₁ out₁
     turns-more {r} e p f =
@@ -139,7 +139,7 @@ module _ (log₀ : Log) (bytes out₀ : List ℕ) (at₀ : ℕ) where
 
     -- An item for a slot.
     pub stands-slot : (tag ≡ 18 → ⊥) → {v : List ℕ} {s : ℕ} {q : Question} {g : Gauge} {used₁ at₁ i₁ : ℕ} {out₁ : List ℕ} → v ≡ part (i + 3) (sizeAt bytes i) bytes → s ≡ getD v 0 0
-        → Serves (served tag items₁ v (getD slots s noQuestion) (rowsOf (w .losses) (w .shakes) (w .numbers))) out at q at₁ out₁ → g ≡ gaugeOf q → used₁ ≡ inUse 32 (set slots s q) → i₁ ≡ i + (3 + length v)
+        → Serves (served tag items₁ v (getD slots s noQuestion) (standing (rowsOf (w .losses) (w .shakes) (w .numbers)) 1024)) out at q at₁ out₁ → g ≡ gaugeOf q → used₁ ≡ inUse 32 (set slots s q) → i₁ ≡ i + (3 + length v)
         → Stands items₁ w rows (set slots s q) (set gauges s g) used₁ bus i₁ at₁ out₁
     stands-slot other {v} {s} {q} {g} {used₁} {at₁} {i₁} e-v e-s d e-g e-used e-i =
         let c = slot-there other in

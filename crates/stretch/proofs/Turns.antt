@@ -8,13 +8,13 @@ use native.Mathlib.Omega.{arith}
 use lib.ListN.{length, getD, set, take, drop, length-map, List·getD-map}
 use lib.Seq.{drop-drop, drop-set-lt, getD-drop, set-getD}
 use Rattle.question.specs.declared.Question.{Question}
-use Rattle.board.specs.Work.{noQuestion}
-use Rattle.board.proofs.Filling.{Filled, filled-none, filled-more}
+use Rattle.slot.specs.Gauges.{noQuestion}
+use Rattle.slot.proofs.Filling.{Filled, filled-none, filled-more}
 use Rattle.text.specs.Text.{sLine}
 use Rattle.text.proofs.Places.{Put, then, said, none}
 use Rattle.journal.specs.Log.{sLines}
 use Rattle.journal.proofs.Searches.{lines-more, lines-none}
-use Rattle.stretch.specs.declared.Turned.{Turned}
+use Rattle.slot.specs.declared.Turned.{Turned}
 
 module _ (turn : Question → Turned) (items : ℕ) (old : List Question) (out₀ : List ℕ) (at₀ : ℕ) where
   abbrev pub told : ℕ → List ℕ

@@ -7,19 +7,17 @@ use lib.ListN.{getD, set, take}
 use lib.Seq.{sets}
 use lib.Dec.{leb, eqb}
 use Rattle.ranking.specs.Standing.{Held}
-use Rattle.window.specs.declared.Window.{Window}
 use Rattle.window.specs.Rows.{placeFor}
 use Rattle.question.specs.declared.Question.{Question}
-use Rattle.question.specs.Lines.{searchedFirst}
-use Rattle.board.specs.Work.{arrival, setIn, emptied, listed, lists}
-use Rattle.board.specs.Gauges.{upToLast}
+use Rattle.slot.specs.Asking.{setIn, emptied}
+use Rattle.slot.specs.Gauges.{upToLast}
+use Rattle.board.specs.Work.{arrival}
 use Rattle.text.specs.Text as text
 use Rattle.text.specs.Text.{rLine, qLine, sLine, behind}
 use Rattle.journal.specs.Log.{weightsIn}
 use Rattle.joining.specs.declared.Answer.{Answer}
 use Rattle.joining.specs.declared.Answer.the-variants.{Refused, Kept, Complete}
 use Rattle.stretch.specs.declared.Brought.{Brought}
-use Rattle.stretch.specs.declared.Turned.{Turned}
 
 -- How many of the first n rows there are up to the last one that holds a report.
 abbrev pub rowsUsed : ℕ → List ℕ → ℕ
@@ -49,12 +47,12 @@ pub record Served : Type 0 where
   pub text : List ℕ
   pub question : Question
 
--- "20 length 1, show slot"; "19 length 1, remove slot"; "17 length 6, slot, k, a, b".
-unfoldable pub served : (tag item : ℕ) → List ℕ → Question → Window → Served
-served tag item v q w =
+-- "20 length 1, show slot"; "19 length 1, remove slot"; "17 length 6, slot, k, a, b", over these reports.
+unfoldable pub served : (tag item : ℕ) → List ℕ → Question → List Held → Served
+served tag item v q reports =
     cond (eqb tag 20) (record { text = shownText item (getD v 0 0) q; question = q })
     (cond (eqb tag 19) (record { text = cond (eqb (q .k) 0) (rLine item 17) []; question = emptied q })
-    (let seated = setIn q (getD v 1 0) (weightsIn v) w in
+    (let seated = setIn q (getD v 1 0) (weightsIn v) reports in
     record { text = seatedText item (getD v 0 0) (seated .refusal) (seated .steps); question = seated .question }))
 
 -- Its text is stored from `at` on, and this is what the slot holds then.
@@ -71,11 +69,3 @@ brought (Complete r) size entered held =
     let a = arrival size entered held (r .loss) (r .shake) in
     let p = placeFor size entered held in
     record { refused = not (eqb (a .refusal) 0); code = a .refusal; number = a .number; gone = a .oldest; loss = r .loss; shake = r .shake; row = p .row; held = p .held }
-
--- A question's turn: the report is added, and where the one that is gone is listed, the question is searched over the first rows.
-unfoldable pub turned : Question → Held → (gone : ℕ) → Window → (rows : ℕ) → Turned
-turned q h gone w rows =
-    cond (lists (listed q h) gone)
-    (let found = searchedFirst (listed q h) w rows in
-    record { searched = true; steps = found .steps; question = found .question })
-    (record { searched = false; steps = 0; question = listed q h })

@@ -10,18 +10,22 @@ ghost use Rattle.wire.specs.Bytes.{part};
 ghost use Rattle.text.specs.Text.{behind, rLine};
 ghost use Rattle.joining.specs.Room.{sessionsIn, roomOf};
 ghost use Rattle.joining.specs.Run.{sessionsAfter, answerTo};
+ghost use Rattle.window.specs.Rows.{standing};
 ghost use Rattle.question.specs.Lines.{rowsOf};
+ghost use Rattle.slot.specs.Turn.{turn};
 ghost use Rattle.journal.specs.Log.{frameIn};
 ghost use Rattle.stretch.specs.Coming.{sizeAt, itemComes, slotComes, comes, hasRoom};
-ghost use Rattle.stretch.specs.Inner.{rowsUsed, Stored, shownText, seatedText, served, Serves, brought, turned};
+ghost use Rattle.stretch.specs.Inner.{rowsUsed, Stored, shownText, seatedText, served, Serves, brought};
 ghost use Rattle.stretch.specs.Doing.{Does, Runs};
 use board::Arrival;
 use board::Board;
-use board::Gauge;
 use joining::Answer;
 use joining::Bus;
 use journal::Log;
 use question::Question;
+use slot::Gauge;
+use slot::Shown;
+use slot::Turned;
 use window::Window;
 
 // The log that the items leave, how many bytes they have, and the place behind their text.
@@ -56,13 +60,6 @@ struct Ended {
 struct Slot {
     question: Question,
     at: usize,
-}
-
-// What a question's turn leaves of it; whether it was searched, and in how many steps.
-struct Turned {
-    searched: bool,
-    steps: u16,
-    question: Question,
 }
 
 impl Stretch {
@@ -312,7 +309,7 @@ fn serve<'a>(
     out: &mut [u8],
     at: usize,
 ) -> Slot
-    ensures { λ r. ⌜ Serves (served tag item (now (value .entry)) held (rowsOf (now (losses .entry)) (now (shakes .entry)) (now (numbers .entry)))) (now (out .entry)) at (r .question) (r .at) (now (out .exit)) ⌝ }
+    ensures { λ r. ⌜ Serves (served tag item (now (value .entry)) held (standing (rowsOf (now (losses .entry)) (now (shakes .entry)) (now (numbers .entry))) 1024)) (now (out .entry)) at (r .question) (r .at) (now (out .exit)) ⌝ }
 {
     if tag == Log::SHOW {
         return Slot {
@@ -322,12 +319,12 @@ fn serve<'a>(
     }
     if tag == Log::REMOVE {
         return Slot {
-            question: board::emptied(held),
-            at: put_refusal(out, at, item, held.k == 0, Board::EMPTY),
+            question: slot::emptied(held),
+            at: put_refusal(out, at, item, held.k == 0, Shown::EMPTY),
         };
     }
     let weights = journal::weights_in(value);
-    let seated = board::set_in(held, wire::byte(value, 1), weights, losses, shakes, numbers);
+    let seated = slot::set_in(held, wire::byte(value, 1), weights, losses, shakes, numbers);
     let question = seated.question;
     Slot {
         question,
@@ -348,7 +345,7 @@ fn put_shown(out: &mut [u8], at: usize, item: u64, slot: u8, question: Question)
     ensures { λ _. ⌜ now (out .exit) ≡ sets (now (out .entry)) at (shownText item slot question) ⌝ }
 {
     if question.k == 0 {
-        return text::put_r(out, at, item, Board::EMPTY);
+        return text::put_r(out, at, item, Shown::EMPTY);
     }
     let numbers = question.numbers;
     let scores = question.scores;
@@ -428,8 +425,7 @@ fn not_brought(refused: bool, code: u8) -> Brought
     }
 }
 
-// A question's turn where a report enters: it is put on the list if the list takes it, and where the report that is gone is listed,
-// the question is searched afresh over the first rows of those that are lent. Of the values the low 12 bits count.
+// A question's turn where a report enters, over the first rows of those that are lent.
 fn turn<'a>(
     question: Question,
     brought: Brought,
@@ -438,21 +434,17 @@ fn turn<'a>(
     numbers: &'a [u32; 1024],
     rows: usize,
 ) -> Turned
-    ensures { λ r. ⌜ r ≡ turned question (record { number = brought .number; loss = brought .loss % 4096; shake = brought .shake % 4096 }) (brought .gone) (rowsOf (now (losses .entry)) (now (shakes .entry)) (now (numbers .entry))) (min rows 1024) ⌝ }
+    ensures { λ r. ⌜ r ≡ turn question (record { number = brought .number; loss = brought .loss % 4096; shake = brought .shake % 4096 }) (brought .gone) (standing (rowsOf (now (losses .entry)) (now (shakes .entry)) (now (numbers .entry))) (min rows 1024)) ⌝ }
 {
-    let with = board::listed(question, brought.number, brought.loss, brought.shake);
-    if board::lists(with, brought.gone) {
-        let found = with.searched_in(losses, shakes, numbers, rows);
-        let left = found.question;
-        return Turned {
-            searched: true,
-            steps: found.steps,
-            question: left,
-        };
-    }
-    Turned {
-        searched: false,
-        steps: 0,
-        question: with,
-    }
+    slot::turn(
+        question,
+        brought.number,
+        brought.loss,
+        brought.shake,
+        brought.gone,
+        losses,
+        shakes,
+        numbers,
+        rows,
+    )
 }

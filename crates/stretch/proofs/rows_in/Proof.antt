@@ -6,7 +6,7 @@ use native.Mathlib.Omega.{arith}
 use borrow.Author.Tests.{eq-eqb, ne-eqb}
 use lib.Dec.{eqb}
 use Rattle.stretch.specs.Inner.{rowsUsed}
-use Rattle.board.proofs.Gauges.{none-used, used-here, used-below}
+use Rattle.slot.proofs.Gauges.{none-used, used-here, used-below}
 use Rattle.stretch.proofs.rows_in.Statement.{statement}
 use Rattle.stretch.proofs.rows_in.Tie as tie
 

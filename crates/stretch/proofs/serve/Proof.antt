@@ -8,7 +8,8 @@ use denote.Ref.{now}
 use Rattle.text.specs.Text.{behind}
 use Rattle.question.specs.declared.Question.{Question}
 use Rattle.question.specs.Lines.{rowsOf}
-use Rattle.board.specs.Work.{setIn}
+use Rattle.window.specs.Rows.{standing}
+use Rattle.slot.specs.Asking.{setIn}
 use Rattle.stretch.specs.Inner.{Served, Serves, shownText, seatedText}
 use Rattle.stretch.proofs.Serving.{served-show, served-remove, served-set}
 use borrow.Author.Needs.{needs}
@@ -33,7 +34,7 @@ same-length c = search needs
 returns : tie.Need-returns
 returns c =
     let a = c .before .before .before .before .before .before .before .before .args in
-    serves (served-show (a .tag) (a .item) (now (a .value)) (a .held) (rowsOf (now (a .losses)) (now (a .shakes)) (now (a .numbers))) (c .before .before .before .before .before .if1 .taken))
+    serves (served-show (a .tag) (a .item) (now (a .value)) (a .held) (standing (rowsOf (now (a .losses)) (now (a .shakes)) (now (a .numbers))) 1024) (c .before .before .before .before .before .if1 .taken))
     (ap (λ (n : ℕ). shownText (a .item) n (a .held)) (c .before .before .before .byte .ensures)) refl (c .before .before .put-shown .ensures)
 
 emptied-requires : tie.Need-emptied-requires
@@ -48,7 +49,7 @@ same-length-2 c = search needs
 returns-2 : tie.Need-returns-2
 returns-2 c =
     let a = c .before .before .before .before .before .before .before .before .before .before .args in
-    serves (served-remove (a .tag) (a .item) (now (a .value)) (a .held) (rowsOf (now (a .losses)) (now (a .shakes)) (now (a .numbers))) (c .before .before .before .before .before .before .before .if1 .left) (c .before .before .before .before .before .before .if2 .taken))
+    serves (served-remove (a .tag) (a .item) (now (a .value)) (a .held) (standing (rowsOf (now (a .losses)) (now (a .shakes)) (now (a .numbers))) 1024) (c .before .before .before .before .before .before .before .if1 .left) (c .before .before .before .before .before .before .if2 .taken))
     refl (c .before .before .before .before .before .emptied .ensures) (c .before .before .put-refusal .ensures)
 
 weights-in-requires : tie.Need-weights-in-requires
@@ -72,7 +73,7 @@ same-length-3 c = search needs
 returns-3 : tie.Need-returns-3
 returns-3 c =
     let a = c .before .before .before .before .before .before .before .before .before .before .before .before .before .args in
-    let rows = rowsOf (now (a .losses)) (now (a .shakes)) (now (a .numbers)) in
+    let rows = standing (rowsOf (now (a .losses)) (now (a .shakes)) (now (a .numbers))) 1024 in
     let k = c .before .before .before .before .before .before .before .byte2 .ensures in
     let weights = c .before .before .before .before .before .before .before .before .weights-in .ensures in
     let set = c .before .before .before .before .before .before .set-in in

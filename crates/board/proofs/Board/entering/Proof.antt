@@ -1,22 +1,23 @@
 -- The loop fills three arrays, and when it ends they hold what entering leaves of every question.
 -- Assumes nothing.
 use mathlib.Core.Path.{_≡_, refl, sym, _∙_}
-use mathlib.Core.Logic.{⊎-elim}
 use Prim.Native.Nat.{_-_, _≤_, _<_}
 use native.Mathlib.Omega.{arith}
 use lib.ListN.{length, length-map}
 use Rattle.board.proofs.Refusals.{Enterable, enterable}
-use Rattle.board.proofs.Filling.{Turned, turned-none, turned-more, refreshed-searched, refreshed-kept, turned-all}
-use borrow.Author.Needs.{needs}
+use Rattle.window.specs.Rows.{standing}
+use Rattle.question.specs.Lines.{rowsOf}
+use Rattle.board.proofs.Filling.{Turns, turns-none, turns-more, low, turns-all}
 use borrow.Author.Needs.{needs}
 use Rattle.board.proofs.Board.entering.Statement.{statement}
 use Rattle.board.proofs.Board.entering.Tie as tie
 
 abbrev Inv-loop : tie.InvT-loop
-Inv-loop loss shake old number oldest window slots₀ searched₀ steps₀ i₀ slots searched steps i = (i ≤ 32) × (length old ≡ 32) × Turned loss shake old number oldest window i slots searched steps
+Inv-loop loss shake old number gone window slots₀ searched₀ steps₀ i₀ slots searched steps i =
+    (i ≤ 32) × (length old ≡ 32) × Turns (low number loss shake) old gone (standing (rowsOf (window .losses) (window .shakes) (window .numbers)) 1024) i slots searched steps
 
 abbrev μ-loop : tie.MeasureT-loop
-μ-loop loss shake old number oldest window slots₀ searched₀ steps₀ i₀ slots searched steps i = 32 - i
+μ-loop loss shake old number gone window slots₀ searched₀ steps₀ i₀ slots searched steps i = 32 - i
 
 module _ (start : tie.Start Inv-loop μ-loop) where
   may-enter : Enterable (start .args .self .window .entered) (start .args .loss) (start .args .shake)
@@ -38,22 +39,16 @@ loop-holds : tie.Need-loop-holds Inv-loop μ-loop
 loop-holds c =
     let start = c .before .before .before .before .before .before in
     let n = all-slots start in
-    (omega arith, n, turned-none _ _ _ _ _ _ _ _ _ refl (sym n) (sym n))
+    (omega arith, n, turns-none _ _ _ _ _ _ _ refl (sym n) (sym n))
 
-mul-listed : tie.Need-mul-listed Inv-loop μ-loop
-mul-listed c = omega arith
+mul-turn : tie.Need-mul-turn Inv-loop μ-loop
+mul-turn c = omega arith
 
-array-copy-out-listed : tie.Need-array-copy-out-listed Inv-loop μ-loop
-array-copy-out-listed c = omega arith
+array-copy-out-turn : tie.Need-array-copy-out-turn Inv-loop μ-loop
+array-copy-out-turn c = omega arith
 
-listed-requires : tie.Need-listed-requires Inv-loop μ-loop
-listed-requires c κs = search needs
-
-lists-requires : tie.Need-lists-requires Inv-loop μ-loop
-lists-requires c κs = search needs
-
-searched-requires : tie.Need-searched-requires Inv-loop μ-loop
-searched-requires c κs = search needs
+turn-requires : tie.Need-turn-requires Inv-loop μ-loop
+turn-requires c κs = search needs
 
 mul-slots : tie.Need-mul-slots Inv-loop μ-loop
 mul-slots c = omega arith
@@ -78,23 +73,16 @@ loop-less c = omega arith
 
 loop-again : tie.Need-loop-again Inv-loop μ-loop
 loop-again c =
-    let l = c .before .before .before .before .before .before in
+    let l = c .before .before .before .before .before .before .before .before in
     let start = l .before .before .before .before .before .before .before in
     let below : l .loop .i < length (start .args .self .slots) = omega (arith, l .loop .inv .1) in
-    let came = c .before .if1 .came in
-    let again = c .before .before .lists .ensures in
-    let found =
-    ⊎-elim
-    (λ w. w .2 ∙ w .1 .ensures ∙ sym (refreshed-searched _ _ _ (sym again ∙ w .0 .taken)))
-    (λ w. w .1 ∙ sym (refreshed-kept _ _ _ (sym again ∙ w .0 .left)))
-    came in
-    (omega arith, l .loop .inv .1, turned-more (start .args .loss) (start .args .shake) (start .args .self .slots) _ _ _ (l .loop .i) below (l .loop .slots) (l .loop .searched) (l .loop .steps) (l .loop .inv .2) _ _ _ (c .before .before .before .listed .ensures) again found)
+    (omega arith, l .loop .inv .1, turns-more _ _ _ _ below (l .loop .inv .2) (c .before .turn .result) (c .before .turn .ensures))
 
 returns : tie.Need-returns Inv-loop μ-loop
 returns c =
     let l = c .before in
     let start = l .before .before .before .before .before .before .before in
-    turned-all (start .args .self) (start .args .loss) (start .args .shake) (start .pre) (l .before .before .before .leaving .ensures) (l .before .before .with .ensures) (omega (arith, l .loop .inv .1)) (l .loop .inv .2)
+    turns-all (start .args .self) (start .args .loss) (start .args .shake) (start .pre) (l .before .before .before .leaving .ensures) (l .before .before .with .ensures) (omega (arith, l .loop .inv .1)) (l .loop .inv .2)
 
 pub entering-spec : {M : Type 1} → statement M
 entering-spec =
@@ -106,11 +94,9 @@ entering-spec =
     leaving-requires
     with-requires
     loop-holds
-    mul-listed
-    array-copy-out-listed
-    listed-requires
-    lists-requires
-    searched-requires
+    mul-turn
+    array-copy-out-turn
+    turn-requires
     mul-slots
     array-set-from-slots
     array-write-searched

@@ -16,13 +16,13 @@ returns : tie.Need-returns
 unfolding readCall
 returns c = rw (sym (c .before .before .fit .ensures) ∙ c .before .if1 .taken) (c .read-known .ensures)
 
-not-shown-requires : tie.Need-not-shown-requires
-not-shown-requires c κs = search needs
+refused-requires : tie.Need-refused-requires
+refused-requires c κs = search needs
 
 returns-2 : tie.Need-returns-2
 unfolding readCall
-returns-2 c = rw (sym (c .before .before .fit .ensures) ∙ c .before .if1 .left) (c .not-shown .ensures)
+returns-2 c = rw (sym (c .before .before .fit .ensures) ∙ c .before .if1 .left) (c .refused .ensures)
 
 pub read-spec : {M : Type 1} → statement M
 read-spec =
-    tie.close (tie.spec fit-requires read-known-requires returns not-shown-requires returns-2)
+    tie.close (tie.spec fit-requires read-known-requires returns refused-requires returns-2)

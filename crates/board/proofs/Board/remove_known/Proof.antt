@@ -1,37 +1,37 @@
--- The slot emptied, or the refusal.
+-- There is no such slot, or it is emptied as the slot answers.
 -- Assumes nothing.
 use mathlib.Core.Path.{sym, ap, _∙_}
-use Rattle.board.proofs.Refusals.{zero-is, zero-not, slot-there}
-use Rattle.board.specs.Work.{withSlot, removeWork}
+use Rattle.board.proofs.Seats.{remove-nowhere, remove-there}
+use Rattle.board.specs.Work.{withSlot}
 use borrow.Author.Needs.{needs}
 use Rattle.board.proofs.Board.remove_known.Statement.{statement}
 use Rattle.board.proofs.Board.remove_known.Tie as tie
 
-slot-refusal-requires : tie.Need-slot-refusal-requires
-slot-refusal-requires c κs = search needs
-
 returns : tie.Need-returns
-unfolding removeWork
-returns c =
-    let at = c .before in
-    sym (zero-not _ _ (λ z. c .if1 .taken (at .slot-refusal .ensures ∙ z)) ∙ ap (λ r. record { refusal = r; board = at .before .args .self }) (sym (at .slot-refusal .ensures)))
+returns c = let a = c .before .args in sym (remove-nowhere (a .self) (a .slot) (c .if1 .taken))
 
-fresh-requires : tie.Need-fresh-requires
-fresh-requires c κs = search needs
+mul-question : tie.Need-mul-question
+mul-question c = search needs
+
+array-copy-out-question : tie.Need-array-copy-out-question
+array-copy-out-question c = search needs
+
+empty-refusal-requires : tie.Need-empty-refusal-requires
+empty-refusal-requires c κs = search needs
+
+emptied-requires : tie.Need-emptied-requires
+emptied-requires c κs = search needs
 
 with-slot-requires : tie.Need-with-slot-requires
-with-slot-requires c κs =
-    let at = c .before .before in
-    slot-there (at .before .args .self) (at .before .args .slot) (sym (at .slot-refusal .ensures) ∙ c .before .if1 .left)
+with-slot-requires c κs = search needs
 
 returns-2 : tie.Need-returns-2
-unfolding removeWork
 returns-2 c =
-    let at = c .before .before .before in
-    let start = at .before .args in
-    ap (λ b. record { refusal = 0; board = b }) (c .with-slot .ensures ∙ ap (withSlot (start .self) (start .slot)) (c .before .fresh .ensures))
-    ∙ sym (zero-is _ _ (sym (at .slot-refusal .ensures) ∙ c .before .before .if1 .left))
+    let a = c .before .before .before .before .before .before .args in
+    let left = c .with-slot .ensures ∙ ap (withSlot (a .self) (a .slot)) (c .before .emptied .ensures) in
+    (λ i. record { refusal = c .before .before .empty-refusal .ensures i; board = left i })
+    ∙ sym (remove-there (a .self) (a .slot) (search needs))
 
 pub remove-known-spec : {M : Type 1} → statement M
 remove-known-spec =
-    tie.close (tie.spec slot-refusal-requires returns fresh-requires with-slot-requires returns-2)
+    tie.close (tie.spec returns mul-question array-copy-out-question empty-refusal-requires emptied-requires with-slot-requires returns-2)

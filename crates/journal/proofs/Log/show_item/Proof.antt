@@ -3,7 +3,7 @@
 use mathlib.Core.Path.{refl, ap, ap₂, _∙_}
 use Prim.Native.Nat.{ℕ}
 use lib.ListN.{take}
-use Rattle.board.specs.declared.Shown.{Shown}
+use Rattle.slot.specs.declared.Shown.{Shown}
 use Rattle.board.specs.Work.{readWork}
 use Rattle.text.specs.Text.{qLine, listed}
 use Rattle.journal.specs.Log.{Outcome, showItem}

@@ -1,0 +1,114 @@
+-- What one question does with a report that enters: the tests of the definitions, read off the stored lines.
+-- Assumes nothing.
+use mathlib.Core.Path.{_≡_, refl, sym, ap, _∙_}
+use mathlib.Core.Bool.{true, false, not, _&&_, and-true, and-false}
+use mathlib.Core.List.{List, [], _∷_, map}
+use Prim.Native.Nat.{ℕ, zero, suc, _+_, min, _≤_, _<_}
+use native.Mathlib.Numerals.{add-one}
+use native.Mathlib.Omega.{arith}
+use borrow.Author.Tests.{lt-ltb, le-ltb}
+use lib.Dec.{ltb}
+use lib.IntN.{ℤ, pos}
+use lib.ListN.{length, take, drop, getD, length-take}
+use lib.Seq.{drop-cons, getD-take}
+use lib.Signed.{leZ}
+use Rattle.ranking.specs.Cells.{cell, score}
+use Rattle.ranking.specs.Standing.{Held, Entry, entry}
+use Rattle.question.specs.declared.Question.{Question}
+use Rattle.question.specs.Lines.{linesOf, lines, withEntry, cutToK, isMarked}
+use Rattle.question.specs.Calls.{allOf}
+use Rattle.question.specs.Inner.{shown}
+use Rattle.question.proofs.Stored.{Roomy, last-line, no-lines, take-min}
+use Rattle.slot.specs.Turn.{hasPlace, takes, listed, later, lists}
+
+module _ (q : Question) (s : ℤ) where
+  pub place-short : q .len < q .k → hasPlace q s ≡ true
+  unfolding hasPlace
+  place-short h = rw (lt-ltb (q .len) (q .k) h)
+
+  module _ (full : q .k ≤ q .len) where
+    pub place-none : shown q ≡ 0 → hasPlace q s ≡ false
+    unfolding hasPlace
+    place-none e = rw (le-ltb (q .len) (q .k) full, no-lines q e)
+
+    pub place-last : Roomy (q .numbers) (q .scores) → (i : ℕ) → i + 1 ≡ shown q → hasPlace q s ≡ leZ (getD (q .scores) i (pos 0)) s
+    unfolding hasPlace
+    place-last r i e = rw (le-ltb (q .len) (q .k) full) (last-line q r i e (λ x. leZ (x .score) s))
+
+module _ (q : Question) (loss shake : ℕ) where
+  pub takes-both : hasPlace q (score (q .weights) loss shake) ≡ true → isMarked q (cell loss shake) ≡ takes q loss shake
+  unfolding takes
+  takes-both p = sym (rw p (and-true (isMarked q (cell loss shake))))
+
+  pub takes-unmarked : isMarked q (cell loss shake) ≡ false → takes q loss shake ≡ false
+  unfolding takes
+  takes-unmarked m = rw m
+
+  pub takes-no-place : hasPlace q (score (q .weights) loss shake) ≡ false → takes q loss shake ≡ false
+  unfolding takes
+  takes-no-place p = rw p (and-false (isMarked q (cell loss shake)))
+
+module _ (q : Question) (h : Held) where
+  pub listed-taken : isMarked q (cell (h .loss) (h .shake)) ≡ true → hasPlace q (score (q .weights) (h .loss) (h .shake)) ≡ true → listed q h ≡ cutToK (withEntry q (entry (q .weights) h))
+  unfolding listed takes
+  listed-taken m p = rw (m, p)
+
+  pub listed-unmarked : isMarked q (cell (h .loss) (h .shake)) ≡ false → listed q h ≡ q
+  unfolding listed takes
+  listed-unmarked m = rw m
+
+  pub listed-no-place : isMarked q (cell (h .loss) (h .shake)) ≡ true → hasPlace q (score (q .weights) (h .loss) (h .shake)) ≡ false → listed q h ≡ q
+  unfolding listed takes
+  listed-no-place m p = rw (m, p)
+
+  pub listed-taking : takes q (h .loss) (h .shake) ≡ true → listed q h ≡ cutToK (withEntry q (entry (q .weights) h))
+  unfolding listed
+  listed-taking t = rw t
+
+  pub listed-not : takes q (h .loss) (h .shake) ≡ false → listed q h ≡ q
+  unfolding listed
+  listed-not t = rw t
+
+-- ---- whether a list has one that has gone
+
+numbers-of : (ns : List ℕ) (ss : List ℤ) (n : ℕ) → length ns ≡ length ss → map (λ e. e .number) (take n (linesOf ns ss)) ≡ take n ns
+numbers-of [] ss zero e = refl
+numbers-of [] ss (suc n) e = refl
+numbers-of (x ∷ ns) [] n e = absurd (omega arith)
+numbers-of (x ∷ ns) (y ∷ ss) zero e = refl
+numbers-of (x ∷ ns) (y ∷ ss) (suc n) e = let same : length ns ≡ length ss = omega arith in ap (λ l. x ∷ l) (numbers-of ns ss n same)
+
+-- the numbers of the lines stand at the front of their array
+pub front-numbers : (q : Question) → Roomy (q .numbers) (q .scores) → (n : ℕ) → n ≡ shown q → map (λ e. e .number) (lines q) ≡ take n (q .numbers)
+front-numbers q r n e =
+    numbers-of (q .numbers) (q .scores) (q .len) (r .numbers ∙ sym (r .scores))
+    ∙ sym (ap (λ m. take m (q .numbers)) e ∙ ap (λ m. take (min (q .len) m) (q .numbers)) (sym (r .numbers)) ∙ sym (take-min (q .len) (q .numbers)))
+
+pub later-numbers : (gone : ℕ) (l : List Entry) → allOf (later gone) l ≡ allOf (ltb gone) (map (λ e. e .number) l)
+later-numbers gone [] = refl
+later-numbers gone (x ∷ l) = ap (λ b. ltb gone (x .number) && b) (later-numbers gone l)
+
+pub lists-numbers : (q : Question) (gone : ℕ) → Roomy (q .numbers) (q .scores) → (n : ℕ) → n ≡ shown q → not (allOf (ltb gone) (take n (q .numbers))) ≡ lists q gone
+unfolding lists
+lists-numbers q gone r n e = ap not (sym (later-numbers gone (lines q) ∙ ap (allOf (ltb gone)) (front-numbers q r n e)))
+
+module _ (ns : List ℕ) (n i : ℕ) (fits : n ≤ length ns) (below : i < n) where
+  pub line-left : drop i (take n ns) ≡ getD ns i 0 ∷ drop (i + 1) (take n ns)
+  line-left =
+      let inside : i < length (take n ns) = omega (arith, length-take n ns) in
+      drop-cons (take n ns) i 0 inside ∙ ap (λ x. x ∷ drop (suc i) (take n ns)) (getD-take n ns i 0 below) ∙ ap (λ m. getD ns i 0 ∷ drop m (take n ns)) (sym (add-one i))
+
+  pub gone-here : (gone : ℕ) → getD ns i 0 ≤ gone → allOf (ltb gone) (drop i (take n ns)) ≡ false
+  gone-here gone h = ap (allOf (ltb gone)) line-left ∙ ap (λ b. b && allOf (ltb gone) (drop (i + 1) (take n ns))) (le-ltb gone (getD ns i 0) h)
+
+  pub gone-later : (gone : ℕ) → gone < getD ns i 0 → allOf (ltb gone) (drop i (take n ns)) ≡ allOf (ltb gone) (drop (i + 1) (take n ns))
+  gone-later gone h = ap (allOf (ltb gone)) line-left ∙ ap (λ b. b && allOf (ltb gone) (drop (i + 1) (take n ns))) (lt-ltb gone (getD ns i 0) h)
+
+pub none-left : (n : ℕ) (l : List ℕ) → drop n (take n l) ≡ []
+none-left zero [] = refl
+none-left zero (x ∷ l) = refl
+none-left (suc n) [] = refl
+none-left (suc n) (x ∷ l) = none-left n l
+
+pub gone-nowhere : (gone : ℕ) (ns : List ℕ) (n i : ℕ) → i ≡ n → allOf (ltb gone) (drop i (take n ns)) ≡ true
+gone-nowhere gone ns n i e = ap (λ m. allOf (ltb gone) (drop m (take n ns))) e ∙ ap (allOf (ltb gone)) (none-left n ns)

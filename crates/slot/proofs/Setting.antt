@@ -1,0 +1,99 @@
+-- Setting and removing in one slot: a refusal leaves what it holds, and a question that is set has the true list of the reports that it is searched over.
+-- Assumes nothing.
+use mathlib.Core.Path.{_≡_, sym, ap, _∙_, subst}
+use mathlib.Core.Bool.{true, false, cond, _&&_}
+use mathlib.Core.List.{List, []}
+use Prim.Native.Nat.{ℕ, _≤_}
+use native.Mathlib.Omega.{arith}
+use borrow.Author.Tests.{leb-true, eqb-true, eqb-false, eq-eqb, ne-eqb}
+use lib.Dec.{leb, eqb}
+use Rattle.ranking.specs.Cells.{inRange}
+use Rattle.ranking.specs.Standing.{Held}
+use Rattle.ranking.specs.declared.Weights.{Weights}
+use Rattle.ranking.proofs.Tests.{Tested, passed, failed, tested, clash, and-both}
+use Rattle.window.specs.declared.Window.{Window}
+use Rattle.window.specs.Rows.{heldReports, fitWindow}
+use Rattle.question.specs.declared.Question.{Question}
+use Rattle.question.specs.declared.Searched.{Searched}
+use Rattle.question.specs.Lines.{asked, emptySlot, inRows}
+use Rattle.question.proofs.Taking.{if-so, if-not}
+use Rattle.slot.specs.Asking.{searchedAmong, askRefusal, setIn, emptyRefusal, emptied}
+use Rattle.slot.specs.declared.Seated.{Seated}
+use Rattle.slot.proofs.Refusals.{no-refusal}
+use Rattle.slot.proofs.Standing.{Asks, Stands, search-stands}
+use Rattle.slot.proofs.Turns.{among-held, among-few}
+
+module _ (q : Question) (k : ℕ) (ws : Weights) (reports : List Held) where
+  set-taken : eqb (askRefusal (q .k) k ws) 0 ≡ true
+      → setIn q k ws reports ≡ record { refusal = 0; steps = searchedAmong (asked k ws [] 0) reports .steps; question = searchedAmong (asked k ws [] 0) reports .question }
+  unfolding setIn
+  set-taken e = if-so _ _ e
+
+  set-refused : eqb (askRefusal (q .k) k ws) 0 ≡ false → setIn q k ws reports ≡ record { refusal = askRefusal (q .k) k ws; steps = 0; question = q }
+  unfolding setIn
+  set-refused e = if-not _ _ e
+
+  -- The refusal is that of the table.
+  pub set-refusal : setIn q k ws reports .refusal ≡ askRefusal (q .k) k ws
+  set-refusal = go (tested (eqb (askRefusal (q .k) k ws) 0))
+    where
+      go : Tested (eqb (askRefusal (q .k) k ws) 0) → setIn q k ws reports .refusal ≡ askRefusal (q .k) k ws
+      go (passed t) = ap (λ (s : Seated). s .refusal) (set-taken t) ∙ sym (eqb-true (askRefusal (q .k) k ws) 0 t)
+      go (failed t) = ap (λ (s : Seated). s .refusal) (set-refused t)
+
+  pub set-few : setIn q k ws reports .steps ≤ 256
+  set-few = go (tested (eqb (askRefusal (q .k) k ws) 0))
+    where
+      go : Tested (eqb (askRefusal (q .k) k ws) 0) → setIn q k ws reports .steps ≤ 256
+      go (passed t) = subst (λ (s : Seated). s .steps ≤ 256) (sym (set-taken t)) (among-few (asked k ws [] 0) reports)
+      go (failed t) = subst (λ (s : Seated). s .steps ≤ 256) (sym (set-refused t)) (omega arith)
+
+  -- A refused question leaves the slot.
+  pub set-kept : (setIn q k ws reports .refusal ≡ 0 → ⊥) → setIn q k ws reports .question ≡ q
+  set-kept n = ap (λ (s : Seated). s .question) (set-refused (ne-eqb (askRefusal (q .k) k ws) 0 (λ e. n (set-refusal ∙ e))))
+
+  module _ (free : setIn q k ws reports .refusal ≡ 0) where
+    -- What can be set, and where.
+    pub set-asks : Asks k ws × (q .k ≡ 0)
+    set-asks =
+        let used : ℕ = cond (eqb (q .k) 0) 0 16 in
+        let t3 = inRange (ws .loss) && inRange (ws .shake) in
+        let r2 = no-refusal (leb 1 k && leb k 16) (cond t3 used 15) 13 (sym set-refusal ∙ free) in
+        let r3 = no-refusal t3 used 14 (r2 .1) in
+        let ks = and-both (leb 1 k) (leb k 16) (r2 .0) in
+        let both = and-both (inRange (ws .loss)) (inRange (ws .shake)) (r3 .0) in
+        (record { some = leb-true 1 k (ks .0); small = leb-true k 16 (ks .1); loss-range = both .0; shake-range = both .1 }, eqb-true (q .k) 0 (no-refusal (eqb (q .k) 0) 0 15 (r3 .1) .0))
+
+    -- "A question is searched when it is set."
+    pub set-searched : setIn q k ws reports ≡ record { refusal = 0; steps = searchedAmong (asked k ws [] 0) reports .steps; question = searchedAmong (asked k ws [] 0) reports .question }
+    set-searched = set-taken (eq-eqb (askRefusal (q .k) k ws) 0 (sym set-refusal ∙ free))
+
+-- Over the rows of a fit window.
+pub set-stands : (w : Window) → fitWindow w ≡ true → (q : Question) (k : ℕ) (ws : Weights) → setIn q k ws (inRows w) .refusal ≡ 0 → Stands (heldReports w) (setIn q k ws (inRows w) .question)
+set-stands w fit q k ws free =
+    let asks = set-asks q k ws (inRows w) free .0 in
+    subst (Stands (heldReports w))
+    (sym (ap (λ (s : Seated). s .question) (set-searched q k ws (inRows w) free) ∙ ap (λ (r : Searched). r .question) (among-held w fit (asked k ws [] 0) (asks .small))))
+    (search-stands w fit (asked k ws [] 0) asks)
+
+module _ (q : Question) where
+  -- An empty slot that is to be removed stays.
+  pub emptied-kept : (emptyRefusal (q .k) ≡ 0 → ⊥) → emptied q ≡ q
+  unfolding emptied
+  emptied-kept n = go (tested (eqb (q .k) 0)) n
+    where
+      go : Tested (eqb (q .k) 0) → (emptyRefusal (q .k) ≡ 0 → ⊥) → emptied q ≡ q
+      go (passed t) m = if-so _ _ t
+      go (failed t) m = absurd (m (if-not _ _ t))
+
+  -- "A removed slot equals a fresh one."
+  pub emptied-fresh : emptyRefusal (q .k) ≡ 0 → emptied q ≡ emptySlot
+  unfolding emptied
+  emptied-fresh e = go (tested (eqb (q .k) 0))
+    where
+      no : _≡_ {A = ℕ} 17 0 → ⊥
+      no z = omega arith
+
+      go : Tested (eqb (q .k) 0) → emptied q ≡ emptySlot
+      go (passed t) = absurd (no (sym (if-so _ _ t) ∙ e))
+      go (failed t) = if-not _ _ t

@@ -1,0 +1,227 @@
+-- One question's turn: what it answers, and that it leaves the true list of the reports that are left. The report is added where it can count; a list without one that has gone is the
+-- best k of those left too, and any other is searched afresh.
+-- Assumes nothing.
+use mathlib.Core.Path.{_≡_, refl, sym, ap, _∙_, subst}
+use mathlib.Core.Logic.{_↔_}
+use mathlib.Core.Bool.{Bool, true, false, not, cond, _&&_, _||_}
+use mathlib.Core.List.{List, [], _∷_, map, Memᴰ·map, Memᴰ·of-map}
+use Prim.Native.Nat.{ℕ, zero, suc, _≤_, _<_}
+use native.Mathlib.Omega.{arith}
+use borrow.Author.Tests.{ltb-true, ltb-false, le-ltb, not-true, not-false}
+use lib.Dec.{eqb, ltb, leb}
+use lib.ListN.{getD, take}
+use Rattle.ranking.specs.Best.{_∈_, best}
+use Rattle.ranking.specs.Cells.{cell, visiting, placeOf}
+use Rattle.ranking.specs.Standing.{Held, Entry, Permitted, above, entry, searchOf}
+use Rattle.ranking.specs.declared.Weights.{Weights}
+use Rattle.ranking.proofs.Tests.{Tested, passed, failed, tested, clash}
+use Rattle.ranking.proofs.Lists.{_⊆_, here, there, moved}
+use Rattle.ranking.proofs.Best.{best-of, best-part, length-best-le}
+use Rattle.ranking.proofs.Standing.{above-strict, steps-bounded}
+use Rattle.ranking.proofs.Guard.{Guarded}
+use Rattle.window.specs.declared.Window.{Window}
+use Rattle.window.specs.Rows.{heldReports, fitWindow, reportIn, standing}
+use Rattle.question.specs.declared.Question.{Question}
+use Rattle.question.specs.declared.Searched.{Searched}
+use Rattle.question.specs.Lines.{asked, lines, marked, stepsTaken, isMarked, emptySlot, searchedIn, inRows, searchedOn, searchedFirst, rowsOf}
+use Rattle.question.specs.Calls.{allOf}
+use Rattle.question.proofs.Stored.{lines-asked}
+use Rattle.question.proofs.Taking.{if-so, if-not}
+use Rattle.question.proofs.Listed.{all-in}
+use Rattle.question.proofs.Searches.{searched-held}
+use Rattle.slot.specs.Asking.{searchedAmong}
+use Rattle.slot.specs.Turn.{takes, listed, later, lists, turn}
+use Rattle.slot.specs.declared.Turned.{Turned}
+use Rattle.slot.proofs.Listing.{listed-not, takes-unmarked}
+use Rattle.slot.proofs.Gauges.{idle-untouched}
+use Rattle.slot.proofs.Standing.{top, taken, Stands, search-stands, listed-is, guard-more}
+
+-- ---- a search of some reports
+
+pub first-among : (q : Question) (w : Window) (n : ℕ) → searchedFirst q w n ≡ searchedAmong q (standing w n)
+unfolding searchedFirst
+first-among q w n = refl
+
+-- The arrays are all that a search reads of a window.
+pub rows-alone : (w : Window) (n : ℕ) → standing (rowsOf (w .losses) (w .shakes) (w .numbers)) n ≡ standing w n
+rows-alone w zero = refl
+rows-alone w (suc n) = ap (λ l. cond (eqb (getD (w .numbers) n 0) 0) l (reportIn w n ∷ l)) (rows-alone w n)
+
+pub among-held : (w : Window) → fitWindow w ≡ true → (q : Question) → q .k ≤ 16 → searchedAmong q (inRows w) ≡ searchedIn q (heldReports w)
+unfolding searchedOn
+among-held w fit q small = searched-held w fit q small
+
+pub among-few : (q : Question) (reports : List Held) → searchedAmong q reports .steps ≤ 256
+among-few q reports = go (tested (leb (q .k) 16))
+  where
+    go : Tested (leb (q .k) 16) → searchedAmong q reports .steps ≤ 256
+    go (passed t) = rw t (steps-bounded (q .weights) (q .k) reports)
+    go (failed t) = rw t (omega arith)
+
+-- ---- whether a list has one that has gone
+
+some-fails : {A : Type 0} (p : A → Bool) (l : List A) → allOf p l ≡ false → (x : A) × (x ∈ l) × (p x ≡ false)
+some-fails p [] e = clash {b = true} refl e
+some-fails {A} p (x ∷ l) e = go (tested (p x)) (some-fails p l)
+  where
+    go : Tested (p x) → (allOf p l ≡ false → (y : A) × (y ∈ l) × (p y ≡ false)) → (y : A) × (y ∈ x ∷ l) × (p y ≡ false)
+    go (failed t) rest = (x, here, t)
+    go (passed t) rest = let r = rest (sym (ap (λ b. b && allOf p l) t) ∙ e) in (r .0, there (r .1), r .2)
+
+-- The list names a report of a number up to that.
+pub lists-when : (q : Question) (gone : ℕ) → lists q gone ≡ true ↔ ((e : Entry) × (e ∈ lines q) × (e .number ≤ gone))
+unfolding lists
+lists-when q gone = (to, from)
+  where
+    to : not (allOf (later gone) (lines q)) ≡ true → (e : Entry) × (e ∈ lines q) × (e .number ≤ gone)
+    to t =
+        let r = some-fails (later gone) (lines q) (not-true _ t) in
+        (r .0, r .1, ltb-false gone (r .0 .number) (r .2))
+
+    from : (e : Entry) × (e ∈ lines q) × (e .number ≤ gone) → not (allOf (later gone) (lines q)) ≡ true
+    from r = go (tested (allOf (later gone) (lines q)))
+      where
+        go : Tested (allOf (later gone) (lines q)) → not (allOf (later gone) (lines q)) ≡ true
+        go (passed t) = clash (all-in (later gone) (lines q) t (r .0) (r .1)) (le-ltb gone (r .0 .number) (r .2))
+        go (failed t) = ap not t
+
+pub none-gone : (q : Question) (gone : ℕ) → lists q gone ≡ false → (e : Entry) → e ∈ lines q → gone < e .number
+unfolding lists
+none-gone q gone t e m = ltb-true gone (e .number) (all-in (later gone) (lines q) (not-false _ t) e m)
+
+-- ---- an added report changes the list only
+
+module _ (q : Question) (h : Held) where
+  pub record Same-but-list (p : Question) : Type 0 where
+    pub same-k : p .k ≡ q .k
+    pub same-weights : p .weights ≡ q .weights
+    pub same-next : p .next ≡ q .next
+
+  pub listed-keeps : Same-but-list (listed q h)
+  unfolding listed
+  listed-keeps = go (tested (takes q (h .loss) (h .shake)))
+    where
+      go : Tested (takes q (h .loss) (h .shake)) → Same-but-list (listed q h)
+      go (passed t) = subst Same-but-list (sym (if-so _ _ t)) (record { same-k = refl; same-weights = refl; same-next = refl })
+      go (failed t) = subst Same-but-list (sym (if-not _ _ t)) (record { same-k = refl; same-weights = refl; same-next = refl })
+
+-- ---- what a turn answers
+
+or-neither : (a b : Bool) → a || b ≡ false → (a ≡ false) × (b ≡ false)
+or-neither true b h = clash {b = true} refl h
+or-neither false b h = (refl, h)
+
+module _ (q : Question) (h : Held) (gone : ℕ) (reports : List Held) where
+  pub turn-searched : lists (listed q h) gone ≡ true
+      → turn q h gone reports ≡ record { searched = true; steps = searchedAmong (listed q h) reports .steps; question = searchedAmong (listed q h) reports .question }
+  unfolding turn
+  turn-searched e = if-so _ _ e
+
+  pub turn-kept : lists (listed q h) gone ≡ false → turn q h gone reports ≡ record { searched = false; steps = 0; question = listed q h }
+  unfolding turn
+  turn-kept e = if-not _ _ e
+
+  -- Searched exactly when one that has gone is on the list after the addition.
+  pub turn-when : turn q h gone reports .searched ≡ lists (listed q h) gone
+  turn-when = go (tested (lists (listed q h) gone))
+    where
+      go : Tested (lists (listed q h) gone) → turn q h gone reports .searched ≡ lists (listed q h) gone
+      go (passed t) = ap (λ (r : Turned). r .searched) (turn-searched t) ∙ sym t
+      go (failed t) = ap (λ (r : Turned). r .searched) (turn-kept t) ∙ sym t
+
+  pub turn-few : turn q h gone reports .steps ≤ 256
+  turn-few = go (tested (lists (listed q h) gone))
+    where
+      go : Tested (lists (listed q h) gone) → turn q h gone reports .steps ≤ 256
+      go (passed t) = subst (λ (r : Turned). r .steps ≤ 256) (sym (turn-searched t)) (among-few (listed q h) reports)
+      go (failed t) = subst (λ (r : Turned). r .steps ≤ 256) (sym (turn-kept t)) (omega arith)
+
+  -- A question that takes no report and loses none stays.
+  pub turn-still : takes q (h .loss) (h .shake) || lists q gone ≡ false → turn q h gone reports ≡ record { searched = false; steps = 0; question = q }
+  turn-still e =
+      let both = or-neither (takes q (h .loss) (h .shake)) (lists q gone) e in
+      let same = listed-not q h (both .0) in
+      turn-kept (ap (λ p. lists p gone) same ∙ both .1) ∙ ap (λ p. record { searched = false; steps = 0; question = p }) same
+
+  -- An entry changes no question without a mark on its cell, unless it lists one that has gone.
+  pub turn-untouched : isMarked q (cell (h .loss) (h .shake)) ≡ false → lists q gone ≡ false → turn q h gone reports ≡ record { searched = false; steps = 0; question = q }
+  turn-untouched off un = turn-still (rw (takes-unmarked q (h .loss) (h .shake) off, un))
+
+  module _ (e : turn q h gone reports .searched ≡ false) where
+    left-kept : turn q h gone reports ≡ record { searched = false; steps = 0; question = listed q h }
+    left-kept = turn-kept (sym turn-when ∙ e)
+
+    -- A question that is not searched takes no steps.
+    pub no-steps : turn q h gone reports .steps ≡ 0
+    no-steps = ap (λ (r : Turned). r .steps) left-kept
+
+    -- "Between searches marks stay as the last search left them."
+    pub marks-stay : marked (turn q h gone reports .question) ≡ marked q
+    unfolding marked stepsTaken
+    marks-stay =
+        let s = listed-keeps q h in
+        ap (λ (r : Turned). marked (r .question)) left-kept
+        ∙ (λ i. take (cond (ltb (s .same-next i) 256) (placeOf (s .same-weights i) (s .same-next i)) 256) (visiting (s .same-weights i)))
+
+pub empty-stays : (h : Held) (gone : ℕ) (reports : List Held) → turn emptySlot h gone reports ≡ record { searched = false; steps = 0; question = emptySlot }
+empty-stays h gone reports = turn-still emptySlot h gone reports (idle-untouched emptySlot gone (h .loss) (h .shake) refl)
+
+-- ---- the law
+
+-- Those of a number up to `gone` have gone: who is left was there or is new, and none of a number past it is missing.
+pub record Leaves (hs : List Held) (h : Held) (gone : ℕ) (left : List Held) : Type 0 where
+  pub among : left ⊆ h ∷ hs
+  pub stays : (r : Held) → r ∈ h ∷ hs → gone < r .number → r ∈ left
+
+map-⊆ : {A B : Type 0} (f : A → B) (l m : List A) → l ⊆ m → map f l ⊆ map f m
+map-⊆ f l m h y k = let r = Memᴰ·of-map f l k in moved (r .2) (Memᴰ·map f (h (r .0) (r .1)))
+
+-- A report enters where these stood, and some leave; a window holds what is left.
+module _ (hs : List Held) (h : Held) (permitted : Permitted h) (newest : (r : Held) → r ∈ hs → r .number < h .number) (q : Question) (s : Stands hs q) where
+  -- The question with the report added.
+  pub added-is : listed q h ≡ asked (s .k) (s .ws) (top (s .k) (s .ws) (h ∷ hs)) (s .next)
+  added-is = ap (λ p. listed p h) (s .is) ∙ listed-is hs (s .k) (s .ws) (s .next) (s .asks) (s .guarded) h permitted newest
+
+  -- Its list.
+  pub added-lines : lines (listed q h) ≡ top (s .k) (s .ws) (h ∷ hs)
+  added-lines =
+      ap lines added-is
+      ∙ lines-asked (s .k) (s .ws) (top (s .k) (s .ws) (h ∷ hs)) (s .next) (omega (arith, s .asks .small, length-best-le above above-strict (s .k) (map (entry (s .ws)) (h ∷ hs))))
+
+  module _ (gone : ℕ) (left : List Held) (leaves : Leaves hs h gone left) where
+    -- A list without one that has gone is the true list of those left.
+    pub kept-list : lists (listed q h) gone ≡ false → top (s .k) (s .ws) (h ∷ hs) ≡ top (s .k) (s .ws) left
+    kept-list none =
+        sym
+        (best-part above above-strict (s .k) (map (entry (s .ws)) left) (map (entry (s .ws)) (h ∷ hs)) (map-⊆ (entry (s .ws)) left (h ∷ hs) (leaves .among))
+        (λ e m.
+        let r = Memᴰ·of-map (entry (s .ws)) (h ∷ hs) (best-of above above-strict (s .k) (map (entry (s .ws)) (h ∷ hs)) e m) in
+        let after : gone < e .number = none-gone (listed q h) gone none e (subst (λ l. e ∈ l) (sym added-lines) m) in
+        let stays = leaves .stays (r .0) (r .1) (subst (λ (x : Entry). gone < x .number) (sym (r .2)) after) in
+        moved (r .2) (Memᴰ·map (entry (s .ws)) stays)))
+
+  module _ (w : Window) (fit : fitWindow w ≡ true) (gone : ℕ) (leaves : Leaves hs h gone (heldReports w)) where
+    -- What a turn leaves has the true list of the reports that the window holds, and marks that guard it.
+    pub turn-stands : Stands (heldReports w) (turn q h gone (inRows w) .question)
+    turn-stands = go (tested (lists (listed q h) gone))
+      where
+        p : Question
+        p = asked (s .k) (s .ws) (top (s .k) (s .ws) (h ∷ hs)) (s .next)
+
+        go : Tested (lists (listed q h) gone) → Stands (heldReports w) (turn q h gone (inRows w) .question)
+        go (passed t) =
+            subst (Stands (heldReports w))
+            (sym (ap (λ (r : Turned). r .question) (turn-searched q h gone (inRows w) t) ∙ ap (λ x. searchedAmong x (inRows w) .question) added-is ∙ ap (λ (r : Searched). r .question) (among-held w fit p (s .asks .small))))
+            (search-stands w fit p (s .asks))
+        go (failed t) =
+            let same = kept-list gone (heldReports w) leaves t in
+            subst (Stands (heldReports w)) (sym (ap (λ (r : Turned). r .question) (turn-kept q h gone (inRows w) t) ∙ added-is))
+            (record {
+              k = s .k;
+              ws = s .ws;
+              next = s .next;
+              asks = s .asks;
+              cell-range = s .cell-range;
+              is = ap (λ l. asked (s .k) (s .ws) l (s .next)) same;
+              guarded = subst (Guarded (searchOf (s .ws)) (s .k) (taken (s .ws) (s .next))) same (guard-more hs (s .k) (s .ws) (s .next) (s .asks) (s .guarded) h permitted newest);
+            })

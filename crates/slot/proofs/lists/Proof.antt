@@ -1,0 +1,88 @@
+-- The invariant: one that has gone is among the lines left if it is among all.
+-- Assumes nothing.
+use mathlib.Core.Path.{_≡_, refl, sym, ap, _∙_}
+use mathlib.Core.Bool.{not}
+use Prim.Native.Nat.{_-_, _≤_}
+use native.Mathlib.Omega.{arith}
+use lib.Dec.{ltb}
+use lib.ListN.{take, drop}
+use Rattle.question.specs.Calls.{allOf}
+use Rattle.question.proofs.Stored.{roomy}
+use Rattle.slot.proofs.Listing.{lists-numbers, gone-here, gone-later, gone-nowhere}
+use borrow.Author.Needs.{needs}
+use Rattle.slot.proofs.lists.Statement.{statement}
+use Rattle.slot.proofs.lists.Tie as tie
+
+abbrev Inv-loop : tie.InvT-loop
+Inv-loop gone n numbers i₀ i = (i ≤ n) × (allOf (ltb gone) (drop i (take n numbers)) ≡ allOf (ltb gone) (take n numbers))
+
+abbrev μ-loop : tie.MeasureT-loop
+μ-loop gone n numbers i₀ i = n - i
+
+lines-in-requires : tie.Need-lines-in-requires Inv-loop μ-loop
+lines-in-requires c κs = search needs
+
+loop-holds : tie.Need-loop-holds Inv-loop μ-loop
+loop-holds c = (omega arith, refl)
+
+mul-if1 : tie.Need-mul-if1 Inv-loop μ-loop
+mul-if1 c = omega arith
+
+array-read-if1 : tie.Need-array-read-if1 Inv-loop μ-loop
+array-read-if1 c = omega arith
+
+returns : tie.Need-returns Inv-loop μ-loop
+returns c =
+    let l = c .before .before in
+    let counted = l .before .before in
+    let start = counted .before in
+    let q = start .args .question in
+    let good = start .good .0 .1 .1 .1 .1 in
+    let r = roomy q (good .0 .1 .0 .1) (good .1 .0 .1 .0 .1) in
+    let here = gone-here (q .numbers) (counted .lines-in .result) (l .loop .i) (omega (arith, r .numbers, counted .lines-in .ensures)) (omega arith) (start .args .gone) (c .if1 .taken) in
+    ap not (sym here ∙ l .loop .inv .1)
+    ∙ lists-numbers q (start .args .gone) r (counted .lines-in .result) (counted .lines-in .ensures)
+
+add-i : tie.Need-add-i Inv-loop μ-loop
+add-i c = omega arith
+
+loop-less : tie.Need-loop-less Inv-loop μ-loop
+loop-less c = omega arith
+
+loop-again : tie.Need-loop-again Inv-loop μ-loop
+loop-again c =
+    let l = c .before .before in
+    let counted = l .before .before in
+    let start = counted .before in
+    let q = start .args .question in
+    let good = start .good .0 .1 .1 .1 .1 in
+    let r = roomy q (good .0 .1 .0 .1) (good .1 .0 .1 .0 .1) in
+    let later = gone-later (q .numbers) (counted .lines-in .result) (l .loop .i) (omega (arith, r .numbers, counted .lines-in .ensures)) (omega arith) (start .args .gone) (c .if1 .left) in
+    (omega arith, sym later ∙ l .loop .inv .1)
+
+returns-2 : tie.Need-returns-2 Inv-loop μ-loop
+returns-2 c =
+    let l = c .before in
+    let counted = l .before .before in
+    let start = counted .before in
+    let q = start .args .question in
+    let good = start .good .0 .1 .1 .1 .1 in
+    let r = roomy q (good .0 .1 .0 .1) (good .1 .0 .1 .0 .1) in
+    ap not (sym (gone-nowhere (start .args .gone) (q .numbers) (counted .lines-in .result) (l .loop .i) (omega arith)) ∙ l .loop .inv .1)
+    ∙ lists-numbers q (start .args .gone) r (counted .lines-in .result) (counted .lines-in .ensures)
+
+pub lists-spec : {M : Type 1} → statement M
+lists-spec =
+    tie.close
+    (tie.spec
+    Inv-loop
+    μ-loop
+    lines-in-requires
+    loop-holds
+    mul-if1
+    array-read-if1
+    returns
+    add-i
+    loop-less
+    loop-again
+    returns-2)

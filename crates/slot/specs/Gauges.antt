@@ -1,0 +1,59 @@
+-- What a report must pass to touch a question, read off its list.
+use Prim.Native.Nat.{ℕ, zero, suc, min}
+use mathlib.Core.Bool.{Bool, not, cond, _&&_}
+use mathlib.Core.List.{List, [], _∷_, map}
+use lib.ListN.{getD}
+use lib.Dec.{ltb, eqb}
+use lib.IntN.{ℤ, pos}
+use lib.Signed.{leZ}
+use Rattle.ranking.specs.Cells.{score}
+use Rattle.ranking.specs.Standing.{Entry}
+use Rattle.question.specs.declared.Question.{Question}
+use Rattle.question.specs.Lines.{lines}
+use Rattle.slot.specs.declared.gauge.Gauge.{Gauge}
+
+-- The last line's score; with no line, the largest that an `i32` holds.
+abbrev pub lastScore : List Entry → ℤ
+lastScore [] = pos 2147483647
+lastScore (x ∷ []) = x .score
+lastScore (x ∷ y ∷ ys) = lastScore (y ∷ ys)
+
+unfoldable pub leastOf : Question → ℤ
+leastOf q = lastScore (lines q)
+
+-- The lowest of some numbers; of none, the largest that a `u32` holds.
+abbrev pub lowest : List ℕ → ℕ
+lowest [] = 4294967295
+lowest (n ∷ ns) = min n (lowest ns)
+
+-- The lowest number on the list; 0 while the list has room, as no number is below that.
+unfoldable pub lowOf : Question → ℕ
+lowOf q = cond (ltb (q .len) (q .k)) 0 (lowest (map (λ e. e .number) (lines q)))
+
+abbrev pub gaugeOf : Question → Gauge
+gaugeOf q = record { weights = q .weights; least = leastOf q; low = lowOf q }
+
+-- The list is full, a report of these values has no place on it, and none of a number up to `gone` is on it.
+unfoldable pub isQuiet : Gauge → (gone loss shake : ℕ) → Bool
+isQuiet g gone loss shake = not (leZ (g .least) (score (g .weights) loss shake)) && ltb gone (g .low)
+
+-- What stands past the last slot.
+abbrev pub noQuestion : Question
+noQuestion = record { k = 0; weights = record { loss = pos 0; shake = pos 0 }; numbers = []; scores = []; len = 0; next = 0 }
+
+-- "A question has a slot 0 to 31."
+abbrev pub slotCount : ℕ
+slotCount = 32
+
+-- A slot with no k and no lines.
+abbrev pub isIdle : Question → Bool
+isIdle q = eqb (q .k) 0 && eqb (q .len) 0
+
+-- Of the first n places of a list, how many there are up to the last one that isn't blank.
+unfoldable pub upToLast : {A : Type 0} → (A → Bool) → A → ℕ → List A → ℕ
+upToLast blank d zero l = 0
+upToLast blank d (suc n) l = cond (blank (getD l n d)) (upToLast blank d n l) (suc n)
+
+-- How many of the first n slots there are up to the last one that isn't idle.
+abbrev pub inUse : ℕ → List Question → ℕ
+inUse n slots = upToLast isIdle noQuestion n slots

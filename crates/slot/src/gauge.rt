@@ -1,0 +1,126 @@
+// What a report must pass to touch a question, kept beside the slots: an entry reads a few bytes of each question that it
+// leaves alone.
+ghost use mathlib.Core.Path.{_≡_};
+ghost use mathlib.Core.Bool.{_&&_};
+ghost use mathlib.Core.List.{map};
+ghost use Prim.Native.Nat.{_%_, min};
+ghost use lib.Dec.{eqb};
+ghost use Rattle.slot.specs.Gauges.{leastOf, lowOf, gaugeOf, isQuiet, inUse};
+use crate::lines_in;
+use question::Question;
+use ranking::Weights;
+
+// The weights, the last score of the list, and the lowest number on it; 0 for that while the list has room, which no number is
+// below.
+pub struct Gauge {
+    pub weights: Weights,
+    pub least: i32,
+    pub low: u32,
+}
+
+impl Gauge {
+    // A gauge for each slot.
+    pub const SLOTS: usize = 32;
+
+    pub fn of(question: Question) -> Gauge
+        ensures { λ r. ⌜ r ≡ gaugeOf question ⌝ }
+    {
+        let weights = question.weights;
+        Gauge {
+            weights,
+            least: least(question),
+            low: low(question),
+        }
+    }
+
+    // A report of these values has no place on the list, and none of a number up to `gone` is on it.
+    pub fn quiet(self, gone: u32, loss: u16, shake: u16) -> bool
+        ensures { λ r. ⌜ r ≡ isQuiet self gone (loss % 4096) (shake % 4096) ⌝ }
+    {
+        let weights = self.weights;
+        if self.least <= weights.score(loss, shake) {
+            return false;
+        }
+        gone < self.low
+    }
+
+    // The gauge of each slot.
+    pub fn all(slots: [Question; Gauge::SLOTS]) -> [Gauge; Gauge::SLOTS]
+        ensures { λ r. ⌜ r ≡ map gaugeOf slots ⌝ }
+    {
+        let weights = Weights { loss: 0, shake: 0 };
+        let none = Gauge {
+            weights,
+            least: 0,
+            low: 0,
+        };
+        let mut gauges = [none; Gauge::SLOTS];
+        let mut i: usize = 0;
+        while i < Gauge::SLOTS {
+            let gauge = Gauge::of(slots[i]);
+            gauges[i] = gauge;
+            i += 1;
+        }
+        gauges
+    }
+
+    // How many slots there are up to the last one that has a k or a line.
+    pub fn in_use(slots: [Question; Gauge::SLOTS]) -> usize
+        ensures { λ r. ⌜ r ≡ inUse 32 slots ⌝ }
+    {
+        let mut used: usize = Gauge::SLOTS;
+        while 0 < used {
+            let last = used - 1;
+            if !idle(slots[last].k, slots[last].len) {
+                return used;
+            }
+            used = last;
+        }
+        0
+    }
+}
+
+// The list's last score; the largest there is, where it has no line.
+fn least(question: Question) -> i32
+    ensures { λ r. ⌜ r ≡ leastOf question ⌝ }
+{
+    let n = lines_in(question.len);
+    if n == 0 {
+        return 2147483647;
+    }
+    let scores = question.scores;
+    let last = n - 1;
+    scores[last]
+}
+
+// The lowest number on the list, or 0 while it has room.
+fn low(question: Question) -> u32
+    ensures { λ r. ⌜ r ≡ lowOf question ⌝ }
+{
+    let len = question.len;
+    if len < question.k {
+        return 0;
+    }
+    let numbers = question.numbers;
+    let mut low: u32 = 4294967295;
+    let mut i = lines_in(len);
+    while 0 < i {
+        let here = i - 1;
+        low = lower(numbers[here], low);
+        i = here;
+    }
+    low
+}
+
+fn lower(a: u32, b: u32) -> u32
+    ensures { λ r. ⌜ r ≡ min a b ⌝ }
+{
+    if a < b { a } else { b }
+}
+
+// A slot with no k and no lines: no report changes it.
+fn idle(k: u8, len: u8) -> bool
+    ensures { λ r. ⌜ r ≡ (eqb k 0 && eqb len 0) ⌝ }
+{
+    k == 0 && len == 0
+}

@@ -1,0 +1,296 @@
+// What setting, removing, reading and entering do to one slot: a standing question with its list, or none.
+ghost use mathlib.Core.Path.{_≡_};
+ghost use mathlib.Core.Bool.{_&&_, _||_};
+ghost use Prim.Native.Nat.{min, _%_};
+ghost use lib.IntN.{pos};
+ghost use lib.ListN.{replicate};
+ghost use Rattle.window.specs.Rows.{standing};
+ghost use Rattle.question.specs.Lines.{finished, rowsOf};
+ghost use Rattle.question.specs.Calls.{equal, fitQuestion};
+ghost use Rattle.slot.specs.Asking.{askRefusal, setIn, emptyRefusal, emptied, notShown, readIn};
+ghost use Rattle.slot.specs.Turn.{hasPlace, takes, listed, lists, turn};
+ghost use Rattle.slot.specs.Fitness.{isEmpty, slotFit};
+
+mod gauge;
+
+pub use gauge::Gauge;
+use question::Question;
+use ranking::Grid;
+use ranking::Weights;
+use window::Window;
+
+// What setting a question answers: the steps of its search, and what the slot holds then.
+pub struct Seated {
+    pub refusal: u8,
+    pub steps: u16,
+    pub question: Question,
+}
+
+// A list: its first `len` lines, and 0 past them.
+pub struct Shown {
+    pub refusal: u8,
+    pub len: u8,
+    pub numbers: [u32; 16],
+    pub scores: [i32; 16],
+}
+
+// What a report's entry leaves of a question: whether it was searched, the steps of that, and what the slot holds then.
+pub struct Turned {
+    pub searched: bool,
+    pub steps: u16,
+    pub question: Question,
+}
+
+impl Seated {
+    pub const LINES_OUT_OF_RANGE: u8 = 14;
+
+    pub const WEIGHT_OUT_OF_RANGE: u8 = 15;
+
+    pub const IN_USE: u8 = 16;
+}
+
+impl Shown {
+    pub const EMPTY: u8 = 17;
+
+    // The answer of a refused reading.
+    pub fn refused(refusal: u8) -> Shown
+        ensures { λ r. ⌜ r ≡ notShown refusal ⌝ }
+    {
+        let numbers = [0u32; 16];
+        let scores = [0i32; 16];
+        Shown {
+            refusal,
+            len: 0,
+            numbers,
+            scores,
+        }
+    }
+}
+
+// Sets a question in a slot that holds this one, and searches it over the rows that are lent. Refused 14, 15, 16.
+pub fn set_in<'a>(
+    question: Question,
+    k: u8,
+    weights: Weights,
+    losses: &'a [u16; Window::ROWS],
+    shakes: &'a [u16; Window::ROWS],
+    numbers: &'a [u32; Window::ROWS],
+) -> Seated
+    ensures { λ r. ⌜ r ≡ setIn question k weights (standing (rowsOf (now (losses .entry)) (now (shakes .entry)) (now (numbers .entry))) 1024) ⌝ }
+{
+    let refusal = ask_refusal(question.k, k, weights);
+    if refusal != 0 {
+        return Seated {
+            refusal,
+            steps: 0,
+            question,
+        };
+    }
+    let mut fresh = Question::fresh();
+    fresh.k = k;
+    fresh.weights = weights;
+    let found = fresh.searched_in(losses, shakes, numbers, Window::ROWS);
+    let placed = found.question;
+    Seated {
+        refusal: 0,
+        steps: found.steps,
+        question: placed,
+    }
+}
+
+// Why a question is not set in a slot that holds one of that k, or 0; 0 for no reason.
+fn ask_refusal(held: u8, k: u8, weights: Weights) -> u8
+    ensures { λ r. ⌜ r ≡ askRefusal held k weights ⌝ }
+{
+    if k < 1 {
+        return Seated::LINES_OUT_OF_RANGE;
+    }
+    if Question::LINES < k {
+        return Seated::LINES_OUT_OF_RANGE;
+    }
+    if !weights.fit() {
+        return Seated::WEIGHT_OUT_OF_RANGE;
+    }
+    if held == 0 { 0 } else { Seated::IN_USE }
+}
+
+// Why a slot that holds a question of that k, or 0, is not removed or read; 0 for no reason.
+pub fn empty_refusal(held: u8) -> u8
+    ensures { λ r. ⌜ r ≡ emptyRefusal held ⌝ }
+{
+    if held == 0 { Shown::EMPTY } else { 0 }
+}
+
+// What a slot holds that is removed; one that is empty stays.
+pub fn emptied(question: Question) -> Question
+    ensures { λ r. ⌜ r ≡ emptied question ⌝ }
+{
+    if question.k == 0 {
+        return question;
+    }
+    Question::fresh()
+}
+
+// The list of a slot. Refused 17.
+pub fn read_in(question: Question) -> Shown
+    ensures { λ r. ⌜ r ≡ readIn question ⌝ }
+{
+    if question.k == 0 {
+        return Shown::refused(Shown::EMPTY);
+    }
+    let numbers = question.numbers;
+    let scores = question.scores;
+    Shown {
+        refusal: 0,
+        len: question.len,
+        numbers,
+        scores,
+    }
+}
+
+// A report enters: the question lists it if its list takes it, and is searched afresh if it lists one that has gone, over the
+// first `rows` of the rows that are lent. The numbers up to `gone` have gone. Of the values the low 12 bits count.
+pub fn turn<'a>(
+    question: Question,
+    number: u32,
+    loss: u16,
+    shake: u16,
+    gone: u32,
+    losses: &'a [u16; Window::ROWS],
+    shakes: &'a [u16; Window::ROWS],
+    numbers: &'a [u32; Window::ROWS],
+    rows: usize,
+) -> Turned
+    ensures { λ r. ⌜
+        r ≡ turn question (record { number = number; loss = loss % 4096; shake = shake % 4096 }) gone
+        (standing (rowsOf (now (losses .entry)) (now (shakes .entry)) (now (numbers .entry))) (min rows 1024))
+        ⌝ }
+{
+    let with = listed(question, number, loss, shake);
+    if !lists(with, gone) {
+        return Turned {
+            searched: false,
+            steps: 0,
+            question: with,
+        };
+    }
+    let found = with.searched_in(losses, shakes, numbers, rows);
+    let left = found.question;
+    Turned {
+        searched: true,
+        steps: found.steps,
+        question: left,
+    }
+}
+
+// The question with a report more, if its list takes it. Of the values the low 12 bits count.
+fn listed(question: Question, number: u32, loss: u16, shake: u16) -> Question
+    ensures { λ r. ⌜ r ≡ listed question (record { number = number; loss = loss % 4096; shake = shake % 4096 }) ⌝ }
+{
+    if takes(question, loss, shake) {
+        return question.joined(number, question.weights.score(loss, shake));
+    }
+    question
+}
+
+// The question has a mark on the report's cell, and its list a place for the score.
+fn takes(question: Question, loss: u16, shake: u16) -> bool
+    ensures { λ r. ⌜ r ≡ takes question (loss % 4096) (shake % 4096) ⌝ }
+{
+    if has_place(question, question.weights.score(loss, shake)) {
+        return question.marked(Grid::cell(loss, shake));
+    }
+    false
+}
+
+// The list has fewer than k entries, or the score is at least its last entry's.
+fn has_place(question: Question, score: i32) -> bool
+    ensures { λ r. ⌜ r ≡ hasPlace question score ⌝ }
+{
+    let len = question.len;
+    if len < question.k {
+        return true;
+    }
+    let n = lines_in(len);
+    if n == 0 {
+        return false;
+    }
+    let scores = question.scores;
+    let last = n - 1;
+    scores[last] <= score
+}
+
+// How many lines a list of that length has.
+fn lines_in(len: u8) -> usize
+    ensures { λ r. ⌜ r ≡ min len 16 ⌝ }
+{
+    if len < Question::LINES {
+        len as usize
+    } else {
+        Question::LINES as usize
+    }
+}
+
+// The question lists a report of a number up to that one.
+fn lists(question: Question, gone: u32) -> bool
+    ensures { λ r. ⌜ r ≡ lists question gone ⌝ }
+{
+    let n = lines_in(question.len);
+    let numbers = question.numbers;
+    let mut i: usize = 0;
+    while i < n {
+        if numbers[i] <= gone {
+            return true;
+        }
+        i += 1;
+    }
+    false
+}
+
+// An empty slot, or a fit question whose search has ended.
+pub fn fit(question: Question, window: Window) -> bool
+    ensures { λ r. ⌜ r ≡ slotFit window question ⌝ }
+{
+    if is_empty(question) {
+        return true;
+    }
+    if question.fit(window) {
+        return question.finished();
+    }
+    false
+}
+
+// k is 0, and so is everything else.
+fn is_empty(question: Question) -> bool
+    ensures { λ r. ⌜ r ≡ isEmpty question ⌝ }
+{
+    let weights = question.weights;
+    if question.k != 0 {
+        return false;
+    }
+    if !no_weights(weights) {
+        return false;
+    }
+    if question.len != 0 {
+        return false;
+    }
+    if question.next != 0 {
+        return false;
+    }
+    question.rest_blank()
+}
+
+fn no_weights(weights: Weights) -> bool
+    ensures { λ r. ⌜ r ≡ (equal (weights .loss) (pos 0) && equal (weights .shake) (pos 0)) ⌝ }
+{
+    if is_zero(weights.loss) {
+        return is_zero(weights.shake);
+    }
+    false
+}
+
+fn is_zero(weight: i16) -> bool
+    ensures { λ r. ⌜ r ≡ equal weight (pos 0) ⌝ }
+{
+    weight == 0
+}
