@@ -73,7 +73,7 @@ module _ (log : Log) (w : Waiting) (piece room : List ℕ) where
   pub wrote : {r : Fed} {left : List ℕ} → Reached log → length room < 2 ^ 64 → Feeds log w piece room r left → take (r .written) left ≡ ran log w piece (r .taken) .text
   wrote {r} o small f = front-is room (ran log w piece (r .taken) .text) small (room-there (r .taken) o small (f .within) (f .roomy)) (f .place) (f .stored)
 
-  -- With a room of `Waiting::MOST` bytes a call takes at least one byte.
+  -- With a room of `Stretch::MOST` bytes a call takes at least one byte.
   pub goes-on : {r : Fed} {left : List ℕ} → 1 ≤ length piece → 1056 ≤ length room → Feeds log w piece room r left → 1 ≤ r .taken
   unfolding hasRoom behind run
   goes-on {r} some most f =
@@ -135,7 +135,7 @@ one-byte log w b room most =
       },
     )
 
--- For one, a byte at a time with rooms of `Waiting::MOST` bytes.
+-- For one, a byte at a time with rooms of `Stretch::MOST` bytes.
 pub some-program : (bytes : List ℕ) (log : Log) (w : Waiting) → (printed : List ℕ) × Program log w bytes printed
 some-program [] log w =
     let room : List ℕ = replicate 1056 0 in

@@ -6,5 +6,5 @@ pub mod Turns
 pub mod Frames
 pub mod Gauging
 pub mod Rowing
-pub mod Standing
+pub mod Stands
 pub mod Outcomes

@@ -9,10 +9,10 @@ use Rattle.wire.specs.Bytes.{part}
 use Rattle.text.specs.Text.{behind}
 use Rattle.journal.specs.declared.Log.{Log}
 use Rattle.journal.specs.Log.{Outcome, itemDone}
-use Rattle.board.specs.declared.Board.{Board}
+use Rattle.window.specs.declared.Window.{Window}
 use Rattle.joining.specs.Room.{sessionsIn}
 use Rattle.stretch.specs.declared.Stretch.{Stretch}
-use Rattle.stretch.specs.declared.Ended.{Ended}
+use Rattle.stretch.specs.declared.Standing.{Standing}
 use Rattle.stretch.specs.Coming.{sizeAt, comes, hasRoom}
 
 -- What the whole item at a place does.
@@ -49,9 +49,17 @@ pub record Does (log : Log) (bytes room : List ℕ) (at : ℕ) (r : Stretch) (le
   pub place : r .at ≡ behind at (all (length room) at log bytes .text)
   pub stored : left ≡ sets room at (all (length room) at log bytes .text)
 
--- The same with the sessions in bytes: the count, the board and the sessions are those of the log that the items leave.
-pub record Runs (items : ℕ) (board : Board) (bus bytes room : List ℕ) (at : ℕ) (r : Ended) (bus₁ left : List ℕ) : Type 0 where
-  pub leaves : _≡_ {A = Log} (record { items = r .items; board = r .board; sessions = sessionsIn bus₁ }) (all (length room) at (record { items = items; board = board; sessions = sessionsIn bus }) bytes .log)
-  pub taken : r .taken ≡ all (length room) at (record { items = items; board = board; sessions = sessionsIn bus }) bytes .next
-  pub place : r .at ≡ behind at (all (length room) at (record { items = items; board = board; sessions = sessionsIn bus }) bytes .text)
-  pub stored : left ≡ sets room at (all (length room) at (record { items = items; board = board; sessions = sessionsIn bus }) bytes .text)
+-- The window whose rows are these.
+abbrev pub windowOf : Window → (losses shakes numbers : List ℕ) → Window
+windowOf w losses shakes numbers = record { losses = losses; shakes = shakes; numbers = numbers; size = w .size; entered = w .entered; held = w .held }
+
+-- The log of which these bytes are the sessions.
+abbrev pub logIn : Standing → List ℕ → Log
+logIn s bus = record { items = s .items; board = s .board; sessions = sessionsIn bus }
+
+-- The same with the sessions in bytes.
+pub record Runs (from : Standing) (bus bytes room : List ℕ) (r : Standing) (bus₁ left : List ℕ) : Type 0 where
+  pub leaves : logIn r bus₁ ≡ all (length room) (from .at) (logIn from bus) bytes .log
+  pub taken : r .taken ≡ all (length room) (from .at) (logIn from bus) bytes .next
+  pub place : r .at ≡ behind (from .at) (all (length room) (from .at) (logIn from bus) bytes .text)
+  pub stored : left ≡ sets room (from .at) (all (length room) (from .at) (logIn from bus) bytes .text)

@@ -16,7 +16,7 @@ ghost use Rattle.slot.specs.Turn.{turn};
 ghost use Rattle.journal.specs.Log.{frameIn};
 ghost use Rattle.stretch.specs.Coming.{sizeAt, itemComes, slotComes, comes, hasRoom};
 ghost use Rattle.stretch.specs.Inner.{rowsUsed, Stored, shownText, seatedText, served, Serves, brought};
-ghost use Rattle.stretch.specs.Doing.{Does, Runs};
+ghost use Rattle.stretch.specs.Doing.{Does, Runs, windowOf};
 use board::Arrival;
 use board::Board;
 use joining::Answer;
@@ -48,8 +48,8 @@ struct Brought {
     held: u16,
 }
 
-// Where `run` ends: what the items leave of the count and the board, how many bytes they have, and the place behind their text.
-struct Ended {
+// Where `run` starts and ends: the items' count and the board, how many bytes were taken, and the place behind the text.
+struct Standing {
     items: u64,
     board: Board,
     taken: usize,
@@ -76,7 +76,13 @@ pub fn take(log: Log, bytes: &[u8], out: &mut [u8], at: usize) -> Stretch
     let sessions = log.sessions;
     let mut bus = [0u8; Bus::ROOM];
     Bus::fill(&mut bus, sessions);
-    let run = run(log.items, board, &mut bus, bytes, out, at);
+    let from = Standing {
+        items: log.items,
+        board,
+        taken: 0,
+        at,
+    };
+    let run = run(from, &mut bus, bytes, out);
     let left = run.board;
     let standing = Bus::read(&bus);
     Stretch {
@@ -109,17 +115,13 @@ pub fn has_room(room: usize, at: usize) -> bool
 
 // The same with the sessions in bytes. The window and the slots are locals here and nowhere handed on, so that an item
 // changes them where they stand; beside each slot stands its gauge.
-fn run(
-    mut items: u64,
-    board: Board,
-    bus: &mut [u8; 22098],
-    bytes: &[u8],
-    out: &mut [u8],
-    mut at: usize,
-) -> Ended
+fn run(from: Standing, bus: &mut [u8; 22098], bytes: &[u8], out: &mut [u8]) -> Standing
     requires { ⌜ length (now bus) ≡ 22098 ⌝ }
-    ensures { λ r. ⌜ Runs items board (now (bus .entry)) (now (bytes .entry)) (now (out .entry)) at r (now (bus .exit)) (now (out .exit)) ⌝ }
+    ensures { λ r. ⌜ Runs from (now (bus .entry)) (now (bytes .entry)) (now (out .entry)) r (now (bus .exit)) (now (out .exit)) ⌝ }
 {
+    let mut items = from.items;
+    let mut at = from.at;
+    let board = from.board;
     let mut window = board.window;
     let mut losses = window.losses;
     let mut shakes = window.shakes;
@@ -135,17 +137,8 @@ fn run(
         if tag != Log::FRAME {
             let value = value_at(bytes, i);
             let s = wire::byte(value, 0) as usize;
-            let slot = serve(
-                tag,
-                items,
-                value,
-                slots[s],
-                &losses,
-                &shakes,
-                &numbers,
-                out,
-                at,
-            );
+            let held = slots[s];
+            let slot = serve(tag, items, value, held, &losses, &shakes, &numbers, out, at);
             let left = slot.question;
             slots[s] = left;
             gauges[s] = Gauge::of(left);
@@ -154,13 +147,8 @@ fn run(
             i += 3 + value.len();
             continue;
         }
-        let brought = hear(
-            bus,
-            &bytes[i + 3..i + 15],
-            window.size,
-            window.entered,
-            window.held,
-        );
+        let frame = &bytes[i + 3..i + 15];
+        let brought = hear(bus, frame, window.size, window.entered, window.held);
         at = put_refusal(out, at, items, brought.refused, brought.code);
         i += 15;
         if brought.number == 0 {
@@ -184,13 +172,33 @@ fn run(
             gauges[here] = Gauge::of(left);
         }
     }
-    window.losses = losses;
-    window.shakes = shakes;
-    window.numbers = numbers;
-    Ended {
+    ended(items, window, losses, shakes, numbers, slots, i, at)
+}
+
+// Where the items end: the window with these rows, and the slots.
+fn ended(
+    items: u64,
+    window: Window,
+    losses: [u16; 1024],
+    shakes: [u16; 1024],
+    numbers: [u32; 1024],
+    slots: [Question; 32],
+    taken: usize,
+    at: usize,
+) -> Standing
+    ensures { λ r. ⌜ r ≡ record { items = items; board = record { window = windowOf window losses shakes numbers; slots = slots }; taken = taken; at = at } ⌝ }
+{
+    let mut left = window;
+    left.losses = losses;
+    left.shakes = shakes;
+    left.numbers = numbers;
+    Standing {
         items,
-        board: Board { window, slots },
-        taken: i,
+        board: Board {
+            window: left,
+            slots,
+        },
+        taken,
         at,
     }
 }

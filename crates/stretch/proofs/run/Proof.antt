@@ -8,30 +8,30 @@ use mathlib.Core.List.{List}
 use lib.ListN.{length, getD, take, drop, length-map}
 use Rattle.wire.specs.Bytes.{part}
 use Rattle.wire.proofs.Fields.{length-part}
-use Rattle.joining.specs.Room.{sessionsIn}
 use Rattle.stretch.specs.Coming.{sizeAt}
+use Rattle.stretch.specs.Doing.{windowOf, logIn}
 use Rattle.stretch.proofs.Coming.{Item, Slot}
 use Rattle.stretch.proofs.Going.{went-none}
 use Rattle.stretch.proofs.Gauging.{gauged-of}
 use Rattle.stretch.proofs.Rowing.{rowed-of}
-use Rattle.stretch.proofs.Standing.{Stands, Turns, windowOf, logOf, turns-quiet, turns-more, slot-there, frame-there, row-there, stands-slot, stands-none, turns-begin, stands-enters, stands-runs}
+use Rattle.stretch.proofs.Stands.{Stands, Turns, logOf, turns-quiet, turns-more, slot-there, frame-there, row-there, stands-slot, stands-none, turns-begin, stands-enters, stands-runs}
 use borrow.Author.Needs.{needs}
 use Rattle.stretch.proofs.run.Statement.{statement}
 use Rattle.stretch.proofs.run.Tie as tie
 
 abbrev Inv-loop2 : tie.InvT-loop2
-Inv-loop2 items bus bytes out₀ at₀ window losses shakes numbers rows slots₀ gauges₀ used i tag brought slot₀ out at slots gauges slot =
+Inv-loop2 bus bytes out₀ items at₀ window losses shakes numbers rows slots₀ gauges₀ used i tag brought slot₀ out at slots gauges slot =
     Turns brought (windowOf window losses shakes numbers) items rows slots₀ used out₀ at₀ slot slots gauges at out
 
 abbrev μ-loop2 : tie.MeasureT-loop2
-μ-loop2 items bus bytes out₀ at₀ window losses shakes numbers rows slots₀ gauges₀ used i tag brought slot₀ out at slots gauges slot = used - slot
+μ-loop2 bus bytes out₀ items at₀ window losses shakes numbers rows slots₀ gauges₀ used i tag brought slot₀ out at slots gauges slot = used - slot
 
 abbrev Inv-loop : tie.InvT-loop
-Inv-loop items₀ bus₀ bytes out₀ at₀ window₀ losses₀ shakes₀ numbers₀ rows₀ slots₀ gauges₀ used₀ i₀ items bus out at window losses shakes numbers rows slots gauges used i =
+Inv-loop bus₀ bytes out₀ items₀ at₀ window₀ losses₀ shakes₀ numbers₀ rows₀ slots₀ gauges₀ used₀ i₀ bus out items at window losses shakes numbers rows slots gauges used i =
     Stands (logOf items₀ (windowOf window₀ losses₀ shakes₀ numbers₀) slots₀ bus₀) bytes out₀ at₀ items (windowOf window losses shakes numbers) rows slots gauges used bus i at out
 
 abbrev μ-loop : tie.MeasureT-loop
-μ-loop items₀ bus₀ bytes out₀ at₀ window₀ losses₀ shakes₀ numbers₀ rows₀ slots₀ gauges₀ used₀ i₀ items bus out at window losses shakes numbers rows slots gauges used i = length bytes - i
+μ-loop bus₀ bytes out₀ items₀ at₀ window₀ losses₀ shakes₀ numbers₀ rows₀ slots₀ gauges₀ used₀ i₀ bus out items at window losses shakes numbers rows slots gauges used i = length bytes - i
 
 -- The value of a frame, by its ends and by its length.
 twelve : (i : ℕ) (l : List ℕ) → take (i + 15 - (i + 3)) (drop (i + 3) l) ≡ part (i + 3) 12 l
@@ -42,7 +42,7 @@ twelve i l =
 -- An item comes.
 module _ (g : tie.Then1 Inv-loop2 μ-loop2 Inv-loop μ-loop) where
   abbrev args-at : tie.Start Inv-loop2 μ-loop2 Inv-loop μ-loop
-  args-at = (g .before .before .before .before .before .before .before .before .before .before .before .before .before .before)
+  args-at = (g .before .before .before .before .before .before .before .before .before .before .before .before .before .before .before)
 
   short : length (now (args-at .args .bytes)) < 2 ^ 64
   short = search needs
@@ -92,15 +92,15 @@ in-use-requires c κs = search needs
 
 loop-holds : tie.Need-loop-holds Inv-loop2 μ-loop2 Inv-loop μ-loop
 loop-holds c =
-    let a = c .before .before .before .before .before .before .before .before .before .before .before .args in
+    let a = c .before .before .before .before .before .before .before .before .before .before .before .before .args in
     record {
       inside = omega arith;
       same = refl;
-      room = c .before .before .before .before .before .before .before .before .before .before .before .pre;
-      all-slots = sym (length-map (a .board .slots) _) ∙ c .before .before .before .before .before .before .before .before .before .before .before .good .1 .0 .1 .1 .1 .0 .1 .0 .1;
-      went = went-none (record { items = a .items; board = a .board; sessions = sessionsIn (now (a .bus)) }) (now (a .bytes)) (now (a .out)) (a .at) (search needs);
-      gauged = gauged-of (a .board .slots) (c .before .all .ensures) (c .in-use .ensures);
-      rowed = rowed-of (a .board .window .numbers) (c .before .before .before .rows-in .ensures);
+      room = c .before .before .before .before .before .before .before .before .before .before .before .before .pre;
+      all-slots = sym (length-map (a .from .board .slots) _) ∙ c .before .before .before .before .before .before .before .before .before .before .before .before .good .0 .1 .1 .1 .0 .1 .1 .1 .0 .1 .0 .1;
+      went = went-none (logIn (a .from) (now (a .bus))) (now (a .bytes)) (now (a .out)) (a .from .at) (search needs);
+      gauged = gauged-of (a .from .board .slots) (c .before .all .ensures) (c .in-use .ensures);
+      rowed = rowed-of (a .from .board .window .numbers) (c .before .before .before .rows-in .ensures);
     }
 
 goes-on-requires : tie.Need-goes-on-requires Inv-loop2 μ-loop2 Inv-loop μ-loop
@@ -121,11 +121,11 @@ byte-requires-2 c κs = search needs
 cast-s : tie.Need-cast-s Inv-loop2 μ-loop2 Inv-loop μ-loop
 cast-s c = search needs
 
-mul-serve : tie.Need-mul-serve Inv-loop2 μ-loop2 Inv-loop μ-loop
-mul-serve c = search needs
+mul-held : tie.Need-mul-held Inv-loop2 μ-loop2 Inv-loop μ-loop
+mul-held c = search needs
 
-array-copy-out-serve : tie.Need-array-copy-out-serve Inv-loop2 μ-loop2 Inv-loop μ-loop
-array-copy-out-serve c = slot-fits c
+array-copy-out-held : tie.Need-array-copy-out-held Inv-loop2 μ-loop2 Inv-loop μ-loop
+array-copy-out-held c = slot-fits c
 
 serve-requires : tie.Need-serve-requires Inv-loop2 μ-loop2 Inv-loop μ-loop
 serve-requires c κs = search needs
@@ -163,20 +163,20 @@ loop-again c =
     stands-slot _ _ _ _ (small (for-slot t)) (for-slot t .before .before .loop .inv) (for-slot t .before .goes-on .ensures) (for-slot t .if1 .taken) (t .before .byte .ensures) (t .before .before .next-item .ensures) (t .if2 .taken)
     (c .before .before .before .before .before .before .before .before .before .before .before .before .value-at .ensures) (c .before .before .before .before .before .before .before .before .before .before .before .byte2 .ensures) (c .before .before .before .before .before .serve .ensures) (c .before .of .ensures) (c .in-use2 .ensures) refl
 
-add-hear : tie.Need-add-hear Inv-loop2 μ-loop2 Inv-loop μ-loop
-add-hear c = omega (arith, short (for-bus (c .before)), frame-comes (c .before) .there)
+add-frame : tie.Need-add-frame Inv-loop2 μ-loop2 Inv-loop μ-loop
+add-frame c = omega (arith, short (for-bus c), frame-comes c .there)
 
-add-hear-2 : tie.Need-add-hear-2 Inv-loop2 μ-loop2 Inv-loop μ-loop
-add-hear-2 c = omega (arith, short (for-bus (c .before)), frame-comes (c .before) .there)
+add-frame-2 : tie.Need-add-frame-2 Inv-loop2 μ-loop2 Inv-loop μ-loop
+add-frame-2 c = omega (arith, short (for-bus c), frame-comes c .there)
 
-sub-hear : tie.Need-sub-hear Inv-loop2 μ-loop2 Inv-loop μ-loop
-sub-hear c = search needs
+sub-frame : tie.Need-sub-frame Inv-loop2 μ-loop2 Inv-loop μ-loop
+sub-frame c = search needs
 
-part-hear-start : tie.Need-part-hear-start Inv-loop2 μ-loop2 Inv-loop μ-loop
-part-hear-start c = let h = frame-comes (c .before) .there in search needs
+part-frame-start : tie.Need-part-frame-start Inv-loop2 μ-loop2 Inv-loop μ-loop
+part-frame-start c = let h = frame-comes c .there in search needs
 
-part-hear-end : tie.Need-part-hear-end Inv-loop2 μ-loop2 Inv-loop μ-loop
-part-hear-end c = let h = frame-comes (c .before) .there in search needs
+part-frame-end : tie.Need-part-frame-end Inv-loop2 μ-loop2 Inv-loop μ-loop
+part-frame-end c = let h = frame-comes c .there in search needs
 
 hear-requires : tie.Need-hear-requires Inv-loop2 μ-loop2 Inv-loop μ-loop
 hear-requires c κs =
@@ -275,13 +275,16 @@ loop2-less-2 c = omega (arith, c .before .before .before .before .before .before
 loop2-again-2 : tie.Need-loop2-again-2 Inv-loop2 μ-loop2 Inv-loop μ-loop
 loop2-again-2 c = turns-more (c .before .before .before .before .before .before .before .before .before .before .before .before .before .before .before .loop2 .inv) (omega arith) (c .before .before .before .before .before .before .turn .ensures) (c .before .before .before .before .put-search .ensures) (c .of2 .ensures)
 
+ended-requires : tie.Need-ended-requires Inv-loop2 μ-loop2 Inv-loop μ-loop
+ended-requires c κs = search needs
+
 same-length : tie.Need-same-length Inv-loop2 μ-loop2 Inv-loop μ-loop
-same-length c = c .before .before .loop .inv .same
+same-length c = c .before .before .before .loop .inv .same
 
 returns : tie.Need-returns Inv-loop2 μ-loop2 Inv-loop μ-loop
 returns c =
-    let a = c .before .before .before .before .before .before .before .before .before .before .before .before .before .before .args in
-    stands-runs (a .items) (a .board) (now (a .bus)) (now (a .bytes)) (now (a .out)) (a .at) (c .before .before .loop .inv) (c .before .goes-on .ensures) (c .if1 .left)
+    let a = c .before .before .before .before .before .before .before .before .before .before .before .before .before .before .before .before .args in
+    stands-runs (a .from) (now (a .bus)) (now (a .bytes)) (now (a .out)) (c .before .before .before .loop .inv) (c .before .before .goes-on .ensures) (c .before .if1 .left) (c .ended .ensures)
 
 pub run-spec : {M : Type 1} → statement M
 run-spec =
@@ -301,8 +304,8 @@ run-spec =
     value-at-requires
     byte-requires-2
     cast-s
-    mul-serve
-    array-copy-out-serve
+    mul-held
+    array-copy-out-held
     serve-requires
     mul-slots
     array-set-from-slots
@@ -314,11 +317,11 @@ run-spec =
     add-i-2
     loop-less
     loop-again
-    add-hear
-    add-hear-2
-    sub-hear
-    part-hear-start
-    part-hear-end
+    add-frame
+    add-frame-2
+    sub-frame
+    part-frame-start
+    part-frame-end
     hear-requires
     put-refusal-requires
     add-i-3
@@ -346,5 +349,6 @@ run-spec =
     array-set-from-gauges-2
     loop2-less-2
     loop2-again-2
+    ended-requires
     same-length
     returns)

@@ -10,14 +10,15 @@ use Rattle.text.specs.Text.{behind}
 use Rattle.joining.specs.declared.Session.{Session}
 use Rattle.joining.specs.Room.{sessionsIn}
 use Rattle.journal.specs.declared.Log.{Log}
-use Rattle.stretch.specs.declared.Ended.{Ended}
+use Rattle.stretch.specs.declared.Standing.{Standing}
 use Rattle.stretch.specs.Doing.{all, Does, Runs}
 use borrow.Author.Needs.{needs}
 use Rattle.stretch.proofs.take.Statement.{statement}
 use Rattle.stretch.proofs.take.Tie as tie
 
 -- What `run` does with the sessions in bytes is what is done to the log.
-does : (log : Log) (bus bytes room : List ℕ) (at : ℕ) {r : Ended} {bus₁ left : List ℕ} {standing : List Session} → sessionsIn bus ≡ log .sessions → Runs (log .items) (log .board) bus bytes room at r bus₁ left → standing ≡ sessionsIn bus₁
+does : (log : Log) (bus bytes room : List ℕ) (at : ℕ) {r : Standing} {bus₁ left : List ℕ} {standing : List Session} → sessionsIn bus ≡ log .sessions
+    → Runs (record { items = log .items; board = log .board; taken = 0; at = at }) bus bytes room r bus₁ left → standing ≡ sessionsIn bus₁
     → Does log bytes room at (record { log = record { items = r .items; board = r .board; sessions = standing }; taken = r .taken; at = r .at }) left
 does log bus bytes room at {r} {bus₁} e d f =
     let same : record { items = log .items; board = log .board; sessions = sessionsIn bus } ≡ log = λ j. record { items = log .items; board = log .board; sessions = e j } in

@@ -14,7 +14,6 @@ use Rattle.window.specs.declared.Window.{Window}
 use Rattle.window.specs.Rows.{sized, standing, added}
 use Rattle.question.specs.declared.Question.{Question}
 use Rattle.question.specs.Lines.{rowsOf}
-use Rattle.board.specs.declared.Board.{Board}
 use Rattle.slot.specs.declared.gauge.Gauge.{Gauge}
 use Rattle.slot.specs.Gauges.{noQuestion, gaugeOf, isQuiet, isIdle, inUse}
 use Rattle.slot.specs.Turn as one
@@ -27,10 +26,11 @@ use Rattle.text.proofs.Places.{Put, put, then}
 use Rattle.journal.specs.declared.Log.{Log}
 use Rattle.journal.specs.Log.{nextItem, frameIn, itemDone}
 use Rattle.stretch.specs.declared.Brought.{Brought}
+use Rattle.stretch.specs.declared.Standing.{Standing}
 use Rattle.slot.specs.declared.Turned.{Turned}
 use Rattle.stretch.specs.Coming.{sizeAt, comes, hasRoom}
 use Rattle.stretch.specs.Inner.{served, Serves, brought, Stored}
-use Rattle.stretch.specs.Doing.{Did, Runs, itemAt}
+use Rattle.stretch.specs.Doing.{Did, Runs, itemAt, logIn}
 use Rattle.stretch.proofs.Coming.{Item, Slot, has-window, a-frame, for-slot}
 use Rattle.stretch.proofs.Serving.{slot-here}
 use Rattle.stretch.proofs.Frames.{report, turn, turned-is, turn-stays, turn-idle, frame-none, row-in, row-takes, frame-enters}
@@ -38,10 +38,6 @@ use Rattle.stretch.proofs.Turns.{Turning, turning-none, turning-more, t
 use Rattle.stretch.proofs.Gauging.{Gauged, gauged-of, gauge-at, gauges-set}
 use Rattle.stretch.proofs.Rowing.{Rowed, rowed-with, rowed-all}
 use Rattle.stretch.proofs.Going.{Went, went-more, went-all}
-
--- The window whose rows are these.
-abbrev pub windowOf : Window → (losses shakes numbers : List ℕ) → Window
-windowOf w losses shakes numbers = record { losses = losses; shakes = shakes; numbers = numbers; size = w .size; entered = w .entered; held = w .held }
 
 abbrev pub logOf : (items : ℕ) → Window → List Question → (bus : List ℕ) → Log
 logOf items w slots bus = record { items = items; board = record { window = w; slots = slots }; sessions = sessionsIn bus }
@@ -231,16 +227,16 @@ module _ (log₀ : Log) (bytes out₀ : List ℕ) (at₀ : ℕ) where
           }
 
 -- Where no item comes that is done in place, or no room is left, this is what all of them leave.
-pub stands-runs : (items₀ : ℕ) (board : Board) (bus₀ bytes out₀ : List ℕ) (at₀ : ℕ) {items : ℕ} {w : Window} {rows : ℕ} {slots : List Question} {gauges : List Gauge} {used : ℕ} {bus : List ℕ} {i at : ℕ} {out : List ℕ}
-    → Stands (record { items = items₀; board = board; sessions = sessionsIn bus₀ }) bytes out₀ at₀ items w rows slots gauges used bus i at out → {go : Bool} → go ≡ (comes (w .size) bytes i && hasRoom (length out) at) → go ≡ false
-    → Runs items₀ board bus₀ bytes out₀ at₀ (record { items = items; board = record { window = w; slots = slots }; taken = i; at = at }) bus out
-stands-runs items₀ board bus₀ bytes out₀ at₀ {w = w} {i = i} {at = at} l e-go ends =
+pub stands-runs : (from : Standing) (bus₀ bytes out₀ : List ℕ) {items : ℕ} {w : Window} {rows : ℕ} {slots : List Question} {gauges : List Gauge} {used : ℕ} {bus : List ℕ} {i at : ℕ} {out : List ℕ}
+    → Stands (logIn from bus₀) bytes out₀ (from .at) items w rows slots gauges used bus i at out → {go : Bool} → go ≡ (comes (w .size) bytes i && hasRoom (length out) at) → go ≡ false
+    → {r : Standing} → r ≡ record { items = items; board = record { window = w; slots = slots }; taken = i; at = at } → Runs from bus₀ bytes out₀ r bus out
+stands-runs from bus₀ bytes out₀ {w = w} {bus = bus} {i = i} {at = at} l e-go ends e =
     let no = ap (λ (n : ℕ). comes (w .size) bytes i && hasRoom n at) (sym (l .same)) ∙ sym e-go ∙ ends in
-    let is = went-all (record { items = items₀; board = board; sessions = sessionsIn bus₀ }) bytes out₀ at₀ (l .went) no in
+    let is = went-all (logIn from bus₀) bytes out₀ (from .at) (l .went) no in
     let told = sym (ap (λ (d : Did). d .text) is) in
     record {
-      leaves = sym (ap (λ (d : Did). d .log) is);
-      taken = sym (ap (λ (d : Did). d .next) is);
-      place = l .went .stored .place ∙ ap (behind at₀) told;
-      stored = l .went .stored .bytes ∙ ap (sets out₀ at₀) told;
+      leaves = ap (λ (r : Standing). logIn r bus) e ∙ sym (ap (λ (d : Did). d .log) is);
+      taken = ap (λ (r : Standing). r .taken) e ∙ sym (ap (λ (d : Did). d .next) is);
+      place = ap (λ (r : Standing). r .at) e ∙ l .went .stored .place ∙ ap (behind (from .at)) told;
+      stored = l .went .stored .bytes ∙ ap (sets out₀ (from .at)) told;
     }
