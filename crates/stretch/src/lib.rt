@@ -165,7 +165,8 @@ fn run(from: Standing, bus: &mut [u8; 22098], bytes: &[u8], out: &mut [u8]) -> S
             if gauge.quiet(brought.gone, brought.loss, brought.shake) {
                 continue;
             }
-            let turned = turn(slots[here], brought, &losses, &shakes, &numbers, rows);
+            let held = slots[here];
+            let turned = turn(held, brought, &losses, &shakes, &numbers, rows);
             at = journal::put_search(out, at, items, here as u8, turned.searched, turned.steps);
             let left = turned.question;
             slots[here] = left;

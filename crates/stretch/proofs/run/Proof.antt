@@ -239,11 +239,11 @@ loop2-less c = omega arith
 loop2-again : tie.Need-loop2-again Inv-loop2 μ-loop2 Inv-loop μ-loop
 loop2-again c = turns-quiet (c .before .before .before .before .loop2 .inv) (omega arith) _ (c .before .quiet .ensures) (c .if4 .taken)
 
-mul-turn : tie.Need-mul-turn Inv-loop2 μ-loop2 Inv-loop μ-loop
-mul-turn c = search needs
+mul-held-2 : tie.Need-mul-held-2 Inv-loop2 μ-loop2 Inv-loop μ-loop
+mul-held-2 c = search needs
 
-array-copy-out-turn : tie.Need-array-copy-out-turn Inv-loop2 μ-loop2 Inv-loop μ-loop
-array-copy-out-turn c = in-array (c .before .before .before)
+array-copy-out-held-2 : tie.Need-array-copy-out-held-2 Inv-loop2 μ-loop2 Inv-loop μ-loop
+array-copy-out-held-2 c = in-array (c .before .before .before)
 
 turn-requires : tie.Need-turn-requires Inv-loop2 μ-loop2 Inv-loop μ-loop
 turn-requires c κs = search needs
@@ -337,8 +337,8 @@ run-spec =
     quiet-requires
     loop2-less
     loop2-again
-    mul-turn
-    array-copy-out-turn
+    mul-held-2
+    array-copy-out-held-2
     turn-requires
     cast-put-search
     put-search-requires
