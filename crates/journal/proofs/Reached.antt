@@ -1,5 +1,5 @@
 -- What is promised of every log that items lead to: its sessions are fit, and so is its board once there is a window, so that no call answers 24; its window holds what its frames
--- brought, every question in use lists the best k of that; and no item prints more than `Waiting::MOST` bytes. Each is read off what the log keeps its own.
+-- brought, every question in use lists the best k of that; and no item prints more than `Stretch::MOST` bytes. Each is read off what the log keeps its own.
 -- Assumes nothing.
 use mathlib.Core.Path.{_≡_, refl, sym, ap, ap₂, _∙_, subst}
 use mathlib.Core.Logic.{_⊎_, inl, inr}
@@ -69,7 +69,7 @@ unfolding itemDone itemRefusal known byTag showItem readWork readIn unless
 show-text log slot there h used = rw (there, lt-ltb slot 32 h, ne-eqb (slotAt (log .board) slot .k) 0 used)
 
 module _ {log : Log} (reached : Reached log) where
-  -- `Waiting::MOST`: what any next item prints.
+  -- `Stretch::MOST`: what any next item prints.
   pub item-short : (tag : ℕ) (v : List ℕ) → length (itemDone log tag v .text) ≤ 1056
   item-short tag v = at-most (nextItem (log .items)) (next-small (log .items)) (item-does (framesOf reached) log (own reached) tag v .prints)
 

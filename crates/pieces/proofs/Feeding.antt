@@ -10,14 +10,15 @@ use native.Mathlib.Omega.{arith}
 use lib.Dec.{ltb}
 use lib.ListN.{length, getD, take}
 use lib.Seq.{take-suc}
-use Rattle.laws.proofs.Tests.{if-so, if-not}
+use Rattle.question.proofs.Taking.{if-so, if-not}
 use Rattle.text.specs.Text.{behind}
 use Rattle.text.proofs.Decimal.{below-or}
 use Rattle.text.proofs.Places.{Put, then, said, none}
 use Rattle.journal.specs.declared.Log.{Log}
 use Rattle.pieces.specs.declared.Waiting.{Waiting}
 use Rattle.journal.specs.Log.{itemDone}
-use Rattle.pieces.specs.Machine.{Came, nothing, withByte, isWhole, valueIn, came, run, ran, hasRoom, Feeds}
+use Rattle.stretch.specs.Coming.{hasRoom}
+use Rattle.pieces.specs.Machine.{Came, nothing, withByte, isWhole, valueIn, came, run, ran, Feeds}
 
 -- What came, and what more bytes bring then.
 abbrev pub follow : Came → List ℕ → Came

@@ -8,13 +8,14 @@ use native.Mathlib.Omega.{arith}
 use lib.Dec.{ltb}
 use lib.ListN.{length}
 use lib.Seq.{sets}
-use Rattle.laws.proofs.Tests.{clash}
+use Rattle.ranking.proofs.Tests.{clash}
 use Rattle.text.specs.Text.{behind}
 use Rattle.text.proofs.Decimal.{below-or}
 use Rattle.journal.specs.declared.Log.{Log}
 use Rattle.pieces.specs.declared.Waiting.{Waiting}
 use Rattle.pieces.specs.declared.Fed.{Fed}
-use Rattle.pieces.specs.Machine.{Came, ran, hasRoom, Feeds}
+use Rattle.stretch.specs.Coming.{hasRoom}
+use Rattle.pieces.specs.Machine.{Came, ran, Feeds}
 
 module _ {log : Log} {w : Waiting} {piece room : List ℕ} where
   -- No call takes fewer bytes than another.
