@@ -3,6 +3,7 @@
 use capture::Sort;
 use input::Input;
 use input::Next;
+use items::Item;
 use libc::STDERR_FILENO;
 use libc::STDOUT_FILENO;
 
@@ -72,7 +73,7 @@ impl Reader {
         if !found.fits() {
             return self.count(found.number, Sort::Broken, true);
         }
-        let mut room = [0u8; Sort::ITEM];
+        let mut room = [0u8; Item::FRAME_BYTES];
         let sort = capture::write(wire::front(line, found.size), &mut room);
         let mut going = true;
         if let Sort::Frame = sort {

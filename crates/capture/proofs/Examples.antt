@@ -3,14 +3,15 @@
 use mathlib.Core.Path.{_≡_, refl}
 use mathlib.Core.List.{[], _∷_}
 use Rattle.wire.specs.Bytes.{bytes, head, field}
+use Rattle.items.specs.Run.{runBytes}
 use Rattle.lines.specs.Words.{run, trimmed, behindWord, tailAt, wordAt}
 use Rattle.lines.specs.Numbers.{digitOf, withDigit, numberOn, numberIn}
 use Rattle.capture.specs.declared.Sort.the-variants as sort
-use Rattle.capture.specs.Capture.{isTime, ended, idSize, dataText, idIn, hexIn, bytesIn, sortOfFrame, sortOf, itemIn, itemsIn}
+use Rattle.capture.specs.Capture.{isTime, ended, idSize, dataText, idIn, hexIn, bytesIn, sortOfFrame, sortOf, itemsIn}
 
 -- `(1436509052.249713) vcan0 1CECFF05#20110003FF14FF00`: the announcement of P1.
-pub announcement-item : itemsIn (40 ∷ 49 ∷ 52 ∷ 51 ∷ 54 ∷ 53 ∷ 48 ∷ 57 ∷ 48 ∷ 53 ∷ 50 ∷ 46 ∷ 50 ∷ 52 ∷ 57 ∷ 55 ∷ 49 ∷ 51 ∷ 41 ∷ 32 ∷ 118 ∷ 99 ∷ 97 ∷ 110 ∷ 48 ∷ 32 ∷ 49 ∷ 67 ∷ 69 ∷ 67 ∷ 70 ∷ 70 ∷ 48 ∷ 53 ∷ 35 ∷ 50 ∷ 48 ∷ 49 ∷ 49 ∷ 48 ∷ 48 ∷ 48 ∷ 51 ∷ 70 ∷ 70 ∷ 49 ∷ 52 ∷ 70 ∷ 70 ∷ 48 ∷ 48 ∷ []) ≡ 18 ∷ 12 ∷ 0 ∷ 5 ∷ 255 ∷ 236 ∷ 28 ∷ 32 ∷ 17 ∷ 0 ∷ 3 ∷ 255 ∷ 20 ∷ 255 ∷ 0 ∷ []
-unfolding sortOf sortOfFrame isTime ended idSize dataText idIn hexIn wordAt tailAt trimmed behindWord run numberIn numberOn withDigit digitOf itemsIn itemIn bytesIn field head bytes
+pub announcement-item : runBytes (itemsIn (40 ∷ 49 ∷ 52 ∷ 51 ∷ 54 ∷ 53 ∷ 48 ∷ 57 ∷ 48 ∷ 53 ∷ 50 ∷ 46 ∷ 50 ∷ 52 ∷ 57 ∷ 55 ∷ 49 ∷ 51 ∷ 41 ∷ 32 ∷ 118 ∷ 99 ∷ 97 ∷ 110 ∷ 48 ∷ 32 ∷ 49 ∷ 67 ∷ 69 ∷ 67 ∷ 70 ∷ 70 ∷ 48 ∷ 53 ∷ 35 ∷ 50 ∷ 48 ∷ 49 ∷ 49 ∷ 48 ∷ 48 ∷ 48 ∷ 51 ∷ 70 ∷ 70 ∷ 49 ∷ 52 ∷ 70 ∷ 70 ∷ 48 ∷ 48 ∷ [])) ≡ 18 ∷ 12 ∷ 0 ∷ 5 ∷ 255 ∷ 236 ∷ 28 ∷ 32 ∷ 17 ∷ 0 ∷ 3 ∷ 255 ∷ 20 ∷ 255 ∷ 0 ∷ []
+unfolding sortOf sortOfFrame isTime ended idSize dataText idIn hexIn wordAt tailAt trimmed behindWord run numberIn numberOn withDigit digitOf itemsIn bytesIn runBytes field head bytes
 announcement-item = refl
 
 -- `(1.0) can0 123#1122334455667788`.

@@ -2,13 +2,12 @@
 -- Assumes nothing.
 use mathlib.Core.Path.{_≡_, refl}
 use mathlib.Core.Bool.{Bool, true, false, cond, not}
-use mathlib.Core.List.{List}
-use Prim.Native.Nat.{ℕ, _<_, _≤_}
+use mathlib.Core.List.{List, []}
+use Prim.Native.Nat.{ℕ}
 use native.Mathlib.Omega.{arith}
-use borrow.Author.Tests.{eqb-true, lt-ltb, le-ltb, le-leb, lt-leb, eq-eqb, ne-eqb}
+use borrow.Author.Tests.{eqb-true, eq-eqb, ne-eqb}
 use lib.Dec.{eqb, ltb, leb}
 use lib.ListN.{length, getD}
-use Rattle.lines.specs.declared.Number.{Number}
 use Rattle.lines.specs.declared.Run.the-variants.{Until}
 use Rattle.lines.specs.Words.{run, wordAt}
 use Rattle.capture.specs.declared.Sort.{Sort}
@@ -19,56 +18,6 @@ use Rattle.capture.specs.Capture.{isTime, ended, idSize, dataText, idIn,
 pub size : (w : List ℕ) {n : ℕ} → n ≡ run (Until 35) w → n ≡ idSize w
 unfolding idSize
 size w e = e
-
--- ---- the third word, test by test
-
-module _ (w : List ℕ) (id : Number) (d : List ℕ) (number : id ≡ idIn w) (behind : d ≡ dataText w) where
-  pub frame-no-id : id .known ≡ false → sort.Broken ≡ sortOfFrame w
-  unfolding sortOfFrame
-  frame-no-id h = rw (← number, h)
-
-  module _ (known : id .known ≡ true) (b : ℕ) (first : b ≡ getD d 0 0) where
-    pub frame-fd : b ≡ 35 → sort.Fd ≡ sortOfFrame w
-    unfolding sortOfFrame
-    frame-fd h = rw (← number, ← behind, known, ← first, eq-eqb b 35 h)
-
-    module _ (no-fd : b ≡ 35 → ⊥) where
-      pub frame-remote : b ≡ 82 → sort.Remote ≡ sortOfFrame w
-      unfolding sortOfFrame
-      frame-remote h = rw (← number, ← behind, known, ← first, ne-eqb b 35 no-fd, eq-eqb b 82 h)
-
-      module _ (no-remote : b ≡ 82 → ⊥) where
-        pub frame-long : 16 < length d → sort.Broken ≡ sortOfFrame w
-        unfolding sortOfFrame
-        frame-long h = rw (← number, ← behind, known, ← first, ne-eqb b 35 no-fd, ne-eqb b 82 no-remote, lt-ltb 16 (length d) h)
-
-        module _ (short : length d ≤ 16) (x : Bool) (digits : x ≡ hexIn d) where
-          pub frame-no-digits : x ≡ false → sort.Broken ≡ sortOfFrame w
-          unfolding sortOfFrame
-          frame-no-digits h =
-              rw (← number, ← behind, known, ← first, ne-eqb b 35 no-fd, ne-eqb b 82 no-remote, le-ltb 16 (length d) short, ← digits, h)
-
-          module _ (right : x ≡ true) where
-            pub frame-error : 536870912 ≤ id .value → sort.Error ≡ sortOfFrame w
-            unfolding sortOfFrame
-            frame-error h =
-                rw (← number, ← behind, known, ← first, ne-eqb b 35 no-fd, ne-eqb b 82 no-remote, le-ltb 16 (length d) short, ← digits, right, le-leb 536870912 (id .value) h)
-
-            module _ (sound : id .value < 536870912) (n : ℕ) (digits-before : n ≡ idSize w) where
-              pub frame-short : n ≡ 3 → sort.Short ≡ sortOfFrame w
-              unfolding sortOfFrame
-              frame-short h =
-                  rw (← number, ← behind, known, ← first, ne-eqb b 35 no-fd, ne-eqb b 82 no-remote, le-ltb 16 (length d) short, ← digits, right, lt-leb 536870912 (id .value) sound, ← digits-before, eq-eqb n 3 h)
-
-              pub frame-whole : (n ≡ 3 → ⊥) → length d ≡ 16 → sort.Frame ≡ sortOfFrame w
-              unfolding sortOfFrame
-              frame-whole h e =
-                  rw (← number, ← behind, known, ← first, ne-eqb b 35 no-fd, ne-eqb b 82 no-remote, le-ltb 16 (length d) short, ← digits, right, lt-leb 536870912 (id .value) sound, ← digits-before, ne-eqb n 3 h, eq-eqb (length d) 16 e)
-
-              pub frame-length : (n ≡ 3 → ⊥) → (length d ≡ 16 → ⊥) → sort.Length ≡ sortOfFrame w
-              unfolding sortOfFrame
-              frame-length h e =
-                  rw (← number, ← behind, known, ← first, ne-eqb b 35 no-fd, ne-eqb b 82 no-remote, le-ltb 16 (length d) short, ← digits, right, lt-leb 536870912 (id .value) sound, ← digits-before, ne-eqb n 3 h, ne-eqb (length d) 16 e)
 
 -- ---- the line
 
@@ -127,3 +76,17 @@ line-sixteen line = go (eqb (length (wordAt 0 line)) 0) (isTime (wordAt 0 line))
 pub items-are : (line : List ℕ) {v s : Sort} → s ≡ sortOf line → s ≡ v → itemsIn line ≡ itemOf v (wordAt 2 line)
 unfolding itemsIn
 items-are line e f = rw (← e, f)
+
+pub none-else : (line : List ℕ) {s : Sort} → s ≡ sortOf line → (s ≡ sort.Frame → ⊥) → itemsIn line ≡ []
+unfolding itemsIn
+none-else line {s} e other = rw (← e) (go s other)
+  where
+    go : (v : Sort) → (v ≡ sort.Frame → ⊥) → itemOf v (wordAt 2 line) ≡ []
+    go sort.Frame h = absurd (h refl)
+    go sort.Short h = refl
+    go sort.Remote h = refl
+    go sort.Error h = refl
+    go sort.Fd h = refl
+    go sort.Length h = refl
+    go sort.Nothing h = refl
+    go sort.Broken h = refl

@@ -1,5 +1,6 @@
 -- Laws that the crates above cite.
 pub mod Texts
 pub mod Frames
+pub mod ReadBack
 pub mod Outcomes
 pub mod Examples

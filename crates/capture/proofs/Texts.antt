@@ -3,16 +3,14 @@
 use mathlib.Core.Path.{_≡_, refl, sym, _∙_, ap}
 use mathlib.Core.Logic.{⊎-elim}
 use mathlib.Core.Bool.{Bool, true, false, _&&_}
-use mathlib.Core.List.{List, [], _∷_, _++_, append-nil}
+use mathlib.Core.List.{List, [], _∷_, append-nil}
 use Prim.Native.Nat.{ℕ, zero, suc, _+_, _-_, _*_, _/_, _%_, _≤_, _<_, min}
 use native.Mathlib.Omega.{arith}
 use borrow.Author.Tests.{lt-ltb, le-ltb, eq-eqb, ne-eqb}
 use lib.Dec.{eqb, ltb}
-use lib.ListN.{length, getD, take, drop, replicate, length-append, length-drop, drop-of-length-le}
+use lib.ListN.{length, getD, take, drop, replicate, length-drop, drop-of-length-le}
 use lib.Seq.{sets, drop-drop, sets-eq}
-use Rattle.wire.specs.Bytes.{bytes, same}
-use Rattle.wire.proofs.Numbers.{length-bytes}
-use Rattle.wire.proofs.Stores.{sets-append}
+use Rattle.wire.specs.Bytes.{same}
 use Rattle.text.proofs.Decimal.{below-or}
 use Rattle.lines.specs.declared.Number.{Number}
 use Rattle.lines.specs.declared.Run.the-variants.{Until}
@@ -150,12 +148,6 @@ bytes-count (suc k) (a ∷ (b ∷ s)) h = ap suc (bytes-count k s (omega arith))
 over : (l v : List ℕ) → length v ≡ length l → sets l 0 v ≡ v
 over l v h = sets-eq v l 0 (omega arith) ∙ rw (drop-of-length-le l {i = 0 + length v} (omega arith)) (append-nil v)
 
-pub value-stored : (id : ℕ) (d : List ℕ) {b₁ b₂ e : List ℕ} → length d ≡ 16 → e ≡ sets (replicate 8 0) 0 (bytesIn d)
-    → b₁ ≡ sets (replicate 12 0) 0 (bytes 4 id) → b₂ ≡ sets b₁ 4 e → b₂ ≡ bytes 4 id ++ bytesIn d
-unfolding bytes
-value-stored id d h eight e₁ e₂ =
-    let data-bytes : length (bytesIn d) ≡ 8 = bytes-count 8 d h in
-    let all : length (bytes 4 id ++ bytesIn d) ≡ 12 = omega (arith, length-append (bytes 4 id) (bytesIn d), length-bytes 4 id) in
-    let place : 0 + length (bytes 4 id) ≡ 4 = length-bytes 4 id in
-    rw (e₂, e₁, eight, over (replicate 8 0) (bytesIn d) data-bytes, ← place)
-    (sym (sets-append (replicate 12 0) 0 (bytes 4 id) (bytesIn d)) ∙ over (replicate 12 0) (bytes 4 id ++ bytesIn d) all)
+-- Eight bytes fill the room for them.
+pub eight-stored : (d : List ℕ) {e : List ℕ} → length d ≡ 16 → e ≡ sets (replicate 8 0) 0 (bytesIn d) → e ≡ bytesIn d
+eight-stored d h eight = eight ∙ over (replicate 8 0) (bytesIn d) (bytes-count 8 d h)

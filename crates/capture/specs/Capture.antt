@@ -1,10 +1,12 @@
 -- A line of the text that can-utils' `candump -L` writes: `(time) interface ID#DATA`.
 use Prim.Native.Nat.{ℕ, _+_, _-_}
-use mathlib.Core.List.{List, [], _∷_, _++_}
+use mathlib.Core.List.{List, [], _∷_}
 use mathlib.Core.Bool.{Bool, true, false, cond, not, _&&_, _||_}
 use lib.ListN.{length, getD, take, drop}
 use lib.Dec.{leb, ltb, eqb}
-use Rattle.wire.specs.Bytes.{bytes, field, same}
+use Rattle.wire.specs.Bytes.{same}
+use Rattle.items.specs.declared.Item.the-variants as item
+use Rattle.items.specs.Run.{Meant}
 use Rattle.lines.specs.declared.Number.{Number}
 use Rattle.lines.specs.declared.Run.the-variants.{Until}
 use Rattle.lines.specs.Words.{run, wordAt, tailAt}
@@ -69,13 +71,13 @@ sortOf line =
     cond (eqb (length (wordAt 0 line)) 0) sort.Nothing
     (cond (isTime (wordAt 0 line)) (cond (ended line) (sortOfFrame (wordAt 2 line)) sort.Broken) sort.Broken)
 
--- The log item of a frame: "18 length 12", identifier in 4 bytes, data in 8.
-unfoldable pub itemIn : List ℕ → List ℕ
-itemIn w = field 18 (bytes 4 (idIn w .value) ++ bytesIn (dataText w))
+-- The log item of a frame.
+abbrev pub itemIn : List ℕ → Meant
+itemIn w = record { item = item.Frame (idIn w .value); data-bytes = bytesIn (dataText w) }
 
 -- What is written for a line: the item of a frame that a log holds, and nothing else.
-abbrev pub itemOf : Sort → List ℕ → List ℕ
-itemOf sort.Frame w = itemIn w
+abbrev pub itemOf : Sort → List ℕ → List Meant
+itemOf sort.Frame w = itemIn w ∷ []
 itemOf sort.Short w = []
 itemOf sort.Remote w = []
 itemOf sort.Error w = []
@@ -84,5 +86,5 @@ itemOf sort.Length w = []
 itemOf sort.Nothing w = []
 itemOf sort.Broken w = []
 
-unfoldable pub itemsIn : List ℕ → List ℕ
+unfoldable pub itemsIn : List ℕ → List Meant
 itemsIn line = itemOf (sortOf line) (wordAt 2 line)

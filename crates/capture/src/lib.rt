@@ -2,9 +2,12 @@
 // A line is `(time) interface ID#DATA`, perhaps with R or T behind it for received or sent.
 ghost use mathlib.Core.Path.{_≡_};
 ghost use Prim.Native.Nat.{_+_, min};
+ghost use mathlib.Core.List.{[], _∷_};
 ghost use lib.ListN.{length, replicate};
 ghost use lib.Seq.{sets};
+ghost use Rattle.items.specs.Run.{runBytes};
 ghost use Rattle.capture.specs.Capture.{isTime, ended, hexIn, bytesIn, dataText, idIn, sortOfFrame, sortOf, itemIn, itemsIn};
+use items::Item;
 use lines::Number;
 use lines::Run;
 
@@ -34,9 +37,6 @@ impl Sort {
 
     // Digits of 8 data bytes.
     pub const DATA_DIGITS: usize = 16;
-
-    // An item's bytes: tag, length, identifier, data.
-    pub const ITEM: usize = 15;
 
     // What a line holds.
     pub fn of(line: &[u8]) -> Sort
@@ -90,25 +90,19 @@ impl Sort {
     }
 }
 
-// Writes the item of a line's frame to the front of `room`, where the line holds one; it is 15 bytes. What lies past the
-// room's end is not stored.
+// Writes the item of a line's frame to the front of `room`, where the line holds one: `Item::FRAME_BYTES`. What
+// lies past the room's end is not stored.
 pub fn write(line: &[u8], room: &mut [u8]) -> Sort
     ensures { λ r. ⌜ r ≡ sortOf (now (line .entry)) ⌝ }
-    ensures { λ _. ⌜ now (room .exit) ≡ sets (now (room .entry)) 0 (itemsIn (now (line .entry))) ⌝ }
+    ensures { λ _. ⌜ now (room .exit) ≡ sets (now (room .entry)) 0 (runBytes (itemsIn (now (line .entry)))) ⌝ }
 {
     let sort = Sort::of(line);
     match sort {
         Sort::Frame => {
             put_item(room, lines::word(line, 2));
-            Sort::Frame
+            sort
         }
-        Sort::Short => Sort::Short,
-        Sort::Remote => Sort::Remote,
-        Sort::Error => Sort::Error,
-        Sort::Fd => Sort::Fd,
-        Sort::Length => Sort::Length,
-        Sort::Nothing => Sort::Nothing,
-        Sort::Broken => Sort::Broken,
+        _ => sort,
     }
 }
 
@@ -221,12 +215,9 @@ fn eight(s: &[u8]) -> [u8; 8]
 // Stores the item of a frame with 8 data bytes.
 fn put_item(room: &mut [u8], word: &[u8])
     requires { ⌜ length (dataText (now word)) ≡ 16 ⌝ }
-    ensures { λ _. ⌜ now (room .exit) ≡ sets (now (room .entry)) 0 (itemIn (now (word .entry))) ⌝ }
+    ensures { λ _. ⌜ now (room .exit) ≡ sets (now (room .entry)) 0 (runBytes (itemIn (now (word .entry)) ∷ [])) ⌝ }
 {
     let id = identifier(word);
     let bytes = eight(digits(word));
-    let mut value = [0u8; 12];
-    wire::put32(&mut value, 0, id.value);
-    wire::put_all(&mut value, 4, &bytes);
-    wire::put_field(room, 0, 18, &value);
+    Item::Frame(id.value).put(&bytes, room, 0);
 }

@@ -91,7 +91,7 @@ module _ (line note : List ℕ) where
       let s : Sending =
       record {
         sender = valueAt 1 255 line .value;
-        report = record { loss = valueAt 2 65535 line .value; shake = valueAt 3 65535 line .value; number = valueAt 4 4294967295 line .value };
+        report = record { values = record { loss = valueAt 2 65535 line .value; shake = valueAt 3 65535 line .value }; own = valueAt 4 4294967295 line .value };
         noted = always || not (noMore 5 line);
       } in
       unless-fits (firstFalse 1 (valueAt 1 255 line .known ∷ valueAt 2 65535 line .known ∷ valueAt 3 65535 line .known ∷ valueAt 4 4294967295 line .known ∷ true ∷ [])) kind.Report (command.Report s) note

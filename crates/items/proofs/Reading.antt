@@ -20,6 +20,25 @@ use Rattle.items.specs.Items.{signed16, unsigned16, settingBytes, settin
 use Rattle.items.specs.Run.{Meant, meantBy}
 use Rattle.items.proofs.Signs.{unsigned-below, unsigned-signed, signed-unsigned}
 
+-- ---- each tag
+
+-- What is read of a tag, where the length is its own.
+pub set-read : (v : List ℕ) → length v ≡ 6 → itemIn 17 v ≡ Set (settingIn v)
+unfolding itemIn
+set-read v e = rw e
+
+pub frame-read : (v : List ℕ) → length v ≡ 12 → itemIn 18 v ≡ Frame (number (part 0 4 v))
+unfolding itemIn
+frame-read v e = rw e
+
+pub remove-read : (slot : ℕ) → itemIn 19 (slot ∷ []) ≡ Remove slot
+unfolding itemIn
+remove-read slot = refl
+
+pub show-read : (slot : ℕ) → itemIn 20 (slot ∷ []) ≡ Show slot
+unfolding itemIn
+show-read slot = refl
+
 -- ---- written, then read
 
 -- What fits an item's bytes: numbers of their width, and 8 data bytes with a frame, none with any other item.
@@ -69,8 +88,7 @@ module _ (s : Setting) where
       λ i. record { slot = s .slot; k = s .k; loss = loss i; shake = shake i }
 
   set-back : mag (s .loss) < 32768 → mag (s .shake) < 32768 → itemIn 17 (settingBytes s) ≡ Set s
-  unfolding itemIn
-  set-back h k = rw six (ap Set (setting-back h k))
+  set-back h k = set-read (settingBytes s) six ∙ ap Set (setting-back h k)
 
 module _ (id : ℕ) (ds : List ℕ) (eight : length ds ≡ 8) where
   twelve : length (bytes 4 id ++ ds) ≡ 12
@@ -80,16 +98,7 @@ module _ (id : ℕ) (ds : List ℕ) (eight : length ds ≡ 8) where
   data-back = rw (drop-at (bytes 4 id) ds 4 (length-bytes 4 id)) (take-all 8 ds (omega arith))
 
   frame-back : id < 4294967296 → itemIn 18 (bytes 4 id ++ ds) ≡ Frame id
-  unfolding itemIn
-  frame-back h = rw (twelve, take-at (bytes 4 id) ds 4 (length-bytes 4 id), number-bytes 4 id h)
-
-remove-back : (slot : ℕ) → meantBy 19 (slot ∷ []) ≡ meant (Remove slot) []
-unfolding itemIn
-remove-back slot = refl
-
-show-back : (slot : ℕ) → meantBy 20 (slot ∷ []) ≡ meant (Show slot) []
-unfolding itemIn
-show-back slot = refl
+  frame-back h = frame-read (bytes 4 id ++ ds) twelve ∙ ap Frame (ap number (take-at (bytes 4 id) ds 4 (length-bytes 4 id)) ∙ number-bytes 4 id h)
 
 unknown-back : meantBy 0 [] ≡ meant Unknown []
 unfolding itemIn
@@ -100,8 +109,8 @@ pub written-back : (i : Item) (ds : List ℕ) → Fits i ds → meantBy (tagOf i
 written-back (Window n) ds fits = rw (window-back n (fits .0), fits .1)
 written-back (Set s) ds fits = rw (set-back s (fits .0) (fits .1), fits .2)
 written-back (Frame id) ds fits = rw (frame-back id ds (fits .1) (fits .0), data-back id ds (fits .1))
-written-back (Remove slot) ds fits = rw fits (remove-back slot)
-written-back (Show slot) ds fits = rw fits (show-back slot)
+written-back (Remove slot) ds fits = rw (remove-read slot, fits)
+written-back (Show slot) ds fits = rw (show-read slot, fits)
 written-back Unknown ds fits = rw fits unknown-back
 
 -- ---- read, then written
@@ -169,14 +178,3 @@ long-unknown tag v h =
 pub empty-unknown : (tag : ℕ) → itemIn tag [] ≡ Unknown
 empty-unknown tag =
     by-cases (λ i. i ≡ Unknown) tag [] (λ t e. absurd (omega arith)) (λ t e. absurd (omega arith)) (λ t e. absurd (omega arith)) (λ t e. absurd (omega arith)) (λ t e. absurd (omega arith)) refl
-
--- A frame's value has 12 bytes.
-pub frame-sized : (tag : ℕ) (v : List ℕ) (id : ℕ) → itemIn tag v ≡ Frame id → length v ≡ 12
-frame-sized tag v id =
-    by-cases (λ i. i ≡ Frame id → length v ≡ 12) tag v
-    (λ t e f. let z : _≡_ {A = ℕ} 0 1 = cc in absurd (omega arith))
-    (λ t e f. let z : _≡_ {A = ℕ} 0 1 = cc in absurd (omega arith))
-    (λ t e f. e)
-    (λ t e f. let z : _≡_ {A = ℕ} 0 1 = cc in absurd (omega arith))
-    (λ t e f. let z : _≡_ {A = ℕ} 0 1 = cc in absurd (omega arith))
-    (λ f. let z : _≡_ {A = ℕ} 0 1 = cc in absurd (omega arith))

@@ -7,7 +7,7 @@ ghost use lib.Dec.{eqb};
 ghost use lib.ListN.{length};
 ghost use lib.Seq.{sets};
 ghost use Rattle.wire.specs.Bytes.{bytes, field};
-ghost use Rattle.items.specs.Items.{signed16, unsigned16, settingIn, settingBytes, itemIn, itemBytes};
+ghost use Rattle.items.specs.Items.{signed16, unsigned16, settingIn, settingBytes, dataIn, itemIn, itemBytes};
 use wire::Field;
 
 // A question that is to be set: its slot, its k and its weights.
@@ -82,6 +82,16 @@ impl Item {
             return Item::Show(wire::byte(value, 0));
         }
         Item::Unknown
+    }
+
+    // The data bytes in a frame's value.
+    pub fn data_in(value: &[u8]) -> &[u8]
+        ensures { λ r. ⌜ now r ≡ dataIn (now (value .entry)) ⌝ }
+    {
+        if value.len() < Item::DATA {
+            return &value[value.len()..];
+        }
+        wire::front(&value[Item::DATA..], Item::FRAME_SIZE - Item::DATA)
     }
 
     // Stores the item from `at` on, with `data` behind the identifier of a frame, and answers how many bytes it takes; what

@@ -6,20 +6,20 @@ use mathlib.Core.List.{List, [], _∷_, _++_, append-nil}
 use mathlib.Core.Logic.{⊎-elim}
 use Prim.Native.Nat.{ℕ, _≤_, _<_}
 use native.Mathlib.Omega.{arith}
-use borrow.Author.Tests.{eqb-false, ltb-true, ltb-false, leb-true, lt-ltb, eqb-true, le-leb, le-ltb}
-use lib.Dec.{eqb, ltb, leb}
+use borrow.Author.Tests.{eqb-false, ltb-true, ltb-false, lt-ltb, eqb-true, le-ltb}
+use lib.Dec.{eqb, ltb}
 use lib.ListN.{getD, take, length, length-append}
 use lib.Seq.{take-nil, take-append-le, take-all, length-take-le}
-use Rattle.laws.proofs.Tests.{clash, and-both, if-not, if-so, either}
-use Rattle.window.specs.History.{Values}
+use Rattle.laws.proofs.Tests.{clash, if-not, if-so, either}
+use Rattle.values.specs.declared.Values.{Values}
+use Rattle.values.specs.Range.{inRange}
+use Rattle.window.specs.declared.Counts.{Counts}
 use Rattle.board.specs.Work.{enterRefusal, enterWork}
 use Rattle.board.specs.declared.Board.{Board}
 use Rattle.board.specs.declared.Entered.{Entered}
 use Rattle.report.specs.Payload.{isPayload, readPayload}
 use Rattle.report.specs.declared.Reading.{Reading}
 use Rattle.report.proofs.Reader.{range-of}
-use Rattle.report.specs.Payload as payload
-use Rattle.values.specs.Range as range
 use Rattle.report.specs.declared.Report.{Report}
 use Rattle.joining.specs.Frame.{Frame, senderOf, malformed, foreign, frameRefusal, isAnnouncement}
 use Rattle.joining.specs.Joining.{fit, stored, announcementRefusal, announce, packet, take-frame, yields}
@@ -40,7 +40,7 @@ use Rattle.journal.proofs.Printed.{refusal}
 abbrev pub Fine : Answer → Type 0
 Fine (Refused n) = (1 ≤ n) × (n ≤ 23)
 Fine Kept = Unit
-Fine (Complete r) = (r .values .loss ≤ 4095) × (r .values .shake ≤ 4095)
+Fine (Complete r) = inRange (r .values) ≡ true
 
 -- Refusals 1, 2 and 3 by their tests.
 abbrev first : Bool → Bool → Bool → ℕ
@@ -58,12 +58,9 @@ refusal-fine id d some = go (malformed id d) (foreign id) (ltb 253 (senderOf id)
 
 -- A fit session answers no 24.
 solo-fine : (s : Session) → fit s ≡ true → (id : ℕ) (d : List ℕ) → Fine (take-frame s id d .answer)
-unfolding take-frame announce packet readPayload range.inRange
+unfolding take-frame announce packet readPayload
 solo-fine s fits id d = go (eqb (frameRefusal id d) 0) refl
   where
-    report : (r : Report) → range.inRange (r .values) ≡ true → (r .values .loss ≤ 4095) × (r .values .shake ≤ 4095)
-    report r t = let both = and-both (leb (r .values .loss) 4095) (leb (r .values .shake) 4095) t in (leb-true _ _ (both .0), leb-true _ _ (both .1))
-
     A : Taken → Type 0
     A r = Fine (r .answer)
 
@@ -79,7 +76,7 @@ solo-fine s fits id d = go (eqb (frameRefusal id d) 0) refl
         either A (not (eqb (getD d 0 0) (s .next))) (λ f. (omega arith, omega arith))
         (λ f.
         either A (ltb (s .next) (s .count)) (λ g. tt)
-        (λ g. either (λ (r : Reading). Fine (yields r)) (isPayload (take (s .size) (stored s d))) (λ h. report (payload.reportIn (take (s .size) (stored s d))) (range-of (take (s .size) (stored s d)) h)) (λ h. (omega arith, omega arith))))))
+        (λ g. either (λ (r : Reading). Fine (yields r)) (isPayload (take (s .size) (stored s d))) (λ h. range-of (take (s .size) (stored s d)) h) (λ h. (omega arith, omega arith))))))
 
     go : (t : Bool) → eqb (frameRefusal id d) 0 ≡ t → A (cond (not t) (joins.refused (frameRefusal id d) s) (cond (not (fit s)) (joins.refused 24 s) (cond (isAnnouncement id) (announce s d) (packet s d))))
     go false e = refusal-fine id d (eqb-false (frameRefusal id d) 0 e)
@@ -115,7 +112,7 @@ completed-more : (l : List Answer) (a : Answer) → completed (l ++ a ∷ []) �
 completed-more [] a = refl
 completed-more (Refused n ∷ l) a = completed-more l a
 completed-more (Kept ∷ l) a = completed-more l a
-completed-more (Complete r ∷ l) a = ap (λ (vs : List Values). record { loss = r .values .loss; shake = r .values .shake } ∷ vs) (completed-more l a)
+completed-more (Complete r ∷ l) a = ap (λ (vs : List Values). r .values ∷ vs) (completed-more l a)
 
 take-more : {A : Type 0} (n : ℕ) (l : List A) (x : A) → take n (l ++ x ∷ []) ≡ cond (ltb (length (take n l)) n) (take n l ++ x ∷ []) (take n l)
 take-more n l x =
@@ -142,20 +139,20 @@ module _ (fs : List Frame) (f : Frame) where
   nothing-more a e z = with-answer a e ∙ ap (take 1000000) (ap (λ l. completed (answersAt freshSessions fs) ++ l) z ∙ append-nil (completed (answersAt freshSessions fs)))
 
   pub one-more : (r : Report) → answer ≡ Complete r
-      → enteredBy (fs ++ f ∷ []) ≡ cond (ltb (length (enteredBy fs)) 1000000) (enteredBy fs ++ (record { loss = r .values .loss; shake = r .values .shake }) ∷ []) (enteredBy fs)
+      → enteredBy (fs ++ f ∷ []) ≡ cond (ltb (length (enteredBy fs)) 1000000) (enteredBy fs ++ r .values ∷ []) (enteredBy fs)
   unfolding enteredBy
-  one-more r e = with-answer (Complete r) e ∙ take-more 1000000 (completed (answersAt freshSessions fs)) (record { loss = r .values .loss; shake = r .values .shake })
+  one-more r e = with-answer (Complete r) e ∙ take-more 1000000 (completed (answersAt freshSessions fs)) (r .values)
 
-pub enter-refusal : (b : Board) (loss shake : ℕ) → enterWork b loss shake .refusal ≡ enterRefusal (b .window .entered) loss shake
+pub enter-refusal : (b : Board) (v : Values) → enterWork b v .refusal ≡ enterRefusal (b .window .counts) v
 unfolding enterWork
-enter-refusal b loss shake =
-    either (λ (r : Entered). r .refusal ≡ enterRefusal (b .window .entered) loss shake) (eqb (enterRefusal (b .window .entered) loss shake) 0)
+enter-refusal b v =
+    either (λ (r : Entered). r .refusal ≡ enterRefusal (b .window .counts) v) (eqb (enterRefusal (b .window .counts) v) 0)
     (λ t. sym (eqb-true _ 0 t)) (λ t. refl)
 
 -- A report with permitted values enters where fewer than 1,000,000 have.
-pub enters-when : (entered loss shake : ℕ) → loss ≤ 4095 → shake ≤ 4095 → eqb (enterRefusal entered loss shake) 0 ≡ ltb entered 1000000
+pub enters-when : (c : Counts) (v : Values) → inRange v ≡ true → eqb (enterRefusal c v) 0 ≡ ltb (c .entered) 1000000
 unfolding enterRefusal
-enters-when entered loss shake h k = rw (le-leb loss 4095 h, le-leb shake 4095 k) (go (ltb entered 1000000))
+enters-when c v may = rw may (go (ltb (c .entered) 1000000))
   where
     go : (t : Bool) → eqb (cond t 0 11) 0 ≡ t
     go true = refl

@@ -1,11 +1,11 @@
 -- A call that is refused prints its refusal, any other does what it does: the two cases of `unless`, with what is stored.
 -- Assumes nothing.
-use mathlib.Core.Path.{_≡_, refl, sym, ap, subst, _∙_}
+use mathlib.Core.Path.{_≡_, sym, ap, subst, _∙_}
 use Prim.Native.Nat.{ℕ, _^_, _<_}
-use mathlib.Core.List.{List, []}
+use mathlib.Core.List.{List}
 use Rattle.board.proofs.Refusals.{zero-is, zero-not}
 use Rattle.text.specs.Text.{behind}
-use Rattle.text.proofs.Places.{Put, none, put}
+use Rattle.text.proofs.Places.{none}
 use lib.Seq.{sets}
 use Rattle.journal.specs.declared.Log.{Log}
 use Rattle.journal.specs.Log.{Outcome, Stores, refused, quiet, unless}

@@ -2,6 +2,8 @@
 pub mod Calls
 pub mod Searches
 pub mod Frames
+pub mod Items
+pub mod Meaning
 pub mod Cutting
 pub mod Outcomes
 pub mod Printed

@@ -11,8 +11,8 @@ use Rattle.journal.proofs.Log.item.Kinds as item-kinds
 use Rattle.journal.proofs.Log.item.Reads as item-reads
 use Rattle.journal.proofs.next_item.Kinds as next-item-kinds
 use Rattle.journal.proofs.next_item.Reads as next-item-reads
-use Rattle.journal.proofs.weights_in.Kinds as weights-in-kinds
-use Rattle.journal.proofs.weights_in.Reads as weights-in-reads
+use Rattle.journal.proofs.rule_in.Kinds as rule-in-kinds
+use Rattle.journal.proofs.rule_in.Reads as rule-in-reads
 use Rattle.journal.proofs.put_search.Kinds as put-search-kinds
 use Rattle.journal.proofs.put_search.Reads as put-search-reads
 
@@ -31,8 +31,8 @@ item-leaves-once κs a x y s t p q = p .stored ∙ sym (q .stored)
 next-item-once : OneAnswer 0 next-item-kinds.ps next-item-kinds.r next-item-reads.Post
 next-item-once κs a x y s t p q = p ∙ sym q
 
-weights-in-once : OneAnswer 1 weights-in-kinds.ps weights-in-kinds.r weights-in-reads.Post
-weights-in-once κs a x y s t p q = p ∙ sym q
+rule-in-once : OneAnswer 1 rule-in-kinds.ps rule-in-kinds.r rule-in-reads.Post
+rule-in-once κs a x y s t p q = p ∙ sym q
 
 put-search-once : OneAnswer 1 put-search-kinds.ps put-search-kinds.r put-search-reads.Post
 put-search-once κs a x y s t p q = p .0 ∙ sym (q .0)

@@ -3,21 +3,22 @@
 -- Assumes nothing.
 use mathlib.Core.Path.{_≡_, refl, sym, ap, _∙_, subst}
 use mathlib.Core.Logic.{inl}
-use mathlib.Core.Bool.{Bool, true, false, cond, _&&_}
+use mathlib.Core.Bool.{Bool, true, false, cond, _&&_, false≢true}
 use mathlib.Core.List.{List, [], _∷_, _++_, append-nil}
 use Prim.Native.Nat.{ℕ, _≤_, _<_}
 use native.Mathlib.Omega.{arith}
 use borrow.Author.Tests.{eqb-true, eqb-false, ne-eqb, ltb-true, ltb-false}
 use lib.Dec.{eqb, ltb, leb}
-use lib.ListN.{length, getD, take, length-map, length-take, getD-replicate}
-use Rattle.wire.specs.Bytes.{number, part}
+use lib.ListN.{length, take, length-map, length-take, getD-replicate}
+use Rattle.values.specs.declared.Values.{Values}
 use Rattle.values.specs.Range.{inRange}
-use Rattle.ranking.specs.declared.Weights.{Weights}
+use Rattle.ranking.specs.Cells.{fitRule}
+use Rattle.ranking.specs.declared.Rule.{Rule}
 use Rattle.laws.proofs.Tests.{Tested, passed, failed, tested, and-both, if-so, if-not, either}
 use Rattle.laws.proofs.Lists.{there, getD-in}
 use Rattle.window.specs.declared.Fresh.{Fresh}
 use Rattle.window.specs.Rows.{sized, freshWindow, fitWindow, added}
-use Rattle.window.specs.History.{Values}
+use Rattle.window.specs.declared.Counts.{Counts}
 use Rattle.window.proofs.Fitness.{fit-facts}
 use Rattle.question.specs.declared.Question.{Question}
 use Rattle.question.specs.Lines.{emptySlot, finished, inRows}
@@ -52,14 +53,18 @@ use Rattle.joining.specs.declared.Session.{Session}
 use Rattle.joining.specs.declared.Answer.{Answer}
 use Rattle.joining.specs.declared.Answer.the-variants.{Refused, Kept, Complete}
 use Rattle.joining.proofs.Driving.{sessions-more}
-use Rattle.text.specs.Text.{sLine, qLine}
+use Rattle.text.specs.Text.{qLine}
 use Rattle.text.specs.Text as text
 use Rattle.text.proofs.Lengths.{listed-in-range}
+use Rattle.items.specs.declared.Setting.{Setting}
+use Rattle.items.specs.declared.Item.{Item}
+use Rattle.items.specs.declared.Item.the-variants.{Window, Set, Remove, Show, Unknown}
+use Rattle.items.specs.declared.Item.the-variants as item
+use Rattle.items.specs.Items.{dataIn, itemIn}
 use Rattle.journal.specs.declared.Log.{Log}
-use Rattle.journal.specs.Log.{Outcome, freshLog, counted, nextItem, withBoard, withSessions, quiet, unless, known, itemRefusal, windowItem, weightsIn, setItem, removeItem, showItem, sLines, enterItem, answered, frameIn, frameItem, byTag, itemDone}
-use Rattle.journal.specs.Reached.{frameOf, enteredBy}
+use Rattle.journal.specs.Log.{Outcome, freshLog, counted, nextItem, withBoard, withSessions, unless, early, itemRefusal, windowItem, settingRule, setItem, removeItem, showItem, sLines, enterItem, answered, frameItem, byItem, itemDone}
+use Rattle.journal.specs.Reached.{framed, frameOf, enteredBy}
 use Rattle.journal.proofs.Printed.{Prints, nothing, refusal, search, searches, list}
-use Rattle.laws.proofs.Tests.{either}
 use Rattle.journal.proofs.Answers.{Fine, answer-fine, none-yet, answer, nothing-more, one-more, enter-refusal, enters-when}
 use Rattle.journal.proofs.Shown.{Small, slot-small, map-few}
 
@@ -103,39 +108,39 @@ pub fresh-empty : (n slot : ℕ) → slot < 32 → slotAt (freshBoard n .board) 
 unfolding freshBoard
 fresh-empty n slot h = getD-replicate 32 slot emptySlot noQuestion h
 
-window-does : {fs : List Frame} (log : Log) → Own fs log → fs ≡ [] → (v : List ℕ) → Does fs (log .items) (windowItem log v)
+window-does : {fs : List Frame} (log : Log) → Own fs log → fs ≡ [] → (n : ℕ) → Does fs (log .items) (windowItem log n)
 unfolding windowItem
-window-does {fs} log own first v = go (tested (eqb (made .refusal) 0))
+window-does {fs} log own first n = go (tested (eqb (made .refusal) 0))
   where
     made : NewBoard
-    made = freshBoard (number (part 0 2 v))
+    made = freshBoard n
 
     left : made .refusal ≡ 0 → Boarded fs (made .board)
     left e = window (board.fresh e) (reached-fit (board.fresh e) (λ slot h. inl (fresh-empty _ slot h))) (sym (ap enteredBy first ∙ none-yet))
 
-    go : Tested (eqb (made .refusal) 0) → Does fs (log .items) (windowItem log v)
+    go : Tested (eqb (made .refusal) 0) → Does fs (log .items) (windowItem log n)
     go (passed t) = does log (made .refusal) t (record { own = record { board-is = left (eqb-true _ 0 t); heard = own .heard }; prints = nothing refl })
     go (failed t) = refuses log (made .refusal) _ own (fresh-code _) t
 
 -- ---- the board's calls
 
-set-code : (b : Board) (slot k : ℕ) (ws : Weights) → setWork b slot k ws .refusal ≤ 23
-set-code b slot k ws = go (tested (ltb slot 32))
+set-code : (b : Board) (slot k : ℕ) (rule : Rule) → setWork b slot k rule .refusal ≤ 23
+set-code b slot k rule = go (tested (ltb slot 32))
   where
-    go : Tested (ltb slot 32) → setWork b slot k ws .refusal ≤ 23
-    go (failed t) = omega (arith, ap (λ (r : Placed). r .refusal) (set-nowhere b slot k ws (ltb-false slot 32 t)))
+    go : Tested (ltb slot 32) → setWork b slot k rule .refusal ≤ 23
+    go (failed t) = omega (arith, ap (λ (r : Placed). r .refusal) (set-nowhere b slot k rule (ltb-false slot 32 t)))
     go (passed t) =
-        subst (λ (n : ℕ). n ≤ 23) (sym (ap (λ (r : Placed). r .refusal) (set-there b slot k ws (ltb-true slot 32 t)) ∙ set-refusal (slotAt b slot) k ws (inRows (b .window))))
+        subst (λ (n : ℕ). n ≤ 23) (sym (ap (λ (r : Placed). r .refusal) (set-there b slot k rule (ltb-true slot 32 t)) ∙ set-refusal (slotAt b slot) k rule (inRows (b .window))))
         (code (leb 1 k && leb k 16) 14 (omega arith)
-        (code (inRange (ws .loss) && inRange (ws .shake)) 15 (omega arith) (code (eqb (slotAt b slot .k) 0) 16 {x = 0} (omega arith) (omega arith))))
+        (code (fitRule rule) 15 (omega arith) (code (eqb (slotAt b slot .k) 0) 16 {x = 0} (omega arith) (omega arith))))
 
 remove-code : (b : Board) (slot : ℕ) → removeWork b slot .refusal ≤ 23
 unfolding removeWork
 remove-code b slot = either (λ (r : Removed). r .refusal ≤ 23) (ltb slot 32) (λ t. code (eqb (slotAt b slot .k) 0) 0 {x = 17} (omega arith) (omega arith)) (λ t. omega arith)
 
-enter-code : (entered loss shake : ℕ) → enterRefusal entered loss shake ≤ 23
+enter-code : (c : Counts) (v : Values) → enterRefusal c v ≤ 23
 unfolding enterRefusal
-enter-code entered loss shake = code (leb loss 4095 && leb shake 4095) 12 (omega arith) (code (ltb entered 1000000) 11 {x = 0} (omega arith) (omega arith))
+enter-code c v = code (inRange v) 12 (omega arith) (code (ltb (c .entered) 1000000) 11 {x = 0} (omega arith) (omega arith))
 
 -- A fit board.
 module _ (b : Board) {n : ℕ} {past : List Values} (reached : board.Reached n past b) (fits : fitBoard b ≡ true) where
@@ -159,22 +164,22 @@ module _ (b : Board) {n : ℕ} {past : List Values} (reached : board.Reached n p
 
   -- Setting and removing enter nothing.
   module _ (fs : List Frame) (same : past ≡ enteredBy fs) where
-    set-board : (slot k : ℕ) (ws : Weights) → Boarded fs (setWork b slot k ws .board)
-    set-board slot k ws = subst (λ (r : Placed). Boarded fs (r .board)) (set-known b fits slot k ws) (window (board.set reached slot k ws) (fit-set b (kept reached) fits slot k ws) same)
+    set-board : (slot k : ℕ) (rule : Rule) → Boarded fs (setWork b slot k rule .board)
+    set-board slot k rule = subst (λ (r : Placed). Boarded fs (r .board)) (set-known b fits slot k rule) (window (board.set reached slot k rule) (fit-set b (kept reached) fits slot k rule) same)
 
     remove-board : (slot : ℕ) → Boarded fs (removeWork b slot .board)
     remove-board slot = subst (λ (r : Removed). Boarded fs (r .board)) (remove-known b fits slot) (window (board.remove reached slot) (fit-remove b (kept reached) fits slot) same)
 
     -- A completed report enters as the frames' next one.
-    enter-board : (f : Frame) (r : Report) → answer fs f ≡ Complete r → r .values .loss ≤ 4095 → r .values .shake ≤ 4095 → Boarded (fs ++ f ∷ []) (enterWork b (r .values .loss) (r .values .shake) .board)
-    enter-board f r e h k =
-        let v : Values = record { loss = r .values .loss; shake = r .values .shake } in
-        let known = enter-known b fits (r .values .loss) (r .values .shake) in
-        let when : eqb (enterCall b (r .values .loss) (r .values .shake) .refusal) 0 ≡ ltb (length past) 1000000 =
-        ap (λ (x : Entered). eqb (x .refusal) 0) known ∙ ap (λ (m : ℕ). eqb m 0) (enter-refusal b (r .values .loss) (r .values .shake)) ∙ enters-when (b .window .entered) (r .values .loss) (r .values .shake) h k
+    enter-board : (f : Frame) (r : Report) → answer fs f ≡ Complete r → inRange (r .values) ≡ true → Boarded (fs ++ f ∷ []) (enterWork b (r .values) .board)
+    enter-board f r e may =
+        let v : Values = r .values in
+        let known = enter-known b fits v in
+        let when : eqb (enterCall b v .refusal) 0 ≡ ltb (length past) 1000000 =
+        ap (λ (x : Entered). eqb (x .refusal) 0) known ∙ ap (λ (m : ℕ). eqb m 0) (enter-refusal b v) ∙ enters-when (b .window .counts) v may
         ∙ ap (λ (m : ℕ). ltb m 1000000) (kept reached .since .all-entered) in
         subst (λ (x : Entered). Boarded (fs ++ f ∷ []) (x .board)) known
-        (window (board.enter reached v) (fit-enter b (kept reached) fits (r .values .loss) (r .values .shake))
+        (window (board.enter reached v) (fit-enter b (kept reached) fits v)
         (ap (λ (t : Bool). cond t (past ++ v ∷ []) past) when
         ∙ ap (λ (l : List Values). cond (ltb (length l) 1000000) (l ++ v ∷ []) l) same ∙ sym (one-more fs f r e)))
 
@@ -189,62 +194,65 @@ module _ (fs : List Frame) (log : Log) (heard : log .sessions ≡ sessionsAt fre
   refused-does : (n : ℕ) (done : Outcome) → Boarded fs b → n ≤ 23 → eqb n 0 ≡ false → Does fs (log .items) (unless log n done)
   refused-does n done is few t = refuses log n done (record { board-is = is; heard = heard }) few t
 
-  set-does : (v : List ℕ) → Boarded fs (setWork b (getD v 0 0) (getD v 1 0) (weightsIn v) .board) → Does fs (log .items) (setItem log v)
+  set-does : (s : Setting) → Boarded fs (setWork b (s .slot) (s .k) (settingRule s) .board) → Does fs (log .items) (setItem log s)
   unfolding setItem
-  set-does v is = go (tested (eqb (placed .refusal) 0))
+  set-does s is = go (tested (eqb (placed .refusal) 0))
     where
       slot : ℕ
-      slot = getD v 0 0
+      slot = s .slot
+
+      k : ℕ
+      k = s .k
+
+      rule : Rule
+      rule = settingRule s
 
       placed : Placed
-      placed = setWork b (getD v 0 0) (getD v 1 0) (weightsIn v)
+      placed = setWork b (s .slot) (s .k) (settingRule s)
 
       few : slot < 32 → placed .steps ≤ 256
-      few h = subst (λ (r : Placed). r .steps ≤ 256) (sym (set-there b slot (getD v 1 0) (weightsIn v) h)) (set-few (slotAt b slot) (getD v 1 0) (weightsIn v) (inRows (b .window)))
+      few h = subst (λ (r : Placed). r .steps ≤ 256) (sym (set-there b slot k rule h)) (set-few (slotAt b slot) k rule (inRows (b .window)))
 
-      go : Tested (eqb (placed .refusal) 0) → Does fs (log .items) (setItem log v)
+      go : Tested (eqb (placed .refusal) 0) → Does fs (log .items) (setItem log s)
       go (passed t) =
-          let there = settable b slot (getD v 1 0) (weightsIn v) (eqb-true _ 0 t) .there in
+          let there = settable b slot k rule (eqb-true _ 0 t) .there in
           does log (placed .refusal) t (record { own = owns is; prints = search slot _ there (few there) refl })
       go (failed t) =
-          refused-does (placed .refusal) _ (subst (Boarded fs) (set-kept b slot (getD v 1 0) (weightsIn v) (eqb-false _ 0 t)) is) (set-code b slot (getD v 1 0) (weightsIn v)) t
+          refused-does (placed .refusal) _ (subst (Boarded fs) (set-kept b slot k rule (eqb-false _ 0 t)) is) (set-code b slot k rule) t
 
-  remove-does : (v : List ℕ) → Boarded fs (removeWork b (getD v 0 0) .board) → Does fs (log .items) (removeItem log v)
+  remove-does : (slot : ℕ) → Boarded fs (removeWork b slot .board) → Does fs (log .items) (removeItem log slot)
   unfolding removeItem
-  remove-does v is = go (tested (eqb (removeWork b (getD v 0 0) .refusal) 0))
+  remove-does slot is = go (tested (eqb (removeWork b slot .refusal) 0))
     where
-      go : Tested (eqb (removeWork b (getD v 0 0) .refusal) 0) → Does fs (log .items) (removeItem log v)
-      go (passed t) = does log (removeWork b (getD v 0 0) .refusal) t (record { own = owns is; prints = nothing refl })
-      go (failed t) = refused-does (removeWork b (getD v 0 0) .refusal) _ (subst (Boarded fs) (remove-kept b (getD v 0 0) (eqb-false _ 0 t)) is) (remove-code b (getD v 0 0)) t
+      go : Tested (eqb (removeWork b slot .refusal) 0) → Does fs (log .items) (removeItem log slot)
+      go (passed t) = does log (removeWork b slot .refusal) t (record { own = owns is; prints = nothing refl })
+      go (failed t) = refused-does (removeWork b slot .refusal) _ (subst (Boarded fs) (remove-kept b slot (eqb-false _ 0 t)) is) (remove-code b slot) t
 
-  enter-does : length (b .slots) ≡ 32 → (loss shake : ℕ) → Boarded fs (enterWork b loss shake .board) → Does fs (log .items) (enterItem log loss shake)
+  enter-does : length (b .slots) ≡ 32 → (v : Values) → Boarded fs (enterWork b v .board) → Does fs (log .items) (enterItem log v)
   unfolding enterItem enterWork
-  enter-does many loss shake = go (tested (eqb (enterRefusal (b .window .entered) loss shake) 0))
+  enter-does many v = go (tested (eqb (enterRefusal (b .window .counts) v) 0))
     where
       P : Entered → Type 0
       P r = Boarded fs (r .board) → Does fs (log .items) (unless log (r .refusal) (record { text = sLines (log .items) 0 (r .searched) (r .steps); log = withBoard log (r .board) }))
 
       steps : Question → ℕ
-      steps q = turned (b .window) loss shake q .steps
+      steps q = turned (b .window) v q .steps
 
-      go : Tested (eqb (enterRefusal (b .window .entered) loss shake) 0) → P (enterWork b loss shake)
+      go : Tested (eqb (enterRefusal (b .window .counts) v) 0) → P (enterWork b v)
       go (passed t) =
           subst P (sym (if-so _ _ t))
           (λ is.
           does log 0 refl
           (record {
             own = owns is;
-            prints = searches _ _ (length-map (b .slots) (λ q. turned (b .window) loss shake q .searched) ∙ many) (map-few steps (λ q. turn-few q (newReport (b .window) loss shake) (outgoing (b .window)) (inRows (added (b .window) loss shake))) (b .slots)) refl;
+            prints = searches _ _ (length-map (b .slots) (λ q. turned (b .window) v q .searched) ∙ many) (map-few steps (λ q. turn-few q (newReport (b .window) v) (outgoing (b .window)) (inRows (added (b .window) v))) (b .slots)) refl;
           }))
-      go (failed t) = subst P (sym (if-not _ _ t)) (λ is. refuses log (enterRefusal (b .window .entered) loss shake) _ (owns is) (enter-code (b .window .entered) loss shake) t)
+      go (failed t) = subst P (sym (if-not _ _ t)) (λ is. refuses log (enterRefusal (b .window .counts) v) _ (owns is) (enter-code (b .window .counts) v) t)
 
-  show-does : (v : List ℕ) → Boarded fs b → ((slot : ℕ) → slot < 32 → Small (slotAt b slot)) → Does fs (log .items) (showItem log v)
+  show-does : (slot : ℕ) → Boarded fs b → ((slot : ℕ) → slot < 32 → Small (slotAt b slot)) → Does fs (log .items) (showItem log slot)
   unfolding showItem readWork readIn
-  show-does v is each = go (tested (ltb slot 32)) (tested (eqb (slotAt b slot .k) 0))
+  show-does slot is each = go (tested (ltb slot 32)) (tested (eqb (slotAt b slot .k) 0))
     where
-      slot : ℕ
-      slot = getD v 0 0
-
       P : Shown → Type 0
       P r = Does fs (log .items) (unless log (r .refusal) (record { text = qLine slot (take (r .len) (text.listed (r .numbers) (r .scores))); log = log }))
 
@@ -269,81 +277,79 @@ module _ (fs : List Frame) (f : Frame) (log : Log) (heard : log .sessions ≡ se
       record { own = record { board-is = window reached fits (same ∙ sym (nothing-more fs f (Refused m) e refl)); heard = heard }; prints = refusal m (h .0) (h .1) refl }
   answered-does Kept e h = record { own = record { board-is = window reached fits (same ∙ sym (nothing-more fs f Kept e refl)); heard = heard }; prints = nothing refl }
   answered-does (Complete r) e h =
-      enter-does (fs ++ f ∷ []) log heard (kept reached .many) (r .values .loss) (r .values .shake) (enter-board (log .board) reached fits fs same f r e (h .0) (h .1))
+      enter-does (fs ++ f ∷ []) log heard (kept reached .many) (r .values) (enter-board (log .board) reached fits fs same f r e h)
 
 frame-does : (fs : List Frame) (log : Log) → log .sessions ≡ sessionsAt freshSessions fs → {n : ℕ} {past : List Values} → board.Reached n past (log .board) → fitBoard (log .board) ≡ true
-    → past ≡ enteredBy fs → (v : List ℕ) → Does (fs ++ frameIn v ∷ []) (log .items) (frameItem log v)
+    → past ≡ enteredBy fs → (f : Frame) → Does (fs ++ f ∷ []) (log .items) (frameItem log f)
 unfolding frameItem answer
-frame-does fs log heard reached fits same v =
-    let f = frameIn v in
+frame-does fs log heard reached fits same f =
     answered-does fs f (withSessions log (sessionsAfter (log .sessions) f)) (ap (λ (ss : List Session). sessionsAfter ss f) heard ∙ sym (sessions-more freshSessions fs f)) reached fits same
     (answerTo (log .sessions) f) (ap (λ (ss : List Session). answerTo ss f) (sym heard)) (answer-fine fs (log .sessions) heard f)
 
 -- ---- an item
 
 -- An item that passes is the window's where there is none yet, and any other where there is one.
-placed : (log : Log) (tag size : ℕ) → itemRefusal log tag size ≡ 0 → eqb (log .board .window .size) 0 ≡ eqb tag 16
-unfolding itemRefusal
-placed log tag size = go (known tag size) (eqb tag 16) (eqb (log .board .window .size) 0)
-  where
-    go : (k t z : Bool) → _≡_ {A = ℕ} (cond k (cond t (cond z 0 23) (cond z 23 0)) 22) 0 → z ≡ t
-    go false t z e = absurd (omega arith)
-    go true true true e = refl
-    go true true false e = absurd (omega arith)
-    go true false true e = absurd (omega arith)
-    go true false false e = refl
+first-one : (z : Bool) → _≡_ {A = ℕ} (cond z 0 23) 0 → z ≡ true
+first-one true e = refl
+first-one false e = absurd (omega arith)
 
-item-code : (log : Log) (tag size : ℕ) → itemRefusal log tag size ≤ 23
-unfolding itemRefusal
-item-code log tag size =
-    let z = eqb (log .board .window .size) 0 in
-    code (known tag size) 22 (omega arith)
-    (either (λ (m : ℕ). m ≤ 23) (eqb tag 16) (λ t. code z 23 {x = 0} (omega arith) (omega arith)) (λ t. code z 0 {x = 23} (omega arith) (omega arith)))
+later-one : (z : Bool) → _≡_ {A = ℕ} (cond z 23 0) 0 → z ≡ false
+later-one true e = absurd (omega arith)
+later-one false e = refl
 
-pub no-window : freshBoard 0 .board .window .size ≡ 0
+early-code : (log : Log) → early log ≤ 23
+early-code log = code (eqb (log .board .window .counts .size) 0) 0 {x = 23} (omega arith) (omega arith)
+
+item-code : (log : Log) (i : Item) → itemRefusal log i ≤ 23
+unfolding itemRefusal
+item-code log Unknown = omega arith
+item-code log (Window n) = code (eqb (log .board .window .counts .size) 0) 23 {x = 0} (omega arith) (omega arith)
+item-code log (Set s) = early-code log
+item-code log (item.Frame id) = early-code log
+item-code log (Remove slot) = early-code log
+item-code log (Show slot) = early-code log
+
+pub no-window : freshBoard 0 .board .window .counts .size ≡ 0
 unfolding freshBoard freshWindow
 no-window = refl
 
 -- A fit board has a window.
-pub has-window : (b : Board) → fitBoard b ≡ true → eqb (b .window .size) 0 ≡ false
+pub has-window : (b : Board) → fitBoard b ≡ true → eqb (b .window .counts .size) 0 ≡ false
 unfolding fitBoard
 has-window b fits =
     let ranges = fit-facts (b .window) (and-both (fitWindow (b .window)) (allOf (slotFit (b .window)) (b .slots)) fits .0) .ranges in
-    ne-eqb (b .window .size) 0 (λ e. omega (arith, ranges .ring .some))
+    ne-eqb (b .window .counts .size) 0 (λ e. omega (arith, ranges .ring .some))
 
-module _ (fs : List Frame) (log : Log) (own : Own fs log) (tag : ℕ) (v : List ℕ) where
-  -- The frames after an item that passes.
-  after : List Frame
-  after = fs ++ cond (eqb tag 18) (frameIn v ∷ []) []
-
-  no-frame : {o : Outcome} → eqb tag 18 ≡ false → Does fs (log .items) o → Does after (log .items) o
-  unfolding after
-  no-frame {o} e d = subst (λ gs. Does gs (log .items) o) (sym (ap (λ t. fs ++ cond t (frameIn v ∷ []) []) e ∙ append-nil fs)) d
-
-  other : (n : ℕ) → eqb n 18 ≡ false → eqb tag n ≡ true → eqb tag 18 ≡ false
-  other n e t = ap (λ m. eqb m 18) (eqb-true tag n t) ∙ e
-
-  by-tag-does : eqb (log .board .window .size) 0 ≡ eqb tag 16 → Does after (log .items) (byTag log tag v)
-  unfolding byTag after
-  by-tag-does place = go (own .board-is)
+module _ (fs : List Frame) (log : Log) (own : Own fs log) where
+  -- Where there is a window, the board is one that the board's calls lead to.
+  standing : {P : Type 0} → early log ≡ 0
+      → ((n : ℕ) (past : List Values) → board.Reached n past (log .board) → fitBoard (log .board) ≡ true → past ≡ enteredBy fs → P) → P
+  standing {P} passes each = go (own .board-is)
     where
-      A : Outcome → Type 0
-      A o = Does after (log .items) o
-
-      go : Boarded fs (log .board) → A (byTag log tag v)
+      go : Boarded fs (log .board) → P
       go (none first e) =
-          let t : eqb tag 16 ≡ true = sym place ∙ ap (λ (b : Board). eqb (b .window .size) 0) e ∙ ap (λ m. eqb m 0) no-window in
-          subst A (sym (if-so _ _ t)) (no-frame (other 16 refl t) (window-does log own first v))
-      go (window r fits same) =
-          subst A (sym (if-not _ _ (sym place ∙ has-window (log .board) fits)))
-          (either A (eqb tag 17) (λ t. no-frame (other 17 refl t) (set-does fs log (own .heard) v (set-board (log .board) r fits fs same _ _ _)))
-          (λ t.
-          either A (eqb tag 18)
-          (λ u. subst (λ gs. Does gs (log .items) (frameItem log v)) (ap (λ x. fs ++ cond x (frameIn v ∷ []) []) (sym u)) (frame-does fs log (own .heard) r fits same v))
-          (λ u.
-          no-frame u
-          (either (Does fs (log .items)) (eqb tag 19) (λ x. remove-does fs log (own .heard) v (remove-board (log .board) r fits fs same _))
-          (λ x. show-does fs log (own .heard) v (own .board-is) (slots-small (log .board) r fits))))))
+          absurd (false≢true (sym (later-one _ passes) ∙ ap (λ (b : Board). eqb (b .window .counts .size) 0) e ∙ ap (λ m. eqb m 0) no-window))
+      go (window {n} {past} r fits same) = each n past r fits same
+
+  -- And before there is one, no frame has been taken.
+  not-yet : eqb (log .board .window .counts .size) 0 ≡ true → fs ≡ []
+  not-yet z = go (own .board-is)
+    where
+      go : Boarded fs (log .board) → fs ≡ []
+      go (none first e) = first
+      go (window r fits same) = absurd (false≢true (sym (has-window (log .board) fits) ∙ z))
+
+  no-frame : {o : Outcome} → Does fs (log .items) o → Does (fs ++ []) (log .items) o
+  no-frame {o} d = subst (λ gs. Does gs (log .items) o) (sym (append-nil fs)) d
+
+  by-item-does : (i : Item) (ds : List ℕ) → itemRefusal log i ≡ 0 → Does (fs ++ framed i ds) (log .items) (byItem log i ds)
+  unfolding itemRefusal byItem
+  by-item-does Unknown ds passes = absurd (omega arith)
+  by-item-does (Window n) ds passes = no-frame (window-does log own (not-yet (first-one _ passes)) n)
+  by-item-does (Set s) ds passes = standing passes (λ n past r fits same. no-frame (set-does fs log (own .heard) s (set-board (log .board) r fits fs same (s .slot) (s .k) (settingRule s))))
+  by-item-does (item.Frame id) ds passes = standing passes (λ n past r fits same. frame-does fs log (own .heard) r fits same (record { identifier = id; data-bytes = ds }))
+  by-item-does (Remove slot) ds passes = standing passes (λ n past r fits same. no-frame (remove-does fs log (own .heard) slot (remove-board (log .board) r fits fs same slot)))
+  by-item-does (Show slot) ds passes = standing passes (λ n past r fits same. no-frame (show-does fs log (own .heard) slot (own .board-is) (slots-small (log .board) r fits)))
 
 pub fresh-own : Own [] freshLog
 unfolding freshLog sessionsAt
@@ -351,11 +357,14 @@ fresh-own = record { board-is = none refl refl; heard = refl }
 
 -- Every item keeps what the log holds its own, and prints what an item can print.
 pub item-does : (fs : List Frame) (log : Log) → Own fs log → (tag : ℕ) (v : List ℕ) → Does (fs ++ frameOf log tag v) (nextItem (log .items)) (itemDone log tag v)
-unfolding itemDone after
+unfolding itemDone
 item-does fs log own tag v = go (tested (eqb code-of 0))
   where
+    i : Item
+    i = itemIn tag v
+
     code-of : ℕ
-    code-of = itemRefusal (counted log) tag (length v)
+    code-of = itemRefusal (counted log) i
 
     more : Own fs (counted log)
     more = record { board-is = own .board-is; heard = own .heard }
@@ -364,7 +373,7 @@ item-does fs log own tag v = go (tested (eqb code-of 0))
     A gs = Does gs (nextItem (log .items)) (itemDone log tag v)
 
     go : Tested (eqb code-of 0) → A (fs ++ frameOf log tag v)
-    go (failed t) = subst A (sym (ap (λ x. fs ++ cond (x && eqb tag 18) (frameIn v ∷ []) []) t ∙ append-nil fs)) (refuses (counted log) code-of _ more (item-code (counted log) tag (length v)) t)
+    go (failed t) = subst A (sym (ap (λ x. fs ++ cond x (framed i (dataIn v)) []) t ∙ append-nil fs)) (refuses (counted log) code-of _ more (item-code (counted log) i) t)
     go (passed t) =
-        subst A (sym (ap (λ x. fs ++ cond (x && eqb tag 18) (frameIn v ∷ []) []) t))
-        (does (counted log) code-of t (by-tag-does fs (counted log) more tag v (placed (counted log) tag (length v) (eqb-true _ 0 t))))
+        subst A (sym (ap (λ x. fs ++ cond x (framed i (dataIn v)) []) t))
+        (does (counted log) code-of t (by-item-does fs (counted log) more i (dataIn v) (eqb-true _ 0 t)))

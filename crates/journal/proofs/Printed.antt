@@ -1,4 +1,4 @@
--- What an item prints is at most `Stretch::MOST` bytes long and says no 24: it is one line, or a line for each of 32 slots, and every number in it is small.
+-- What an item prints is at most `Waiting::MOST` bytes long and says no 24: it is one line, or a line for each of 32 slots, and every number in it is small.
 -- Assumes nothing.
 use mathlib.Core.Path.{_≡_, refl, sym, ap, ap₂, _∙_}
 use mathlib.Core.Bool.{Bool, true, false, cond}
@@ -19,7 +19,7 @@ pub data Prints (item : ℕ) (text : List ℕ) : Type 0 where
   searches : (bs : List Bool) (ns : List ℕ) → length bs ≡ 32 → ((i : ℕ) → getD ns i 0 ≤ 256) → text ≡ sLines item 0 bs ns → Prints item text
   list : (slot : ℕ) (es : List Entry) → slot < 32 → length es ≤ 16 → InRange es → text ≡ qLine slot es → Prints item text
 
--- ---- at most `Stretch::MOST` bytes
+-- ---- at most `Waiting::MOST` bytes
 
 module _ (item : ℕ) (small : item < 2 ^ 64) where
   line-longest : (b : Bool) (slot steps : ℕ) → slot < 256 → steps ≤ 256 → length (cond b (sLine item slot steps) []) ≤ 33

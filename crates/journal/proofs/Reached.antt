@@ -1,22 +1,22 @@
 -- What is promised of every log that items lead to: its sessions are fit, and so is its board once there is a window, so that no call answers 24; its window holds what its frames
--- brought, every question in use lists the best k of that; and no item prints more than `Stretch::MOST` bytes. Each is read off what the log keeps its own.
+-- brought, every question in use lists the best k of that; and no item prints more than `Waiting::MOST` bytes. Each is read off what the log keeps its own.
 -- Assumes nothing.
 use mathlib.Core.Path.{_≡_, refl, sym, ap, ap₂, _∙_, subst}
 use mathlib.Core.Logic.{_⊎_, inl, inr}
 use mathlib.Core.Bool.{true, false}
-use mathlib.Core.List.{List, [], _∷_, map}
+use mathlib.Core.List.{List, [], _∷_}
 use Prim.Native.Nat.{ℕ, zero, suc, _-_, _^_, _≤_, _<_}
 use native.Mathlib.Omega.{arith}
-use borrow.Author.Tests.{lt-ltb, ne-eqb}
+use borrow.Author.Tests.{lt-ltb, ne-eqb, eqb-false}
 use lib.Dec.{eqb}
 use lib.IntN.{ℤ}
 use lib.ListN.{length, take}
 use lib.Seq.{drop-nil}
-use Rattle.search.specs.Best.{best}
-use Rattle.ranking.specs.Standing.{Held, above, entry}
-use Rattle.ranking.specs.declared.Weights.{Weights}
+use Rattle.values.specs.declared.Values.{Values}
+use Rattle.ranking.specs.Standing.{Held, top}
+use Rattle.ranking.specs.declared.Rule.{Rule}
 use Rattle.window.specs.Rows.{freshWindow, heldReports}
-use Rattle.window.specs.History.{Values, numbered, latest}
+use Rattle.window.specs.History.{numbered, latest}
 use Rattle.window.proofs.Reports.{empty-holds}
 use Rattle.question.specs.Lines.{lines, linesOf}
 use Rattle.board.specs.Work.{slotAt, freshBoard, setWork, removeWork, readWork, enterWork}
@@ -33,10 +33,11 @@ use Rattle.joining.specs.declared.Session.{Session}
 use Rattle.joining.proofs.Reached.{reached-fit}
 use Rattle.text.specs.Text.{Entry, rLine, qLine, listed}
 use Rattle.journal.specs.declared.Log.{Log}
-use Rattle.journal.specs.Log.{nextItem, itemDone, itemRefusal, known, byTag, showItem, unless}
+use Rattle.journal.specs.Log.{Outcome, nextItem, itemDone, showItem, unless}
 use Rattle.journal.specs.Reached.{Reached, fresh, item, framesOf, enteredBy, shownAs}
 use Rattle.journal.proofs.Printed.{at-most, never-24}
 use Rattle.journal.proofs.Answers.{none-yet}
+use Rattle.journal.proofs.Items.{show-done}
 use Rattle.journal.proofs.Own.{Own, Boarded, none, window, fresh-own, item-does, fresh-empty, no-window, has-window, slot-ended}
 
 pub own : {log : Log} → (r : Reached log) → Own (framesOf r) log
@@ -63,13 +64,14 @@ shown-lines (suc n) [] ss = refl
 shown-lines (suc n) (x ∷ ns) [] = refl
 shown-lines (suc n) (x ∷ ns) (s ∷ ss) = ap (λ (l : List Entry). record { number = x; score = s } ∷ l) (shown-lines n ns ss)
 
-show-text : (log : Log) (slot : ℕ) → eqb (log .board .window .size) 0 ≡ false → slot < 32 → (slotAt (log .board) slot .k ≡ 0 → ⊥)
+show-text : (log : Log) (slot : ℕ) → eqb (log .board .window .counts .size) 0 ≡ false → slot < 32 → (slotAt (log .board) slot .k ≡ 0 → ⊥)
     → itemDone log 20 (slot ∷ []) .text ≡ qLine slot (take (slotAt (log .board) slot .len) (listed (slotAt (log .board) slot .numbers) (slotAt (log .board) slot .scores)))
-unfolding itemDone itemRefusal known byTag showItem readWork readIn unless
-show-text log slot there h used = rw (there, lt-ltb slot 32 h, ne-eqb (slotAt (log .board) slot .k) 0 used)
+unfolding showItem readWork readIn unless
+show-text log slot there h used =
+    ap (λ (o : Outcome). o .text) (show-done log (eqb-false (log .board .window .counts .size) 0 there) slot) ∙ rw (lt-ltb slot 32 h, ne-eqb (slotAt (log .board) slot .k) 0 used)
 
 module _ {log : Log} (reached : Reached log) where
-  -- `Stretch::MOST`: what any next item prints.
+  -- `Waiting::MOST`: what any next item prints.
   pub item-short : (tag : ℕ) (v : List ℕ) → length (itemDone log tag v .text) ≤ 1056
   item-short tag v = at-most (nextItem (log .items)) (next-small (log .items)) (item-does (framesOf reached) log (own reached) tag v .prints)
 
@@ -95,22 +97,22 @@ module _ {log : Log} (reached : Reached log) where
       go (window r f same) = inr f
 
   -- Where there is a window, the board is one that the board's calls lead to, with the reports that the log's frames completed entered; so all that is promised of such a board holds.
-  pub log-board : (log .board .window .size ≡ 0 → ⊥) → board.Reached (log .board .window .size) (enteredBy (framesOf reached)) (log .board) × (fitBoard (log .board) ≡ true)
+  pub log-board : (log .board .window .counts .size ≡ 0 → ⊥) → board.Reached (log .board .window .counts .size) (enteredBy (framesOf reached)) (log .board) × (fitBoard (log .board) ≡ true)
   log-board there = go (own reached .board-is)
     where
-      go : Boarded (framesOf reached) (log .board) → board.Reached (log .board .window .size) (enteredBy (framesOf reached)) (log .board) × (fitBoard (log .board) ≡ true)
-      go (none first e) = absurd (there (ap (λ (b : Board). b .window .size) e ∙ no-window))
+      go : Boarded (framesOf reached) (log .board) → board.Reached (log .board .window .counts .size) (enteredBy (framesOf reached)) (log .board) × (fitBoard (log .board) ≡ true)
+      go (none first e) = absurd (there (ap (λ (b : Board). b .window .counts .size) e ∙ no-window))
       go (window {n} r f same) =
           (subst (λ (m : ℕ). board.Reached m (enteredBy (framesOf reached)) (log .board)) (sym (kept r .since .of-size)) (subst (λ (past : List Values). board.Reached n past (log .board)) same r), f)
 
   -- The public calls answer what the items do, so that an item's refusals are the calls' own.
   pub record Answered : Type 0 where
-    pub set : (slot k : ℕ) (weights : Weights) → setCall (log .board) slot k weights ≡ setWork (log .board) slot k weights
+    pub set : (slot k : ℕ) (rule : Rule) → setCall (log .board) slot k rule ≡ setWork (log .board) slot k rule
     pub remove : (slot : ℕ) → removeCall (log .board) slot ≡ removeWork (log .board) slot
     pub read : (slot : ℕ) → readCall (log .board) slot ≡ readWork (log .board) slot
-    pub enter : (loss shake : ℕ) → enterCall (log .board) loss shake ≡ enterWork (log .board) loss shake
+    pub enter : (v : Values) → enterCall (log .board) v ≡ enterWork (log .board) v
 
-  pub same-answers : (log .board .window .size ≡ 0 → ⊥) → Answered
+  pub same-answers : (log .board .window .counts .size ≡ 0 → ⊥) → Answered
   same-answers there =
       let f = log-board there .1 in
       record { set = set-known (log .board) f; remove = remove-known (log .board) f; read = read-known (log .board) f; enter = enter-known (log .board) f }
@@ -119,32 +121,32 @@ module _ {log : Log} (reached : Reached log) where
 
   -- After every item, every question in use has as its list the first min(k, held) of the held reports in the ranking.
   pub log-demand-2 : (slot : ℕ) → slot < 32 → (slotAt (log .board) slot .k ≡ 0 → ⊥)
-      → lines (slotAt (log .board) slot) ≡ best above (slotAt (log .board) slot .k) (map (entry (slotAt (log .board) slot .weights)) (heldReports (log .board .window)))
+      → lines (slotAt (log .board) slot) ≡ top (slotAt (log .board) slot .rule) (slotAt (log .board) slot .k) (heldReports (log .board .window))
   log-demand-2 slot h used = go (own reached .board-is)
     where
-      go : Boarded (framesOf reached) (log .board) → lines (slotAt (log .board) slot) ≡ best above (slotAt (log .board) slot .k) (map (entry (slotAt (log .board) slot .weights)) (heldReports (log .board .window)))
+      go : Boarded (framesOf reached) (log .board) → lines (slotAt (log .board) slot) ≡ top (slotAt (log .board) slot .rule) (slotAt (log .board) slot .k) (heldReports (log .board .window))
       go (none first e) = absurd (used (ap (λ (b : Board). slotAt b slot .k) e ∙ ap (λ q. q .k) (fresh-empty 0 slot h)))
       go (window r f same) = demand-2 r slot h (slot-ended (log .board) r f slot h used)
 
   -- The held reports are the last min(N, entered) of those that the log's frames completed, the first 1,000,000 of them, numbered in their order.
-  pub log-holds : heldReports (log .board .window) ≡ latest (log .board .window .size) (numbered 1 (enteredBy (framesOf reached)))
+  pub log-holds : heldReports (log .board .window) ≡ latest (log .board .window .counts .size) (numbered 1 (enteredBy (framesOf reached)))
   log-holds = go (own reached .board-is)
     where
-      go : Boarded (framesOf reached) (log .board) → heldReports (log .board .window) ≡ latest (log .board .window .size) (numbered 1 (enteredBy (framesOf reached)))
+      go : Boarded (framesOf reached) (log .board) → heldReports (log .board .window) ≡ latest (log .board .window .counts .size) (numbered 1 (enteredBy (framesOf reached)))
       go (none first e) =
           ap (λ (b : Board). heldReports (b .window)) e ∙ none-held
-          ∙ sym (ap (λ (vs : List Values). latest (log .board .window .size) (numbered 1 vs)) (ap enteredBy first ∙ none-yet) ∙ drop-nil (0 - log .board .window .size))
+          ∙ sym (ap (λ (vs : List Values). latest (log .board .window .counts .size) (numbered 1 vs)) (ap enteredBy first ∙ none-yet) ∙ drop-nil (0 - log .board .window .counts .size))
       go (window r f same) = reached-holds r ∙ ap₂ (λ (n : ℕ) (vs : List Values). latest n (numbered 1 vs)) (sym (kept r .since .of-size)) same
 
   -- Showing a question in use prints the first min(k, held) of the last N reports that the log's frames completed.
   pub show-prints : (slot : ℕ) → slot < 32 → (slotAt (log .board) slot .k ≡ 0 → ⊥)
       → itemDone log 20 (slot ∷ []) .text
-      ≡ qLine slot (shownAs (best above (slotAt (log .board) slot .k) (map (entry (slotAt (log .board) slot .weights)) (latest (log .board .window .size) (numbered 1 (enteredBy (framesOf reached)))))))
+      ≡ qLine slot (shownAs (top (slotAt (log .board) slot .rule) (slotAt (log .board) slot .k) (latest (log .board .window .counts .size) (numbered 1 (enteredBy (framesOf reached))))))
   show-prints slot h used =
       let q = slotAt (log .board) slot in
       show-text log slot (has-window-used (own reached .board-is)) h used
-      ∙ ap (qLine slot) (shown-lines (q .len) (q .numbers) (q .scores) ∙ ap shownAs (log-demand-2 slot h used ∙ ap (λ (hs : List Held). best above (q .k) (map (entry (q .weights)) hs)) log-holds))
+      ∙ ap (qLine slot) (shown-lines (q .len) (q .numbers) (q .scores) ∙ ap shownAs (log-demand-2 slot h used ∙ ap (λ (hs : List Held). top (q .rule) (q .k) hs) log-holds))
     where
-      has-window-used : Boarded (framesOf reached) (log .board) → eqb (log .board .window .size) 0 ≡ false
+      has-window-used : Boarded (framesOf reached) (log .board) → eqb (log .board .window .counts .size) 0 ≡ false
       has-window-used (none first e) = absurd (used (ap (λ (b : Board). slotAt b slot .k) e ∙ ap (λ q. q .k) (fresh-empty 0 slot h)))
       has-window-used (window r f same) = has-window (log .board) f

@@ -1,28 +1,21 @@
--- A list that a fit board shows fits its line: its numbers are those of held reports, and its scores those of permitted weights and values.
+-- A list that a fit board shows fits its line: its numbers are those of held reports, and its scores those of fit rules and permitted values.
 -- Assumes nothing.
 use mathlib.Core.Path.{_≡_, sym, subst}
 use mathlib.Core.Bool.{true}
-use mathlib.Core.List.{List, [], _∷_, _++_, map, Memᴰ·of-map, List·Memᴰ·not-nil}
+use mathlib.Core.List.{List, [], _∷_, _++_, map, List·Memᴰ·not-nil}
 use Prim.Native.Nat.{ℕ, zero, suc, _^_, _≤_, _<_}
 use native.Mathlib.Omega.{arith}
-use borrow.Author.Tests.{leb-true}
-use mir.Syntax.{w16}
-use mir.Val.{SFits}
-use lib.Dec.{leb}
-use lib.IntN.{ℤ, pos, negsuc}
+use lib.IntN.{ℤ, pos}
 use lib.Signed.{mag}
 use lib.ListN.{length, getD, take, replicate}
-use Rattle.wire.specs.Bytes.{number}
 use Rattle.laws.specs.Lists.{_∈_}
-use Rattle.values.specs.Range.{inRange}
-use Rattle.ranking.specs.Standing.{Held, above, entry}
+use Rattle.ranking.specs.Standing.{Held, above, entries, top}
 use Rattle.ranking.specs.Standing as ranked
-use Rattle.ranking.specs.declared.Weights.{Weights}
-use Rattle.laws.proofs.Tests.{and-both, either}
+use Rattle.ranking.specs.declared.Rule.{Rule}
 use Rattle.laws.proofs.Lists.{here, there}
-use Rattle.search.proofs.Best.{best-of, length-best-le}
+use Rattle.search.proofs.Best.{length-best-le}
 use Rattle.ranking.proofs.Cells.{score-fits}
-use Rattle.ranking.proofs.Entries.{above-strict}
+use Rattle.ranking.proofs.Entries.{above-strict, top-of}
 use Rattle.window.specs.declared.Window.{Window}
 use Rattle.window.specs.Rows.{heldReports, fitWindow}
 use Rattle.window.proofs.Fitness.{fit-facts}
@@ -32,9 +25,7 @@ use Rattle.question.specs.declared.Question.{Question}
 use Rattle.question.specs.Lines.{asked}
 use Rattle.slot.specs.Fitness.{slotFit}
 use Rattle.slot.proofs.Standing.{Slot, not-searching}
-use Rattle.ranking.specs.Standing.{top}
 use Rattle.slot.proofs.Standing as state
-use Rattle.laws.proofs.Tests.{either}
 
 -- The numbers and scores of a question, as they are stored, fit their lines.
 pub record Small (q : Question) : Type 0 where
@@ -51,35 +42,30 @@ padded P f d p (suc n) [] (suc m) h (suc i) = padded P f d p n [] m h i
 padded P f d p (suc n) (x ∷ l) m h zero = h x here
 padded P f d p (suc n) (x ∷ l) m h (suc i) = padded P f d p n l m (λ y k. h y (there k)) i
 
-asked-small : (k : ℕ) (ws : Weights) (l : List ranked.Entry) (next : ℕ) → length l ≤ 16
-    → ((e : ranked.Entry) → e ∈ l → (e .number < 2 ^ 32) × (mag (e .score) < 2 ^ 31)) → Small (asked k ws l next)
-asked-small k ws l next short h =
+asked-small : (k : ℕ) (rule : Rule) (l : List ranked.Entry) (next : ℕ) → length l ≤ 16
+    → ((e : ranked.Entry) → e ∈ l → (e .number < 2 ^ 32) × (mag (e .score) < 2 ^ 31)) → Small (asked k rule l next)
+asked-small k rule l next short h =
     record {
       few = short;
       numbers = padded (λ (n : ℕ). n < 2 ^ 32) (λ e. e .number) 0 (omega arith) 16 l 16 (λ e m. h e m .0);
       scores = padded (λ (z : ℤ). mag z < 2 ^ 31) (λ e. e .score) (pos 0) (omega arith) 16 l 16 (λ e m. h e m .1);
     }
 
-weight-fits : (z : ℤ) → inRange z ≡ true → SFits w16 z
-weight-fits (pos n) t = record { sfits = omega (arith, leb-true n 1000 (and-both true (leb n 1000) t .1)) }
-weight-fits (negsuc n) t = record { sfits = omega (arith, leb-true n 999 (and-both (leb n 999) true t .0)) }
-
 pub slot-small : (w : Window) → fitWindow w ≡ true → (q : Question) → slotFit w q ≡ true → Slot w q → Small q
 slot-small w fits q t (state.empty e) = subst Small (sym e) (asked-small 0 _ [] 0 (omega arith) (λ x m. absurd (List·Memᴰ·not-nil m)))
 slot-small w fits q t (state.searches x) = absurd (not-searching w fits q t x)
 slot-small w fits q t (state.stands s) =
     subst Small (sym (s .is))
-    (asked-small (s .k) (s .ws) (top (s .k) (s .ws) (heldReports w)) (s .next)
-    (omega (arith, s .asks .small, length-best-le above above-strict (s .k) (map (entry (s .ws)) (heldReports w)))) small)
+    (asked-small (s .k) (s .rule) (top (s .rule) (s .k) (heldReports w)) (s .next)
+    (omega (arith, s .asks .small, length-best-le (above (s .rule)) (above-strict (s .rule)) (s .k) (entries (s .rule) (heldReports w)))) small)
   where
-    small : (e : ranked.Entry) → e ∈ top (s .k) (s .ws) (heldReports w) → (e .number < 2 ^ 32) × (mag (e .score) < 2 ^ 31)
+    small : (e : ranked.Entry) → e ∈ top (s .rule) (s .k) (heldReports w) → (e .number < 2 ^ 32) × (mag (e .score) < 2 ^ 31)
     small e m =
         let ranges = fit-facts w fits .ranges in
-        let r = Memᴰ·of-map (entry (s .ws)) (heldReports w) (best-of above above-strict (s .k) (map (entry (s .ws)) (heldReports w)) e m) in
+        let r = top-of (s .rule) (s .k) (heldReports w) m in
         let h : Held = r .0 in
-        let may = held-permitted w fits h (r .1) in
         let number = held-latest w ranges h (r .1) .1 in
-        let fits32 = score-fits (s .ws) (h .loss) (h .shake) (weight-fits _ (s .asks .loss-range)) (weight-fits _ (s .asks .shake-range)) (may .loss-fits) (may .shake-fits) in
+        let fits32 = score-fits (s .rule) (s .asks .rule-fits) (h .values) (held-permitted w fits h (r .1)) in
         subst (λ (x : ranked.Entry). (x .number < 2 ^ 32) × (mag (x .score) < 2 ^ 31)) (r .2) (omega (arith, number, ranges .at-most), fits32 .sfits)
 
 -- ---- steps

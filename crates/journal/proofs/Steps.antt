@@ -1,14 +1,12 @@
 -- Demand 3 for the log: an S line says the steps of the search that the board's call ran, which are exact, since the log's board is one that the calls lead to.
 -- Assumes nothing.
-use mathlib.Core.Path.{_≡_, refl, sym, ap, _∙_, subst}
+use mathlib.Core.Path.{_≡_, sym, ap, _∙_, subst}
 use mathlib.Core.Bool.{true, false}
 use mathlib.Core.List.{List}
 use Prim.Native.Nat.{ℕ, _<_}
-use borrow.Author.Tests.{ne-eqb}
-use lib.Dec.{eqb}
 use lib.ListN.{length, getD}
 use Rattle.window.specs.Rows.{added}
-use Rattle.board.specs.Work.{slotAt, enterRefusal, setWork}
+use Rattle.board.specs.Work.{slotAt, enterRefusal}
 use Rattle.board.specs.Calls.{setCall, enterCall}
 use Rattle.board.specs.declared.Board.{Board}
 use Rattle.board.specs.declared.Placed.{Placed}
@@ -20,23 +18,15 @@ use Rattle.joining.specs.Run.{sessionsAfter, answerTo}
 use Rattle.joining.specs.declared.Answer.the-variants.{Complete}
 use Rattle.text.specs.Text.{sLine}
 use Rattle.journal.specs.declared.Log.{Log}
-use Rattle.journal.specs.Log.{Outcome, nextItem, counted, withBoard, withSessions, unless, known, itemRefusal, weightsIn, setItem, sLines, enterItem, answered, frameIn, frameItem, byTag, itemDone}
+use Rattle.journal.specs.Log.{Outcome, nextItem, counted, withBoard, withSessions, unless, ruleIn, setItem, sLines, enterItem, answered, frameIn, frameItem, itemDone}
 use Rattle.journal.specs.Reached.{Reached}
 use Rattle.journal.proofs.Answers.{enter-refusal}
+use Rattle.journal.proofs.Items.{set-done, frame-done}
 use Rattle.journal.proofs.Reached.{log-board, same-answers}
 
--- An item that isn't refused before its call.
-passes : (log : Log) (tag : ℕ) (v : List ℕ) → itemRefusal (counted log) tag (length v) ≡ 0 → itemDone log tag v ≡ byTag (counted log) tag v
-unfolding itemDone unless
-passes log tag v e = zero-is _ _ e
-
-module _ {log : Log} (reached : Reached log) (there : log .board .window .size ≡ 0 → ⊥) (v : List ℕ) where
+module _ {log : Log} (reached : Reached log) (there : log .board .window .counts .size ≡ 0 → ⊥) (v : List ℕ) where
   abbrev b : Board
   b = log .board
-
-  no-refusal : (tag size : ℕ) → known tag size ≡ true → eqb tag 16 ≡ false → length v ≡ size → itemRefusal (counted log) tag (length v) ≡ 0
-  unfolding itemRefusal
-  no-refusal tag size k t e = rw (e, k, t, ne-eqb (b .window .size) 0 there)
 
   -- ---- setting
 
@@ -45,30 +35,30 @@ module _ {log : Log} (reached : Reached log) (there : log .board .window .size �
 
   -- What the board's call answers to the item that sets a question.
   abbrev placed : Placed
-  placed = setCall b slot (getD v 1 0) (weightsIn v)
+  placed = setCall b slot (getD v 1 0) (ruleIn v)
 
   module _ (six : length v ≡ 6) (taken : placed .refusal ≡ 0) where
     -- It prints the steps of its search.
     pub set-prints : itemDone log 17 v ≡ record { text = sLine (nextItem (log .items)) slot (placed .steps); log = withBoard (counted log) (placed .board) }
-    unfolding byTag setItem unless known
+    unfolding setItem unless
     set-prints =
         let done : Placed → Outcome = λ r. record { text = sLine (nextItem (log .items)) slot (r .steps); log = withBoard (counted log) (r .board) } in
-        let same = same-answers reached there .set slot (getD v 1 0) (weightsIn v) in
-        passes log 17 v (no-refusal 17 6 refl refl six) ∙ zero-is _ _ (sym (ap (λ (r : Placed). r .refusal) same) ∙ taken) ∙ sym (ap done same)
+        let same = same-answers reached there .set slot (getD v 1 0) (ruleIn v) in
+        set-done log there v six ∙ zero-is _ _ (sym (ap (λ (r : Placed). r .refusal) same) ∙ taken) ∙ sym (ap done same)
 
     -- And that search is exact.
-    pub set-steps : Exactly (b .window) (getD v 1 0) (weightsIn v) (placed .steps) (slotAt (itemDone log 17 v .log .board) slot)
+    pub set-steps : Exactly (b .window) (getD v 1 0) (ruleIn v) (placed .steps) (slotAt (itemDone log 17 v .log .board) slot)
     set-steps =
         let own = log-board reached there in
-        subst (λ (o : Outcome). Exactly (b .window) (getD v 1 0) (weightsIn v) (placed .steps) (slotAt (o .log .board) slot)) (sym set-prints)
-        (set-exact (own .0) (own .1) slot (getD v 1 0) (weightsIn v) taken)
+        subst (λ (o : Outcome). Exactly (b .window) (getD v 1 0) (ruleIn v) (placed .steps) (slotAt (o .log .board) slot)) (sym set-prints)
+        (set-exact (own .0) (own .1) slot (getD v 1 0) (ruleIn v) taken)
 
   -- ---- entering
 
-  module _ (r : Report) (twelve : length v ≡ 12) (completes : answerTo (log .sessions) (frameIn v) ≡ Complete r) (taken : enterRefusal (b .window .entered) (r .values .loss) (r .values .shake) ≡ 0) where
+  module _ (r : Report) (twelve : length v ≡ 12) (completes : answerTo (log .sessions) (frameIn v) ≡ Complete r) (taken : enterRefusal (b .window .counts) (r .values) ≡ 0) where
     -- What the board's call answers to the report that a frame completes.
     abbrev entered : Entered
-    entered = enterCall b (r .values .loss) (r .values .shake)
+    entered = enterCall b (r .values)
 
     -- The frame prints the steps of each search that the entry ran.
     pub enter-prints : itemDone log 18 v
@@ -76,18 +66,18 @@ module _ {log : Log} (reached : Reached log) (there : log .board .window .size �
           text = sLines (nextItem (log .items)) 0 (entered .searched) (entered .steps);
           log = withBoard (withSessions (counted log) (sessionsAfter (log .sessions) (frameIn v))) (entered .board);
         }
-    unfolding byTag frameItem enterItem unless known
+    unfolding frameItem enterItem unless
     enter-prints =
         let next = withSessions (counted log) (sessionsAfter (log .sessions) (frameIn v)) in
         let done : Entered → Outcome = λ x. record { text = sLines (nextItem (log .items)) 0 (x .searched) (x .steps); log = withBoard next (x .board) } in
-        passes log 18 v (no-refusal 18 12 refl refl twelve) ∙ ap (answered next) completes
-        ∙ zero-is _ _ (enter-refusal b (r .values .loss) (r .values .shake) ∙ taken)
-        ∙ sym (ap done (same-answers reached there .enter (r .values .loss) (r .values .shake)))
+        frame-done log there v twelve ∙ ap (answered next) completes
+        ∙ zero-is _ _ (enter-refusal b (r .values) ∙ taken)
+        ∙ sym (ap done (same-answers reached there .enter (r .values)))
 
     -- And each of these is exact, over the reports held after the entry.
     pub enter-steps : (i : ℕ) → i < 32 → getD (entered .searched) i false ≡ true
-        → Exactly (added (b .window) (r .values .loss) (r .values .shake)) (slotAt b i .k) (slotAt b i .weights) (getD (entered .steps) i 0) (slotAt (itemDone log 18 v .log .board) i)
+        → Exactly (added (b .window) (r .values)) (slotAt b i .k) (slotAt b i .rule) (getD (entered .steps) i 0) (slotAt (itemDone log 18 v .log .board) i)
     enter-steps i h s =
         let own = log-board reached there in
-        subst (λ (o : Outcome). Exactly (added (b .window) (r .values .loss) (r .values .shake)) (slotAt b i .k) (slotAt b i .weights) (getD (entered .steps) i 0) (slotAt (o .log .board) i)) (sym enter-prints)
-        (enter-exact (own .0) (own .1) (r .values .loss) (r .values .shake) taken i h s)
+        subst (λ (o : Outcome). Exactly (added (b .window) (r .values)) (slotAt b i .k) (slotAt b i .rule) (getD (entered .steps) i 0) (slotAt (o .log .board) i)) (sym enter-prints)
+        (enter-exact (own .0) (own .1) (r .values) taken i h s)

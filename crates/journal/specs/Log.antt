@@ -1,16 +1,23 @@
 -- The text that a whole log fixes, item by item (document 01, "Bench sender and log program").
 use Prim.Native.Nat.{ℕ, zero, suc, _+_, _-_, _^_, min}
 use mathlib.Core.Path.{_≡_}
-use mathlib.Core.Bool.{Bool, false, cond}
+use mathlib.Core.Bool.{Bool, cond}
 use mathlib.Core.List.{List, [], _∷_, _++_}
-use lib.ListN.{length, getD, take, drop}
+use lib.ListN.{length, take, drop}
 use lib.Seq.{sets}
-use lib.Dec.{ltb, eqb}
-use lib.IntN.{ℤ, pos, negsuc}
+use lib.Dec.{eqb}
 use Rattle.wire.specs.Bytes.{number, part, fieldAt}
 use Rattle.wire.specs.declared.Field.{Field}
 use Rattle.wire.specs.declared.Field.the-variants.{Whole, Cut}
+use Rattle.items.specs.declared.Setting.{Setting}
+use Rattle.items.specs.declared.Item.{Item}
+use Rattle.items.specs.declared.Item.the-variants.{Window, Set, Remove, Show, Unknown}
+use Rattle.items.specs.declared.Item.the-variants as item
+use Rattle.items.specs.Items.{settingIn, dataIn, itemIn}
+use Rattle.values.specs.declared.Values.{Values}
+use Rattle.ranking.specs.declared.Rule.{Rule}
 use Rattle.ranking.specs.declared.Weights.{Weights}
+use Rattle.ranking.specs.Cells.{ruleOf}
 use Rattle.board.specs.declared.Board.{Board}
 use Rattle.board.specs.Work.{freshBoard, setWork, removeWork, readWork, enterWork}
 use Rattle.joining.specs.Frame.{Frame}
@@ -62,50 +69,52 @@ refused log code = record { text = rLine (log .items) code; log = log }
 unfoldable pub unless : Log → ℕ → Outcome → Outcome
 unless log refusal done = cond (eqb refusal 0) done (refused log refusal)
 
--- "16 length 2; 17 length 6; 18 length 12; 19 length 1; 20 length 1."
-unfoldable pub known : ℕ → ℕ → Bool
-known tag size =
-    cond (eqb tag 16) (eqb size 2)
-    (cond (eqb tag 17) (eqb size 6) (cond (eqb tag 18) (eqb size 12) (cond (eqb tag 19) (eqb size 1) (cond (eqb tag 20) (eqb size 1) false))))
+-- "23: known tag but 16 with no window yet, or 16 with one." A window has rows; 0 for no refusal.
+abbrev pub early : Log → ℕ
+early log = cond (eqb (log .board .window .counts .size) 0) 23 0
 
--- "22: unknown tag or wrong length. 23: known tag but 16 with no window yet, or 16 with one." A window has rows; 0 for no refusal.
-unfoldable pub itemRefusal : Log → ℕ → ℕ → ℕ
-itemRefusal log tag size =
-    cond (known tag size)
-    (cond (eqb tag 16) (cond (eqb (log .board .window .size) 0) 0 23) (cond (eqb (log .board .window .size) 0) 23 0))
-    22
+-- "22: unknown tag or wrong length", before 23.
+unfoldable pub itemRefusal : Log → Item → ℕ
+itemRefusal log Unknown = 22
+itemRefusal log (Window n) = cond (eqb (log .board .window .counts .size) 0) 0 23
+itemRefusal log (Set s) = early log
+itemRefusal log (item.Frame id) = early log
+itemRefusal log (Remove slot) = early log
+itemRefusal log (Show slot) = early log
 
--- "16 length 2, N."
-unfoldable pub windowItem : Log → List ℕ → Outcome
-windowItem log v =
-    let made = freshBoard (number (part 0 2 v)) in
+-- "16, N."
+unfoldable pub windowItem : Log → ℕ → Outcome
+windowItem log n =
+    let made = freshBoard n in
     unless log (made .refusal) (quiet (withBoard log (made .board)))
 
--- "Signed 16-bit": the number that two bytes then stand for.
-unfoldable pub signed16 : ℕ → ℤ
-signed16 n = cond (ltb n 32768) (pos n) (negsuc (65535 - n))
+-- The weights a and b of a question that is to be set, its rule, and that in an item's value.
+abbrev pub weightsOf : Setting → Weights
+weightsOf s = record { loss = s .loss; shake = s .shake }
 
--- The weights a and b of a question.
-abbrev pub weightsIn : List ℕ → Weights
-weightsIn v = record { loss = signed16 (number (part 2 2 v)); shake = signed16 (number (part 4 2 v)) }
+abbrev pub settingRule : Setting → Rule
+settingRule s = ruleOf (weightsOf s)
 
--- "17 length 6, slot, k, a, b (a and b signed 16-bit)"; "`S item slot steps` for each search", and setting searches.
-unfoldable pub setItem : Log → List ℕ → Outcome
-setItem log v =
-    let placed = setWork (log .board) (getD v 0 0) (getD v 1 0) (weightsIn v) in
-    unless log (placed .refusal) (record { text = sLine (log .items) (getD v 0 0) (placed .steps); log = withBoard log (placed .board) })
+abbrev pub ruleIn : List ℕ → Rule
+ruleIn v = settingRule (settingIn v)
 
--- "19 length 1, remove slot."
-unfoldable pub removeItem : Log → List ℕ → Outcome
-removeItem log v =
-    let removed = removeWork (log .board) (getD v 0 0) in
+-- "17, slot, k, a, b"; "`S item slot steps` for each search", and setting searches.
+unfoldable pub setItem : Log → Setting → Outcome
+setItem log s =
+    let placed = setWork (log .board) (s .slot) (s .k) (settingRule s) in
+    unless log (placed .refusal) (record { text = sLine (log .items) (s .slot) (placed .steps); log = withBoard log (placed .board) })
+
+-- "19, remove slot."
+unfoldable pub removeItem : Log → ℕ → Outcome
+removeItem log slot =
+    let removed = removeWork (log .board) slot in
     unless log (removed .refusal) (quiet (withBoard log (removed .board)))
 
--- "20 length 1, show slot": "`Q slot n` followed by n times ` number:score`".
-unfoldable pub showItem : Log → List ℕ → Outcome
-showItem log v =
-    let shown = readWork (log .board) (getD v 0 0) in
-    unless log (shown .refusal) (record { text = qLine (getD v 0 0) (take (shown .len) (listed (shown .numbers) (shown .scores))); log = log })
+-- "20, show slot": "`Q slot n` followed by n times ` number:score`".
+unfoldable pub showItem : Log → ℕ → Outcome
+showItem log slot =
+    let shown = readWork (log .board) slot in
+    unless log (shown .refusal) (record { text = qLine slot (take (shown .len) (listed (shown .numbers) (shown .scores))); log = log })
 
 -- "`S item slot steps` for each search, slots rising", from this slot on.
 unfoldable pub sLines : ℕ → ℕ → List Bool → List ℕ → List ℕ
@@ -114,9 +123,9 @@ sLines item slot (b ∷ bs) [] = []
 sLines item slot (b ∷ bs) (n ∷ ns) = cond b (sLine item slot n) [] ++ sLines item (slot + 1) bs ns
 
 -- "The program enters a report when its last packet is read."
-unfoldable pub enterItem : Log → ℕ → ℕ → Outcome
-enterItem log loss shake =
-    let entered = enterWork (log .board) loss shake in
+unfoldable pub enterItem : Log → Values → Outcome
+enterItem log v =
+    let entered = enterWork (log .board) v in
     unless log (entered .refusal)
     (record { text = sLines (log .items) 0 (entered .searched) (entered .steps); log = withBoard log (entered .board) })
 
@@ -124,25 +133,30 @@ enterItem log loss shake =
 abbrev pub answered : Log → Answer → Outcome
 answered log (Refused n) = refused log n
 answered log Kept = quiet log
-answered log (Complete r) = enterItem log (r .values .loss) (r .values .shake)
+answered log (Complete r) = enterItem log (r .values)
 
--- A frame in 12 bytes: "identifier in 4, data in 8".
+-- A frame in an item's value: "identifier in 4, data in 8".
 abbrev pub frameIn : List ℕ → Frame
-frameIn v = record { identifier = number (part 0 4 v); data-bytes = part 4 8 v }
+frameIn v = record { identifier = number (part 0 4 v); data-bytes = dataIn v }
 
--- "18 length 12, a frame as above": its sender's session takes it.
-unfoldable pub frameItem : Log → List ℕ → Outcome
-frameItem log v = answered (withSessions log (sessionsAfter (log .sessions) (frameIn v))) (answerTo (log .sessions) (frameIn v))
+-- "18, a frame as above": its sender's session takes it.
+unfoldable pub frameItem : Log → Frame → Outcome
+frameItem log f = answered (withSessions log (sessionsAfter (log .sessions) f)) (answerTo (log .sessions) f)
 
--- An item by its tag.
-unfoldable pub byTag : Log → ℕ → List ℕ → Outcome
-byTag log tag v =
-    cond (eqb tag 16) (windowItem log v)
-    (cond (eqb tag 17) (setItem log v) (cond (eqb tag 18) (frameItem log v) (cond (eqb tag 19) (removeItem log v) (showItem log v))))
+-- What an item does, with the data bytes that a frame has beside it. An unknown one is refused before.
+unfoldable pub byItem : Log → Item → List ℕ → Outcome
+byItem log (Window n) ds = windowItem log n
+byItem log (Set s) ds = setItem log s
+byItem log (item.Frame id) ds = frameItem log (record { identifier = id; data-bytes = ds })
+byItem log (Remove slot) ds = removeItem log slot
+byItem log (Show slot) ds = showItem log slot
+byItem log Unknown ds = quiet log
 
 -- An item counts, also where it is skipped; "log items 21, 22, 23, then the call's own".
 unfoldable pub itemDone : Log → ℕ → List ℕ → Outcome
-itemDone log tag v = unless (counted log) (itemRefusal (counted log) tag (length v)) (byTag (counted log) tag v)
+itemDone log tag v =
+    let i = itemIn tag v in
+    unless (counted log) (itemRefusal (counted log) i) (byItem (counted log) i (dataIn v))
 
 -- Whole items one after the other: their text, the log that they leave, and the bytes behind the last of them.
 pub record Consumed : Type 0 where

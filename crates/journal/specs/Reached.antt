@@ -1,27 +1,40 @@
 -- Which logs are reached (document 01, "Refusal numbers": "states reached from fresh ones"), by which frames, and what these entered.
 use Prim.Native.Nat.{ℕ}
-use mathlib.Core.Bool.{cond, _&&_}
+use mathlib.Core.Bool.{cond}
 use mathlib.Core.List.{List, [], _∷_, _++_, map}
-use lib.ListN.{length, take}
+use lib.ListN.{take}
 use lib.Dec.{eqb}
+use Rattle.items.specs.declared.Item.{Item}
+use Rattle.items.specs.declared.Item.the-variants as said
+use Rattle.items.specs.Items.{dataIn, itemIn}
 use Rattle.ranking.specs.Standing as ranked
-use Rattle.window.specs.History.{Values}
+use Rattle.values.specs.declared.Values.{Values}
+use Rattle.window.specs.Rows.{reportLimit}
 use Rattle.text.specs.Text.{Entry}
 use Rattle.joining.specs.Frame.{Frame}
 use Rattle.joining.specs.Run.{freshSessions, answersAt}
 use Rattle.joining.specs.declared.Answer.{Answer}
 use Rattle.joining.specs.declared.Answer.the-variants.{Refused, Kept, Complete}
 use Rattle.journal.specs.declared.Log.{Log}
-use Rattle.journal.specs.Log.{freshLog, counted, itemRefusal, frameIn, itemDone}
+use Rattle.journal.specs.Log.{freshLog, counted, itemRefusal, itemDone}
 
 -- A fresh one, and what any whole item of any tag leaves of a reached one, also where it is skipped.
 pub data Reached : Log → Type 0 where
   fresh : Reached freshLog
   item : {log : Log} → Reached log → (tag : ℕ) (v : List ℕ) → Reached (itemDone log tag v .log)
 
+-- The frame that an item is, if it is one, with its data bytes beside it.
+abbrev pub framed : Item → List ℕ → List Frame
+framed (said.Frame id) ds = record { identifier = id; data-bytes = ds } ∷ []
+framed (said.Window n) ds = []
+framed (said.Set s) ds = []
+framed (said.Remove slot) ds = []
+framed (said.Show slot) ds = []
+framed said.Unknown ds = []
+
 -- The frame of an item that isn't skipped, if it is one.
 abbrev pub frameOf : Log → ℕ → List ℕ → List Frame
-frameOf log tag v = cond (eqb (itemRefusal (counted log) tag (length v)) 0 && eqb tag 18) (frameIn v ∷ []) []
+frameOf log tag v = cond (eqb (itemRefusal (counted log) (itemIn tag v)) 0) (framed (itemIn tag v) (dataIn v)) []
 
 -- The frames of all items that led to a log, in their order.
 abbrev pub framesOf : {log : Log} → Reached log → List Frame
@@ -33,11 +46,11 @@ abbrev pub completed : List Answer → List Values
 completed [] = []
 completed (Refused n ∷ l) = completed l
 completed (Kept ∷ l) = completed l
-completed (Complete r ∷ l) = record { loss = r .values .loss; shake = r .values .shake } ∷ completed l
+completed (Complete r ∷ l) = r .values ∷ completed l
 
 -- "The program enters a report when its last packet is read"; "at most 1,000,000".
 unfoldable pub enteredBy : List Frame → List Values
-enteredBy fs = take 1000000 (completed (answersAt freshSessions fs))
+enteredBy fs = take reportLimit (completed (answersAt freshSessions fs))
 
 -- The entries of a list, as a Q line has them.
 abbrev pub shownAs : List ranked.Entry → List Entry

@@ -1,25 +1,29 @@
 // A log of the bench: its items, what each does, and the lines of text that it prints.
 ghost use mathlib.Core.Path.{_≡_};
-ghost use mathlib.Core.Bool.{true, cond};
+ghost use mathlib.Core.Bool.{cond};
 ghost use mathlib.Core.List.{[]};
-ghost use lib.ListN.{length};
 ghost use lib.Seq.{sets};
 ghost use Rattle.joining.specs.Frame.{frameRefusal};
 ghost use Rattle.text.specs.Text.{behind, sLine};
-ghost use Rattle.journal.specs.Log.{Stores, freshLog, nextItem, counted, withBoard, withSessions, refused, known, itemRefusal, windowItem, signed16, weightsIn, setItem, removeItem, showItem, sLines, enterItem, answered, frameItem, byTag, itemDone};
+ghost use Rattle.journal.specs.Log.{Stores, freshLog, nextItem, counted, withBoard, withSessions, refused, itemRefusal, windowItem, weightsOf, settingRule, ruleIn, setItem, removeItem, showItem, sLines, enterItem, answered, frameItem, byItem, itemDone};
 use board::Board;
 use bus::Bus;
+use items::Item;
+use items::Setting;
 use joining::Answer;
 use joining::Frame;
 use joining::Sender;
 use joining::Session;
+use ranking::Rule;
 use ranking::Weights;
+use slot::Gauge;
+use values::Values;
 
 // The items so far, the window with its questions, and each sender's session. A window of no rows is none yet.
 pub struct Log {
     pub items: u64,
     pub board: Board,
-    pub sessions: [Session; 254],
+    pub sessions: [Session; Bus::SENDERS],
 }
 
 // The log that an item leaves, and the place behind the text that it printed.
@@ -29,17 +33,6 @@ pub struct Done {
 }
 
 impl Log {
-    // The items' tags.
-    pub const WINDOW: u8 = 16;
-
-    pub const SET: u8 = 17;
-
-    pub const FRAME: u8 = 18;
-
-    pub const REMOVE: u8 = 19;
-
-    pub const SHOW: u8 = 20;
-
     // The log's own refusals.
     pub const CUT: u8 = 21;
 
@@ -67,11 +60,12 @@ impl Log {
         ensures { λ r. ⌜ Stores (itemDone self tag (now (value .entry))) (now (out .entry)) at (r .log) (r .at) (now (out .exit)) ⌝ }
     {
         let log = self.counted();
-        let refusal = log.item_refusal(tag, value.len());
+        let item = Item::read(tag, value);
+        let refusal = log.item_refusal(item);
         if refusal != 0 {
             return log.refused(refusal, out, at);
         }
-        log.by_tag(tag, value, out, at)
+        log.by_item(item, Item::data_in(value), out, at)
     }
 
     fn counted(self) -> Log
@@ -91,7 +85,7 @@ impl Log {
         log
     }
 
-    fn with_sessions(self, sessions: [Session; 254]) -> Log
+    fn with_sessions(self, sessions: [Session; Bus::SENDERS]) -> Log
         ensures { λ r. ⌜ r ≡ withSessions self sessions ⌝ }
     {
         let mut log = self;
@@ -111,45 +105,39 @@ impl Log {
     }
 
     // Why an item is skipped; 0 for no reason.
-    fn item_refusal(self, tag: u8, size: usize) -> u8
-        ensures { λ r. ⌜ r ≡ itemRefusal self tag size ⌝ }
+    fn item_refusal(self, item: Item) -> u8
+        ensures { λ r. ⌜ r ≡ itemRefusal self item ⌝ }
     {
-        if !known(tag, size) {
-            return Log::UNKNOWN;
-        }
         let board = self.board;
         let window = board.window;
-        let rows = window.size;
-        if tag == Log::WINDOW {
-            return if rows == 0 { 0 } else { Log::OUT_OF_PLACE };
+        let counts = window.counts;
+        let rows = counts.size;
+        match item {
+            Item::Unknown => Log::UNKNOWN,
+            Item::Window(_) => if rows == 0 { 0 } else { Log::OUT_OF_PLACE },
+            _ => if rows == 0 { Log::OUT_OF_PLACE } else { 0 },
         }
-        if rows == 0 { Log::OUT_OF_PLACE } else { 0 }
     }
 
-    fn by_tag(self, tag: u8, value: &[u8], out: &mut [u8], at: usize) -> Done
-        requires { ⌜ known tag (length (now value)) ≡ true ⌝ }
-        ensures { λ r. ⌜ Stores (byTag self tag (now (value .entry))) (now (out .entry)) at (r .log) (r .at) (now (out .exit)) ⌝ }
+    // Does what an item says; `data` is read for a frame.
+    fn by_item(self, item: Item, data: &[u8], out: &mut [u8], at: usize) -> Done
+        ensures { λ r. ⌜ Stores (byItem self item (now («data» .entry))) (now (out .entry)) at (r .log) (r .at) (now (out .exit)) ⌝ }
     {
-        if tag == Log::WINDOW {
-            return self.window_item(value, out, at);
+        match item {
+            Item::Window(n) => self.window_item(n, out, at),
+            Item::Set(s) => self.set_item(s, out, at),
+            Item::Frame(id) => self.frame_item(id, data, out, at),
+            Item::Remove(slot) => self.remove_item(slot, out, at),
+            Item::Show(slot) => self.show_item(slot, out, at),
+            Item::Unknown => Done { log: self, at },
         }
-        if tag == Log::SET {
-            return self.set_item(value, out, at);
-        }
-        if tag == Log::FRAME {
-            return self.frame_item(value, out, at);
-        }
-        if tag == Log::REMOVE {
-            return self.remove_item(value, out, at);
-        }
-        self.show_item(value, out, at)
     }
 
     // Opens the window.
-    fn window_item(self, value: &[u8], out: &mut [u8], at: usize) -> Done
-        ensures { λ r. ⌜ Stores (windowItem self (now (value .entry))) (now (out .entry)) at (r .log) (r .at) (now (out .exit)) ⌝ }
+    fn window_item(self, size: u16, out: &mut [u8], at: usize) -> Done
+        ensures { λ r. ⌜ Stores (windowItem self size) (now (out .entry)) at (r .log) (r .at) (now (out .exit)) ⌝ }
     {
-        let made = Board::fresh(wire::read16(value, 0));
+        let made = Board::fresh(size);
         let refusal = made.refusal;
         if refusal != 0 {
             return self.refused(refusal, out, at);
@@ -162,18 +150,17 @@ impl Log {
     }
 
     // Sets a question and prints its search.
-    fn set_item(self, value: &[u8], out: &mut [u8], at: usize) -> Done
-        ensures { λ r. ⌜ Stores (setItem self (now (value .entry))) (now (out .entry)) at (r .log) (r .at) (now (out .exit)) ⌝ }
+    fn set_item(self, s: Setting, out: &mut [u8], at: usize) -> Done
+        ensures { λ r. ⌜ Stores (setItem self s) (now (out .entry)) at (r .log) (r .at) (now (out .exit)) ⌝ }
     {
-        let slot = wire::byte(value, 0);
-        let weights = weights_in(value);
+        let rule = setting_rule(s);
         let board = self.board;
-        let placed = board.set_known(slot, wire::byte(value, 1), weights);
+        let placed = board.set_known(s.slot, s.k, rule);
         let refusal = placed.refusal;
         if refusal != 0 {
             return self.refused(refusal, out, at);
         }
-        let next = text::put_s(out, at, self.items, slot, placed.steps);
+        let next = text::put_s(out, at, self.items, s.slot, placed.steps);
         let left = placed.board;
         Done {
             log: self.with_board(left),
@@ -182,11 +169,11 @@ impl Log {
     }
 
     // Empties a slot.
-    fn remove_item(self, value: &[u8], out: &mut [u8], at: usize) -> Done
-        ensures { λ r. ⌜ Stores (removeItem self (now (value .entry))) (now (out .entry)) at (r .log) (r .at) (now (out .exit)) ⌝ }
+    fn remove_item(self, slot: u8, out: &mut [u8], at: usize) -> Done
+        ensures { λ r. ⌜ Stores (removeItem self slot) (now (out .entry)) at (r .log) (r .at) (now (out .exit)) ⌝ }
     {
         let board = self.board;
-        let removed = board.remove_known(wire::byte(value, 0));
+        let removed = board.remove_known(slot);
         let refusal = removed.refusal;
         if refusal != 0 {
             return self.refused(refusal, out, at);
@@ -199,10 +186,9 @@ impl Log {
     }
 
     // Prints a slot's list.
-    fn show_item(self, value: &[u8], out: &mut [u8], at: usize) -> Done
-        ensures { λ r. ⌜ Stores (showItem self (now (value .entry))) (now (out .entry)) at (r .log) (r .at) (now (out .exit)) ⌝ }
+    fn show_item(self, slot: u8, out: &mut [u8], at: usize) -> Done
+        ensures { λ r. ⌜ Stores (showItem self slot) (now (out .entry)) at (r .log) (r .at) (now (out .exit)) ⌝ }
     {
-        let slot = wire::byte(value, 0);
         let board = self.board;
         let shown = board.read_known(slot);
         let refusal = shown.refusal;
@@ -219,12 +205,9 @@ impl Log {
     }
 
     // Hands a frame to its sender's session.
-    fn frame_item(self, value: &[u8], out: &mut [u8], at: usize) -> Done
-        requires { ⌜ length (now value) ≡ 12 ⌝ }
-        ensures { λ r. ⌜ Stores (frameItem self (now (value .entry))) (now (out .entry)) at (r .log) (r .at) (now (out .exit)) ⌝ }
+    fn frame_item(self, id: u32, data: &[u8], out: &mut [u8], at: usize) -> Done
+        ensures { λ r. ⌜ Stores (frameItem self (record { identifier = id; data-bytes = now («data» .entry) })) (now (out .entry)) at (r .log) (r .at) (now (out .exit)) ⌝ }
     {
-        let id = wire::read32(value, 0);
-        let data = &value[4..12];
         let k = (id % 256) as usize;
         if Bus::SENDERS <= k {
             return self.refused(frame_refusal(id, data), out, at);
@@ -245,16 +228,16 @@ impl Log {
         match answer {
             Answer::Refused(n) => self.refused(n, out, at),
             Answer::Kept => Done { log: self, at },
-            Answer::Complete(r) => self.enter_item(r.values.loss, r.values.shake, out, at),
+            Answer::Complete(r) => self.enter_item(r.values, out, at),
         }
     }
 
     // Enters a report and prints the searches.
-    fn enter_item(self, loss: u16, shake: u16, out: &mut [u8], at: usize) -> Done
-        ensures { λ r. ⌜ Stores (enterItem self loss shake) (now (out .entry)) at (r .log) (r .at) (now (out .exit)) ⌝ }
+    fn enter_item(self, values: Values, out: &mut [u8], at: usize) -> Done
+        ensures { λ r. ⌜ Stores (enterItem self values) (now (out .entry)) at (r .log) (r .at) (now (out .exit)) ⌝ }
     {
         let board = self.board;
-        let entered = board.enter_known(loss, shake);
+        let entered = board.enter_known(values);
         let refusal = entered.refusal;
         if refusal != 0 {
             return self.refused(refusal, out, at);
@@ -278,43 +261,27 @@ pub fn next_item(items: u64) -> u64
     if items < most { items + 1 } else { most }
 }
 
-// Whether an item of this tag has this length.
-fn known(tag: u8, size: usize) -> bool
-    ensures { λ r. ⌜ r ≡ known tag size ⌝ }
+// The rule of a question that is to be set.
+fn setting_rule(s: Setting) -> Rule
+    ensures { λ r. ⌜ r ≡ settingRule s ⌝ }
 {
-    if tag == Log::WINDOW {
-        return size == 2;
-    }
-    if tag == Log::SET {
-        return size == 6;
-    }
-    if tag == Log::FRAME {
-        return size == 12;
-    }
-    if tag == Log::REMOVE {
-        return size == 1;
-    }
-    if tag == Log::SHOW { size == 1 } else { false }
+    Rule::of(weights_of(s))
 }
 
-// The weights in an item that sets a question.
-pub fn weights_in(value: &[u8]) -> Weights
-    ensures { λ r. ⌜ r ≡ weightsIn (now (value .entry)) ⌝ }
+fn weights_of(s: Setting) -> Weights
+    ensures { λ r. ⌜ r ≡ weightsOf s ⌝ }
 {
-    let loss = signed16(wire::read16(value, 2));
-    let shake = signed16(wire::read16(value, 4));
-    Weights { loss, shake }
+    Weights {
+        loss: s.loss,
+        shake: s.shake,
+    }
 }
 
-// The signed number of two bytes.
-fn signed16(n: u16) -> i16
-    ensures { λ r. ⌜ r ≡ signed16 n ⌝ }
+// The rule in the value of an item that sets a question.
+pub fn rule_in(value: &[u8]) -> Rule
+    ensures { λ r. ⌜ r ≡ ruleIn (now (value .entry)) ⌝ }
 {
-    if n < 32768 {
-        n as i16
-    } else {
-        ((n as i32) - 65536) as i16
-    }
+    setting_rule(Setting::read(value))
 }
 
 // What a frame that belongs to no session is refused for.
@@ -332,15 +299,15 @@ fn put_searches(
     out: &mut [u8],
     at: usize,
     item: u64,
-    searched: [bool; 32],
-    steps: [u16; 32],
+    searched: [bool; Gauge::SLOTS],
+    steps: [u16; Gauge::SLOTS],
 ) -> usize
     ensures { λ r. ⌜ r ≡ behind at (sLines item 0 searched steps) ⌝ }
     ensures { λ _. ⌜ now (out .exit) ≡ sets (now (out .entry)) at (sLines item 0 searched steps) ⌝ }
 {
     let mut next = at;
     let mut i: usize = 0;
-    while i < 32 {
+    while i < Gauge::SLOTS {
         next = put_search(out, next, item, i as u8, searched[i], steps[i]);
         i += 1;
     }

@@ -1,17 +1,13 @@
 -- `journal::Log::remove_item` meets its contract: the board answers the refusal, or is left without the slot.
 -- Assumes nothing.
-use mathlib.Core.Path.{ap, _∙_}
+use mathlib.Core.Path.{ap}
 use denote.Ref.{now}
 use Rattle.board.specs.declared.Removed.{Removed}
-use Rattle.board.specs.Work.{removeWork}
 use Rattle.journal.specs.Log.{quiet, withBoard, removeItem}
 use Rattle.journal.proofs.Calls.{refuses, does, silent}
 use borrow.Author.Needs.{needs}
 use Rattle.journal.proofs.Log.remove_item.Statement.{statement}
 use Rattle.journal.proofs.Log.remove_item.Tie as tie
-
-byte-requires : tie.Need-byte-requires
-byte-requires c κs = search needs
 
 remove-known-requires : tie.Need-remove-known-requires
 remove-known-requires c κs = search needs
@@ -25,8 +21,8 @@ same-length c = search needs
 returns : tie.Need-returns
 unfolding removeItem
 returns c =
-    let a = c .before .before .before .before .before .before .before .before .before .before .args in
-    let removed = c .before .before .before .before .before .remove-known .ensures ∙ ap (removeWork (a .self .board)) (c .before .before .before .before .before .before .byte .ensures) in
+    let a = c .before .before .before .before .before .before .before .before .args in
+    let removed = c .before .before .before .before .before .remove-known .ensures in
     refuses (a .self) _ (ap (λ (r : Removed). r .refusal) removed) (c .before .before .before .before .if1 .taken) (c .before .before .refused .ensures)
 
 with-board-requires : tie.Need-with-board-requires
@@ -35,8 +31,8 @@ with-board-requires c κs = search needs
 returns-2 : tie.Need-returns-2
 unfolding removeItem
 returns-2 c =
-    let a = c .before .before .before .before .before .before .before .before .args in
-    let removed = c .before .before .before .remove-known .ensures ∙ ap (removeWork (a .self .board)) (c .before .before .before .before .byte .ensures) in
+    let a = c .before .before .before .before .before .before .args in
+    let removed = c .before .before .before .remove-known .ensures in
     does (a .self) (ap (λ (r : Removed). r .refusal) removed) (c .before .before .if1 .left) (ap (λ (r : Removed). quiet (withBoard (a .self) (r .board))) removed)
     (silent (now (a .out)) (a .at) _ (search needs) (c .with-board .ensures))
 
@@ -44,7 +40,6 @@ pub remove-item-spec : {M : Type 1} → statement M
 remove-item-spec =
     tie.close
     (tie.spec
-    byte-requires
     remove-known-requires
     refused-requires
     same-length

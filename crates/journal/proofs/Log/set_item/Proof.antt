@@ -10,14 +10,8 @@ use borrow.Author.Needs.{needs}
 use Rattle.journal.proofs.Log.set_item.Statement.{statement}
 use Rattle.journal.proofs.Log.set_item.Tie as tie
 
-byte-requires : tie.Need-byte-requires
-byte-requires c κs = search needs
-
-weights-in-requires : tie.Need-weights-in-requires
-weights-in-requires c κs = search needs
-
-byte-requires-2 : tie.Need-byte-requires-2
-byte-requires-2 c κs = search needs
+setting-rule-requires : tie.Need-setting-rule-requires
+setting-rule-requires c κs = search needs
 
 set-known-requires : tie.Need-set-known-requires
 set-known-requires c κs = search needs
@@ -31,11 +25,8 @@ same-length c = search needs
 returns : tie.Need-returns
 unfolding setItem
 returns c =
-    let a = c .before .before .before .before .before .before .before .before .before .before .before .before .args in
-    let slot = c .before .before .before .before .before .before .before .before .before .byte .ensures in
-    let k = c .before .before .before .before .before .before .byte2 .ensures in
-    let weights = c .before .before .before .before .before .before .before .before .weights-in .ensures in
-    let placed = c .before .before .before .before .before .set-known .ensures ∙ (λ i. setWork (a .self .board) (slot i) (k i) (weights i)) in
+    let a = c .before .before .before .before .before .before .before .before .before .args in
+    let placed = c .before .before .before .before .before .set-known .ensures ∙ ap (setWork (a .self .board) (a .s .slot) (a .s .k)) (c .before .before .before .before .before .before .before .setting-rule .ensures) in
     refuses (a .self) _ (ap (λ (p : Placed). p .refusal) placed) (c .before .before .before .before .if1 .taken) (c .before .before .refused .ensures)
 
 put-s-requires : tie.Need-put-s-requires
@@ -50,22 +41,17 @@ same-length-2 c = search needs
 returns-2 : tie.Need-returns-2
 unfolding setItem
 returns-2 c =
-    let a = c .before .before .before .before .before .before .before .before .before .before .before .before .before .before .args in
-    let slot = c .before .before .before .before .before .before .before .before .before .before .before .byte .ensures in
-    let k = c .before .before .before .before .before .before .before .before .byte2 .ensures in
-    let weights = c .before .before .before .before .before .before .before .before .before .before .weights-in .ensures in
-    let placed = c .before .before .before .before .before .before .before .set-known .ensures ∙ (λ i. setWork (a .self .board) (slot i) (k i) (weights i)) in
+    let a = c .before .before .before .before .before .before .before .before .before .before .before .args in
+    let placed = c .before .before .before .before .before .before .before .set-known .ensures ∙ ap (setWork (a .self .board) (a .s .slot) (a .s .k)) (c .before .before .before .before .before .before .before .before .before .setting-rule .ensures) in
     does (a .self) (ap (λ (p : Placed). p .refusal) placed) (c .before .before .before .before .before .before .if1 .left)
-    (λ i. record { text = sLine (a .self .items) (slot i) (placed i .steps); log = withBoard (a .self) (placed i .board) })
+    (ap (λ (p : Placed). record { text = sLine (a .self .items) (a .s .slot) (p .steps); log = withBoard (a .self) (p .board) }) placed)
     (stores _ _ (c .with-board .ensures) (c .before .before .before .before .put-s .ensures))
 
 pub set-item-spec : {M : Type 1} → statement M
 set-item-spec =
     tie.close
     (tie.spec
-    byte-requires
-    weights-in-requires
-    byte-requires-2
+    setting-rule-requires
     set-known-requires
     refused-requires
     same-length

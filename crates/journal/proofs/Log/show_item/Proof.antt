@@ -1,19 +1,14 @@
 -- `journal::Log::show_item` meets its contract: the board answers the refusal, or the list that is printed.
 -- Assumes nothing.
-use mathlib.Core.Path.{refl, ap, ap₂, _∙_}
-use Prim.Native.Nat.{ℕ}
+use mathlib.Core.Path.{refl, ap}
 use lib.ListN.{take}
 use Rattle.slot.specs.declared.Shown.{Shown}
-use Rattle.board.specs.Work.{readWork}
 use Rattle.text.specs.Text.{qLine, listed}
-use Rattle.journal.specs.Log.{Outcome, showItem}
+use Rattle.journal.specs.Log.{showItem}
 use Rattle.journal.proofs.Calls.{refuses, does, stores}
 use borrow.Author.Needs.{needs}
 use Rattle.journal.proofs.Log.show_item.Statement.{statement}
 use Rattle.journal.proofs.Log.show_item.Tie as tie
-
-byte-requires : tie.Need-byte-requires
-byte-requires c κs = search needs
 
 read-known-requires : tie.Need-read-known-requires
 read-known-requires c κs = search needs
@@ -27,8 +22,8 @@ same-length c = search needs
 returns : tie.Need-returns
 unfolding showItem
 returns c =
-    let a = c .before .before .before .before .before .before .before .before .before .before .args in
-    let shown = c .before .before .before .before .before .read-known .ensures ∙ ap (readWork (a .self .board)) (c .before .before .before .before .before .before .before .byte .ensures) in
+    let a = c .before .before .before .before .before .before .before .before .args in
+    let shown = c .before .before .before .before .before .read-known .ensures in
     refuses (a .self) _ (ap (λ (s : Shown). s .refusal) shown) (c .before .before .before .before .if1 .taken) (c .before .before .refused .ensures)
 
 cast-put-q : tie.Need-cast-put-q
@@ -43,18 +38,16 @@ same-length-2 c = search needs
 returns-2 : tie.Need-returns-2
 unfolding showItem
 returns-2 c =
-    let a = c .before .before .before .before .before .before .before .before .before .before .before .before .before .args in
-    let slot = c .before .before .before .before .before .before .before .before .before .before .byte .ensures in
-    let shown = c .before .before .before .before .before .before .before .before .read-known .ensures ∙ ap (readWork (a .self .board)) slot in
+    let a = c .before .before .before .before .before .before .before .before .before .before .before .args in
+    let shown = c .before .before .before .before .before .before .before .before .read-known .ensures in
     does (a .self) (ap (λ (s : Shown). s .refusal) shown) (c .before .before .before .before .before .before .before .if1 .left)
-    (ap₂ (λ (k : ℕ) (s : Shown). record { text = qLine k (take (s .len) (listed (s .numbers) (s .scores))); log = a .self }) slot shown)
+    (ap (λ (s : Shown). record { text = qLine (a .slot) (take (s .len) (listed (s .numbers) (s .scores))); log = a .self }) shown)
     (stores (a .self) _ refl (c .before .before .put-q .ensures))
 
 pub show-item-spec : {M : Type 1} → statement M
 show-item-spec =
     tie.close
     (tie.spec
-    byte-requires
     read-known-requires
     refused-requires
     same-length

@@ -1,0 +1,14 @@
+-- What items do that are meant, one after the other, apart from the bytes that hold them.
+use mathlib.Core.List.{List, [], _∷_, _++_}
+use Rattle.items.specs.Run.{Meant}
+use Rattle.journal.specs.declared.Log.{Log}
+use Rattle.journal.specs.Log.{Outcome, counted, unless, itemRefusal, byItem}
+
+-- What is done for an item that is meant.
+abbrev pub meantDone : Log → Meant → Outcome
+meantDone l m = unless (counted l) (itemRefusal (counted l) (m .item)) (byItem (counted l) (m .item) (m .data-bytes))
+
+-- Items one after the other: their text, and the log that they leave.
+abbrev pub run : Log → List Meant → Outcome
+run l [] = record { text = []; log = l }
+run l (m ∷ ms) = record { text = meantDone l m .text ++ run (meantDone l m .log) ms .text; log = run (meantDone l m .log) ms .log }
