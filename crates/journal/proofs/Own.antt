@@ -22,8 +22,8 @@ use Rattle.window.specs.declared.Counts.{Counts}
 use Rattle.window.proofs.Fitness.{fit-facts}
 use Rattle.question.specs.declared.Question.{Question}
 use Rattle.question.specs.Lines.{emptySlot, finished, inRows}
-use Rattle.question.specs.Calls.{allOf}
-use Rattle.question.proofs.Listed.{all-in}
+use Rattle.list.specs.Lines.{allOf}
+use Rattle.list.proofs.Blank.{all-in}
 use Rattle.board.specs.Work.{slotAt, freshBoard, setWork, removeWork, readWork, newReport, outgoing, turned, enterRefusal, enterWork}
 use Rattle.board.specs.Calls.{fitBoard, enterCall}
 use Rattle.board.specs.Reached as board

@@ -18,7 +18,8 @@ use Rattle.ranking.specs.declared.Rule.{Rule}
 use Rattle.window.specs.Rows.{freshWindow, heldReports}
 use Rattle.window.specs.History.{numbered, latest}
 use Rattle.window.proofs.Reports.{empty-holds}
-use Rattle.question.specs.Lines.{lines, linesOf}
+use Rattle.list.specs.Lines.{linesOf}
+use Rattle.question.specs.Lines.{lines}
 use Rattle.board.specs.Work.{slotAt, freshBoard, setWork, removeWork, readWork, enterWork}
 use Rattle.slot.specs.Asking.{readIn}
 use Rattle.board.specs.Calls.{fitBoard, setCall, removeCall, readCall, enterCall}

@@ -10,7 +10,7 @@ use native.Mathlib.Omega.{arith}
 use lib.Dec.{ltb}
 use lib.ListN.{length, getD, take}
 use lib.Seq.{take-suc}
-use Rattle.question.proofs.Taking.{if-so, if-not}
+use Rattle.laws.proofs.Tests.{if-so, if-not}
 use Rattle.text.specs.Text.{behind}
 use Rattle.text.proofs.Decimal.{below-or}
 use Rattle.text.proofs.Places.{Put, then, said, none}

@@ -4,7 +4,7 @@ use mathlib.Core.Path.{sym, _∙_}
 use mathlib.Core.List.{List}
 use Prim.Native.Nat.{ℕ}
 use denote.Ref.{now}
-use Rattle.wire.proofs.Outcomes.{OneAnswer, OneLeft}
+use Rattle.laws.proofs.Outcomes.{OneAnswer, OneLeft}
 use Rattle.pieces.proofs.Waiting.nothing.Kinds as nothing-kinds
 use Rattle.pieces.proofs.Waiting.nothing.Reads as nothing-reads
 use Rattle.pieces.proofs.Waiting.feed.Kinds as feed-kinds

@@ -13,7 +13,7 @@ use lib.Dec.{ltb, leb, eqb}
 use lib.ListN.{length, getD, take, drop, replicate, length-append, length-replicate, take-append-drop}
 use lib.Seq.{sets, take-append-seam}
 use Rattle.wire.proofs.Numbers.{Bytes}
-use Rattle.ranking.proofs.Tests.{clash}
+use Rattle.laws.proofs.Tests.{clash}
 use Rattle.text.specs.Text.{behind}
 use Rattle.text.proofs.Decimal.{below-or}
 use Rattle.text.proofs.Lengths.{rLine-longest}
@@ -27,7 +27,7 @@ use Rattle.pieces.specs.Machine.{Came, nothing, withByte, isWhole, came,
 use Rattle.journal.specs.Reached.{Reached, fresh, item}
 use Rattle.pieces.specs.Program.{Program, feeds, finishes}
 use Rattle.pieces.proofs.Feeding.{follow, run-append, ran-next}
-use Rattle.journal.proofs.Answers.{either}
+use Rattle.laws.proofs.Tests.{either}
 use Rattle.journal.proofs.Reached.{next-small, item-short}
 use Rattle.pieces.proofs.Writing.{writes}
 

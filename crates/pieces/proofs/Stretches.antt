@@ -10,7 +10,7 @@ use lib.Dec.{eqb}
 use lib.ListN.{length, getD, take, drop, length-drop}
 use lib.Seq.{sets, length-sets, drop-drop, getD-drop}
 use Rattle.wire.specs.Bytes.{number, part}
-use Rattle.ranking.proofs.Tests.{Tested, passed, failed, tested, and-both}
+use Rattle.laws.proofs.Tests.{Tested, passed, failed, tested, and-both}
 use Rattle.text.specs.Text.{behind}
 use Rattle.text.proofs.Places.{Put, then, none}
 use Rattle.journal.specs.declared.Log.{Log}

@@ -14,7 +14,7 @@ use lib.Seq.{append-snoc, getD-take, getD-drop, ext-getD}
 use Rattle.wire.specs.Bytes.{part}
 use Rattle.wire.proofs.Numbers.{Bytes, number-two}
 use Rattle.wire.proofs.Fields.{cut-short, length-part}
-use Rattle.question.proofs.Taking.{if-so, if-not}
+use Rattle.laws.proofs.Tests.{if-so, if-not}
 use Rattle.text.proofs.Decimal.{below-or}
 use Rattle.journal.specs.declared.Log.{Log}
 use Rattle.pieces.specs.declared.Waiting.{Waiting}

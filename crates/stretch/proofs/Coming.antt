@@ -12,7 +12,7 @@ use lib.ListN.{length, getD, drop}
 use lib.Seq.{getD-take, getD-drop}
 use Rattle.wire.specs.Bytes.{part}
 use Rattle.wire.proofs.Fields.{length-part}
-use Rattle.ranking.proofs.Tests.{clash, and-both}
+use Rattle.laws.proofs.Tests.{and-both, or-either}
 use Rattle.window.specs.Rows.{sized}
 use Rattle.stretch.specs.Coming.{sizeAt, itemComes, slotComes, comes}
 use Rattle.stretch.proofs.Serving.{Known}
@@ -33,10 +33,6 @@ item {bytes} {i} {tag} {size} e =
       starts = eqb-true (getD bytes i 0) tag (two .1);
       long = eqb-true (sizeAt bytes i) size (one .1);
     }
-
-or-either : (a b : Bool) → a || b ≡ true → (a ≡ true) ⊎ (b ≡ true)
-or-either true b h = inl refl
-or-either false b h = inr h
 
 -- An item for a slot stands there.
 pub record Slot (bytes : List ℕ) (i : ℕ) : Type 0 where

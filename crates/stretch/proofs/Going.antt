@@ -6,8 +6,7 @@ use mathlib.Core.List.{List, [], _++_, append-assoc, append-nil}
 use Prim.Native.Nat.{ℕ, zero, suc, _+_, _^_, _≤_, _<_}
 use native.Mathlib.Omega.{arith}
 use lib.ListN.{length}
-use Rattle.ranking.proofs.Tests.{Tested, passed, failed, tested, and-both}
-use Rattle.question.proofs.Taking.{if-so, if-not}
+use Rattle.laws.proofs.Tests.{Tested, passed, failed, tested, and-both, if-so, if-not}
 use Rattle.text.specs.Text.{behind}
 use Rattle.text.proofs.Places.{Put, then, none}
 use Rattle.journal.specs.declared.Log.{Log}
@@ -17,12 +16,12 @@ use Rattle.stretch.proofs.Coming.{whole-there}
 use Rattle.stretch.specs.Doing.{Did, itemAt, after, did, all}
 
 module _ (room : ℕ) (bytes : List ℕ) where
-  pub did-more : (n at : ℕ) (log : Log) (i : ℕ) → comes (log .board .window .size) bytes i && hasRoom room at ≡ true
+  pub did-more : (n at : ℕ) (log : Log) (i : ℕ) → comes (log .board .window .counts .size) bytes i && hasRoom room at ≡ true
       → did (suc n) room at log bytes i ≡ after (itemAt log bytes i .text) (did n room (behind at (itemAt log bytes i .text)) (itemAt log bytes i .log) bytes (i + (3 + sizeAt bytes i)))
   unfolding did
   did-more n at log i t = if-so _ _ t
 
-  pub did-none : (n at : ℕ) (log : Log) (i : ℕ) → comes (log .board .window .size) bytes i && hasRoom room at ≡ false → did n room at log bytes i ≡ record { text = []; log = log; next = i }
+  pub did-none : (n at : ℕ) (log : Log) (i : ℕ) → comes (log .board .window .counts .size) bytes i && hasRoom room at ≡ false → did n room at log bytes i ≡ record { text = []; log = log; next = i }
   unfolding did
   did-none zero at log i t = refl
   did-none (suc n) at log i t = if-not _ _ t
@@ -34,12 +33,12 @@ module _ (room : ℕ) (bytes : List ℕ) where
   -- They start where they start, and end within the bytes.
   pub did-within : (n at : ℕ) (log : Log) (i : ℕ) → i ≤ length bytes → (i ≤ did n room at log bytes i .next) × (did n room at log bytes i .next ≤ length bytes)
   did-within zero at log i h = subst (λ (d : Did). (i ≤ d .next) × (d .next ≤ length bytes)) (sym (did-zero at log i)) (omega arith, h)
-  did-within (suc n) at log i h = go (tested (comes (log .board .window .size) bytes i && hasRoom room at)) (λ a l k f. did-within n a l k f)
+  did-within (suc n) at log i h = go (tested (comes (log .board .window .counts .size) bytes i && hasRoom room at)) (λ a l k f. did-within n a l k f)
     where
-      go : Tested (comes (log .board .window .size) bytes i && hasRoom room at) → ((a : ℕ) (l : Log) (k : ℕ) → k ≤ length bytes → (k ≤ did n room a l bytes k .next) × (did n room a l bytes k .next ≤ length bytes))
+      go : Tested (comes (log .board .window .counts .size) bytes i && hasRoom room at) → ((a : ℕ) (l : Log) (k : ℕ) → k ≤ length bytes → (k ≤ did n room a l bytes k .next) × (did n room a l bytes k .next ≤ length bytes))
           → (i ≤ did (suc n) room at log bytes i .next) × (did (suc n) room at log bytes i .next ≤ length bytes)
       go (passed t) rest =
-          let there = whole-there bytes i (log .board .window .size) (and-both (comes (log .board .window .size) bytes i) (hasRoom room at) t .0) in
+          let there = whole-there bytes i (log .board .window .counts .size) (and-both (comes (log .board .window .counts .size) bytes i) (hasRoom room at) t .0) in
           let done = itemAt log bytes i in
           let more = rest (behind at (done .text)) (done .log) (i + (3 + sizeAt bytes i)) (there .0) in
           subst (λ (d : Did). (i ≤ d .next) × (d .next ≤ length bytes)) (sym (did-more n at log i t)) (omega (arith, more .0), more .1)
@@ -62,7 +61,7 @@ module _ (log₀ : Log) (bytes room : List ℕ) (at₀ : ℕ) where
 
   module _ {i : ℕ} {log : Log} {at : ℕ} {left : List ℕ} (w : Went i log at left) where
     -- One item more.
-    pub went-more : {log₁ : Log} {next : ℕ} {left₁ : List ℕ} (text : List ℕ) → length room < 2 ^ 64 → i < length bytes → comes (log .board .window .size) bytes i && hasRoom (length room) at ≡ true
+    pub went-more : {log₁ : Log} {next : ℕ} {left₁ : List ℕ} (text : List ℕ) → length room < 2 ^ 64 → i < length bytes → comes (log .board .window .counts .size) bytes i && hasRoom (length room) at ≡ true
         → itemAt log bytes i ≡ record { text = text; log = log₁ } → Put left at text next left₁ → {j : ℕ} → j ≡ i + (3 + sizeAt bytes i) → Went j log₁ next left₁
     went-more {log₁} {next} {left₁} text small inside t e p {j} at-j = go (w .n) (w .enough) (w .so)
       where
@@ -82,7 +81,7 @@ module _ (log₀ : Log) (bytes room : List ℕ) (at₀ : ℕ) where
             }
 
     -- No item more.
-    pub went-all : comes (log .board .window .size) bytes i && hasRoom (length room) at ≡ false → all (length room) at₀ log₀ bytes ≡ record { text = w .text; log = log; next = i }
+    pub went-all : comes (log .board .window .counts .size) bytes i && hasRoom (length room) at ≡ false → all (length room) at₀ log₀ bytes ≡ record { text = w .text; log = log; next = i }
     went-all t =
         w .so ∙ ap (after (w .text)) (did-none (length room) bytes (w .n) at log i t)
         ∙ (λ k. record { text = append-nil (w .text) k; log = log; next = i })

@@ -4,7 +4,7 @@ use mathlib.Core.Path.{sym, _∙_}
 use mathlib.Core.List.{List}
 use Prim.Native.Nat.{ℕ}
 use denote.Ref.{now}
-use Rattle.wire.proofs.Outcomes.{OneAnswer, OneLeft}
+use Rattle.laws.proofs.Outcomes.{OneAnswer, OneLeft}
 use Rattle.stretch.proofs.comes.Kinds as comes-kinds
 use Rattle.stretch.proofs.comes.Reads as comes-reads
 use Rattle.stretch.proofs.has_room.Kinds as has-room-kinds

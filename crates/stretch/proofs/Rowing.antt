@@ -8,11 +8,10 @@ use borrow.Author.Tests.{leb-true, leb-false, eqb-true}
 use lib.Dec.{eqb, leb}
 use lib.ListN.{getD, set}
 use lib.Seq.{getD-set-other}
-use Rattle.ranking.proofs.Tests.{Tested, passed, failed, tested}
+use Rattle.laws.proofs.Tests.{Tested, passed, failed, tested, if-so, if-not}
 use Rattle.window.specs.declared.Window.{Window}
 use Rattle.window.specs.Rows.{standing}
 use Rattle.window.proofs.Standing.{standing-end}
-use Rattle.question.proofs.Taking.{if-so, if-not}
 use Rattle.slot.proofs.Gauges.{used-few, used-blank}
 use Rattle.stretch.specs.Inner.{rowsUsed, withRow}
 

@@ -11,12 +11,11 @@ use lib.Dec.{eqb}
 use lib.ListN.{length, getD, set}
 use lib.Seq.{set-getD}
 use Rattle.ranking.specs.Standing.{Held}
-use Rattle.ranking.proofs.Tests.{Tested, passed, failed, tested}
+use Rattle.laws.proofs.Tests.{Tested, passed, failed, tested, if-so, if-not}
 use Rattle.window.specs.Rows.{sized, standing}
 use Rattle.window.proofs.Fitness.{size-range}
 use Rattle.question.specs.declared.Question.{Question}
 use Rattle.question.specs.Lines.{rowsOf}
-use Rattle.question.proofs.Taking.{if-so, if-not}
 use Rattle.board.specs.declared.Board.{Board}
 use Rattle.board.specs.declared.Placed.{Placed}
 use Rattle.slot.specs.declared.Seated.{Seated}
@@ -26,7 +25,8 @@ use Rattle.board.specs.Work.{slotAt, withSlot, setWork, removeWork, readWork}
 use Rattle.board.proofs.Seats.{set-seated, set-kept}
 use Rattle.text.specs.Text.{rLine, sLine}
 use Rattle.journal.specs.declared.Log.{Log}
-use Rattle.journal.specs.Log.{Outcome, nextItem, counted, withBoard, unless, known, itemRefusal, weightsIn, setItem, removeItem, showItem, byTag, itemDone}
+use Rattle.journal.specs.Log.{Outcome, nextItem, counted, withBoard, unless, ruleIn, setItem, removeItem, showItem, itemDone}
+use Rattle.journal.proofs.Items as items
 use Rattle.stretch.specs.Inner.{Served, shownText, seatedText, served}
 
 -- The tag and the length of an item for a slot.
@@ -44,7 +44,7 @@ module _ (tag item : ℕ) (v : List ℕ) (q : Question) (w : List Held) where
   unfolding served
   served-remove n e = if-not _ _ (ne-eqb tag 20 n) ∙ if-so _ _ (eq-eqb tag 19 e)
 
-  pub served-set : (tag ≡ 20 → ⊥) → (tag ≡ 19 → ⊥) → {seated : Seated} → seated ≡ setIn q (getD v 1 0) (weightsIn v) w
+  pub served-set : (tag ≡ 20 → ⊥) → (tag ≡ 19 → ⊥) → {seated : Seated} → seated ≡ setIn q (getD v 1 0) (ruleIn v) w
       → served tag item v q w ≡ record { text = seatedText item (getD v 0 0) (seated .refusal) (seated .steps); question = seated .question }
   unfolding served
   served-set n m {seated} e =
@@ -58,9 +58,9 @@ one-byte [] e = absurd (omega arith)
 one-byte (x ∷ []) e = refl
 one-byte (x ∷ y ∷ l) e = absurd (omega arith)
 
-module _ (log : Log) (window : sized (log .board .window .size) ≡ true) where
-  pub some-rows : log .board .window .size ≡ 0 → ⊥
-  some-rows e = let range = size-range (log .board .window .size) window in absurd (omega (arith, range .0, e))
+module _ (log : Log) (window : sized (log .board .window .counts .size) ≡ true) where
+  pub some-rows : log .board .window .counts .size ≡ 0 → ⊥
+  some-rows e = let range = size-range (log .board .window .counts .size) window in absurd (omega (arith, range .0, e))
 
   abbrev b : Board
   b = log .board
@@ -79,33 +79,29 @@ module _ (log : Log) (window : sized (log .board .window .size) ≡ true) where
   same-slot s = λ i. withBoard (counted log) (record { window = b .window; slots = sym (set-getD (b .slots) s noQuestion) i })
 
   show-done : (s : ℕ) → s < 32 → itemDone log 20 (s ∷ []) ≡ record { text = shownText n s (slotAt b s); log = counted log }
-  unfolding itemDone itemRefusal known byTag showItem readWork readIn unless shownText
-  show-done s h = go (tested (eqb (slotAt b s .k) 0))
+  unfolding showItem readWork readIn unless shownText
+  show-done s h = items.show-done log some-rows s ∙ go (tested (eqb (slotAt b s .k) 0))
     where
-      go : Tested (eqb (slotAt b s .k) 0) → itemDone log 20 (s ∷ []) ≡ record { text = shownText n s (slotAt b s); log = counted log }
-      go (passed t) = rw (ne-eqb (b .window .size) 0 some-rows) (rw (lt-ltb s 32 h, t))
-      go (failed t) = rw (ne-eqb (b .window .size) 0 some-rows) (rw (lt-ltb s 32 h, t))
+      go : Tested (eqb (slotAt b s .k) 0) → showItem (counted log) s ≡ record { text = shownText n s (slotAt b s); log = counted log }
+      go (passed t) = rw (lt-ltb s 32 h, t)
+      go (failed t) = rw (lt-ltb s 32 h, t)
 
   remove-done : (s : ℕ) → s < 32 → itemDone log 19 (s ∷ []) ≡ record { text = cond (eqb (slotAt b s .k) 0) (rLine n 17) []; log = holding s (emptied (slotAt b s)) }
-  unfolding itemDone itemRefusal known byTag removeItem removeWork unless emptied
-  remove-done s h = go (tested (eqb (slotAt b s .k) 0))
+  unfolding removeItem removeWork unless emptied
+  remove-done s h = items.remove-done log some-rows s ∙ go (tested (eqb (slotAt b s .k) 0))
     where
-      go : Tested (eqb (slotAt b s .k) 0) → itemDone log 19 (s ∷ []) ≡ record { text = cond (eqb (slotAt b s .k) 0) (rLine n 17) []; log = holding s (emptied (slotAt b s)) }
-      go (passed t) = rw (ne-eqb (b .window .size) 0 some-rows) (rw (lt-ltb s 32 h, t) (λ i. record { text = rLine n 17; log = same-slot s i }))
-      go (failed t) = rw (ne-eqb (b .window .size) 0 some-rows) (rw (lt-ltb s 32 h, t))
+      go : Tested (eqb (slotAt b s .k) 0) → removeItem (counted log) s ≡ record { text = cond (eqb (slotAt b s .k) 0) (rLine n 17) []; log = holding s (emptied (slotAt b s)) }
+      go (passed t) = rw (lt-ltb s 32 h, t) (λ i. record { text = rLine n 17; log = same-slot s i })
+      go (failed t) = rw (lt-ltb s 32 h, t)
 
-  set-known : (v : List ℕ) → length v ≡ 6 → itemDone log 17 v ≡ setItem (counted log) v
-  unfolding itemDone itemRefusal unless known byTag
-  set-known v e = rw (e, ne-eqb (b .window .size) 0 some-rows)
-
-  set-done : (v : List ℕ) → length v ≡ 6 → getD v 0 0 < 32 → {seated : Seated} → seated ≡ setIn (slotAt b (getD v 0 0)) (getD v 1 0) (weightsIn v) rows
+  set-done : (v : List ℕ) → length v ≡ 6 → getD v 0 0 < 32 → {seated : Seated} → seated ≡ setIn (slotAt b (getD v 0 0)) (getD v 1 0) (ruleIn v) rows
       → itemDone log 17 v ≡ record { text = seatedText n (getD v 0 0) (seated .refusal) (seated .steps); log = holding (getD v 0 0) (seated .question) }
   unfolding setItem unless seatedText
   set-done v long few {seated} e =
       let s = getD v 0 0 in
-      let placed : setWork b s (getD v 1 0) (weightsIn v) ≡ record { refusal = seated .refusal; steps = seated .steps; board = withSlot b s (seated .question) } = set-seated b s (getD v 1 0) (weightsIn v) few e in
-      let same : eqb (seated .refusal) 0 ≡ false → withSlot b s (seated .question) ≡ b = λ t. sym (ap (λ (p : Placed). p .board) placed) ∙ set-kept b s (getD v 1 0) (weightsIn v) (eqb-false _ 0 (ap (λ (p : Placed). eqb (p .refusal) 0) placed ∙ t)) in
-      set-known v long ∙ ap (λ (p : Placed). unless (counted log) (p .refusal) (record { text = sLine n s (p .steps); log = withBoard (counted log) (p .board) })) placed
+      let placed : setWork b s (getD v 1 0) (ruleIn v) ≡ record { refusal = seated .refusal; steps = seated .steps; board = withSlot b s (seated .question) } = set-seated b s (getD v 1 0) (ruleIn v) few e in
+      let same : eqb (seated .refusal) 0 ≡ false → withSlot b s (seated .question) ≡ b = λ t. sym (ap (λ (p : Placed). p .board) placed) ∙ set-kept b s (getD v 1 0) (ruleIn v) (eqb-false _ 0 (ap (λ (p : Placed). eqb (p .refusal) 0) placed ∙ t)) in
+      items.set-done log some-rows v long ∙ ap (λ (p : Placed). unless (counted log) (p .refusal) (record { text = sLine n s (p .steps); log = withBoard (counted log) (p .board) })) placed
       ∙ go (tested (eqb (seated .refusal) 0)) same
     where
       go : Tested (eqb (seated .refusal) 0) → (eqb (seated .refusal) 0 ≡ false → withSlot b (getD v 0 0) (seated .question) ≡ b)

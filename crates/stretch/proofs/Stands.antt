@@ -3,13 +3,14 @@
 use mathlib.Core.Path.{_≡_, refl, sym, ap, subst, _∙_}
 use mathlib.Core.Bool.{Bool, true, false, cond, _&&_}
 use mathlib.Core.List.{List, [], map}
-use Prim.Native.Nat.{ℕ, _+_, _-_, _%_, _^_, min, _≤_, _<_}
+use Prim.Native.Nat.{ℕ, _+_, _-_, _^_, min, _≤_, _<_}
 use native.Mathlib.Omega.{arith}
 use lib.ListN.{length, getD, set, length-set}
 use lib.Seq.{sets, length-sets}
 use Rattle.wire.specs.Bytes.{part}
 use Rattle.wire.proofs.Fields.{length-part}
-use Rattle.ranking.proofs.Tests.{and-both}
+use Rattle.laws.proofs.Tests.{and-both}
+use Rattle.values.specs.Range.{low}
 use Rattle.window.specs.declared.Window.{Window}
 use Rattle.window.specs.Rows.{sized, standing, added}
 use Rattle.question.specs.declared.Question.{Question}
@@ -18,9 +19,9 @@ use Rattle.slot.specs.declared.gauge.Gauge.{Gauge}
 use Rattle.slot.specs.Gauges.{noQuestion, gaugeOf, isQuiet, isIdle, inUse}
 use Rattle.slot.specs.Turn as one
 use Rattle.slot.proofs.Gauges.{quiet-untouched}
-use Rattle.joining.specs.Room.{sessionsIn, roomOf}
+use Rattle.bus.specs.Room.{sessionsIn, roomOf}
 use Rattle.joining.specs.Run.{sessionsAfter, answerTo}
-use Rattle.joining.proofs.Rooms.{next-room}
+use Rattle.bus.proofs.Rooms.{next-room}
 use Rattle.text.specs.Text.{behind, rLine, sLine}
 use Rattle.text.proofs.Places.{Put, put, then}
 use Rattle.journal.specs.declared.Log.{Log}
@@ -30,7 +31,7 @@ use Rattle.stretch.specs.declared.Standing.{Standing}
 use Rattle.slot.specs.declared.Turned.{Turned}
 use Rattle.stretch.specs.Coming.{sizeAt, comes, hasRoom}
 use Rattle.stretch.specs.Inner.{served, Serves, brought, Stored}
-use Rattle.stretch.specs.Doing.{Did, Runs, itemAt, logIn}
+use Rattle.stretch.specs.Doing.{Did, Runs, itemAt, windowOf, logIn}
 use Rattle.stretch.proofs.Coming.{Item, Slot, has-window, a-frame, for-slot}
 use Rattle.stretch.proofs.Serving.{slot-here}
 use Rattle.stretch.proofs.Frames.{report, turn, turned-is, turn-stays, turn-idle, frame-none, row-in, row-takes, frame-enters}
@@ -73,17 +74,17 @@ module _ {b : Brought} {w : Window} {items rows : ℕ} {slots₀ : List Question
     below = omega (arith, t .few, t .all-slots)
 
     -- A slot that the report leaves alone.
-    pub turns-quiet : (d : Gauge) {r : Bool} → r ≡ isQuiet (getD gauges n d) (b .gone) (b .loss % 4096) (b .shake % 4096) → r ≡ true → Turns b w items rows slots₀ used out₀ at₀ (n + 1) slots gauges at out
+    pub turns-quiet : (d : Gauge) {r : Bool} → r ≡ isQuiet (getD gauges n d) (b .gone) (low (b .values)) → r ≡ true → Turns b w items rows slots₀ used out₀ at₀ (n + 1) slots gauges at out
     turns-quiet d e q =
         let is = gauge-at slots n d (t .each) (omega (arith, t .turning .first .whole, below)) in
-        let quiet = ap (λ g. isQuiet g (b .gone) (b .loss % 4096) (b .shake % 4096)) (sym is) ∙ sym e ∙ q in
+        let quiet = ap (λ g. isQuiet g (b .gone) (low (b .values))) (sym is) ∙ sym e ∙ q in
         record {
           within = omega arith;
           few = t .few;
           small = t .small;
           all-slots = t .all-slots;
           same = t .same;
-          turning = turning-still (turn b w) items slots₀ out₀ at₀ (t .turning) below (t .small) (place-fits (t .turning .printed)) (turn-stays b w (getD slots n noQuestion) (quiet-untouched (getD slots n noQuestion) (b .gone) (b .loss % 4096) (b .shake % 4096) quiet));
+          turning = turning-still (turn b w) items slots₀ out₀ at₀ (t .turning) below (t .small) (place-fits (t .turning .printed)) (turn-stays b w (getD slots n noQuestion) (quiet-untouched (getD slots n noQuestion) (b .gone) (low (b .values)) quiet));
           each = t .each;
           rowed = t .rowed;
         }
@@ -119,19 +120,19 @@ module _ (log₀ : Log) (bytes out₀ : List ℕ) (at₀ : ℕ) where
     pub rowed : Rowed (w .numbers) rows
 
   module _ (small : length out₀ < 2 ^ 64) {items : ℕ} {w : Window} {rows : ℕ} {slots : List Question} {gauges : List Gauge} {used : ℕ} {bus : List ℕ} {i at : ℕ} {out : List ℕ}
-      (l : Stands items w rows slots gauges used bus i at out) {go : Bool} (e-go : go ≡ (comes (w .size) bytes i && hasRoom (length out) at)) (goes : go ≡ true)
+      (l : Stands items w rows slots gauges used bus i at out) {go : Bool} (e-go : go ≡ (comes (w .counts .size) bytes i && hasRoom (length out) at)) (goes : go ≡ true)
       {tag items₁ : ℕ} (e-tag : tag ≡ getD bytes i 0) (e-items : items₁ ≡ nextItem items) where
-    here : comes (w .size) bytes i && hasRoom (length out₀) at ≡ true
-    here = ap (λ (n : ℕ). comes (w .size) bytes i && hasRoom n at) (sym (l .same)) ∙ sym e-go ∙ goes
+    here : comes (w .counts .size) bytes i && hasRoom (length out₀) at ≡ true
+    here = ap (λ (n : ℕ). comes (w .counts .size) bytes i && hasRoom n at) (sym (l .same)) ∙ sym e-go ∙ goes
 
-    next : comes (w .size) bytes i ≡ true
-    next = and-both (comes (w .size) bytes i) (hasRoom (length out₀) at) here .0
+    next : comes (w .counts .size) bytes i ≡ true
+    next = and-both (comes (w .counts .size) bytes i) (hasRoom (length out₀) at) here .0
 
     pub slot-there : (tag ≡ 18 → ⊥) → Slot bytes i
-    slot-there = for-slot bytes i (w .size) next e-tag
+    slot-there = for-slot bytes i (w .counts .size) next e-tag
 
     pub frame-there : tag ≡ 18 → Item bytes i 18 12
-    frame-there = a-frame bytes i (w .size) next e-tag
+    frame-there = a-frame bytes i (w .counts .size) next e-tag
 
     -- An item for a slot.
     pub stands-slot : (tag ≡ 18 → ⊥) → {v : List ℕ} {s : ℕ} {q : Question} {g : Gauge} {used₁ at₁ i₁ : ℕ} {out₁ : List ℕ} → v ≡ part (i + 3) (sizeAt bytes i) bytes → s ≡ getD v 0 0
@@ -147,14 +148,14 @@ module _ (log₀ : Log) (bytes out₀ : List ℕ) (at₀ : ℕ) where
           same = kept p ∙ l .same;
           room = l .room;
           all-slots = length-set slots s q ∙ l .all-slots;
-          went = went-more log₀ bytes out₀ at₀ (l .went) _ small (omega (arith, c .there)) here (slot-here log (has-window bytes i (w .size) next e-tag) (c .known) (c .few) e-tag e-items e-v e-s (d .holds)) p long;
+          went = went-more log₀ bytes out₀ at₀ (l .went) _ small (omega (arith, c .there)) here (slot-here log (has-window bytes i (w .counts .size) next e-tag) (c .known) (c .few) e-tag e-items e-v e-s (d .holds)) p long;
           gauged = gauged-of (set slots s q) (gauges-set slots s q (l .gauged .each) e-g) e-used;
           rowed = l .rowed;
         }
 
     -- A frame.
     module _ (is : tag ≡ 18) {v : List ℕ} {b : Brought} {bus₁ : List ℕ} (e-v : v ≡ part (i + 3) 12 bytes)
-        (e-b : b ≡ brought (answerTo (sessionsIn bus) (frameIn v)) (w .size) (w .entered) (w .held)) (e-bus : bus₁ ≡ roomOf (sessionsAfter (sessionsIn bus) (frameIn v))) where
+        (e-b : b ≡ brought (answerTo (sessionsIn bus) (frameIn v)) (w .counts)) (e-bus : bus₁ ≡ roomOf (sessionsAfter (sessionsIn bus) (frameIn v))) where
       there : i + 15 ≤ length bytes
       there = frame-there is .there
 
@@ -167,8 +168,8 @@ module _ (log₀ : Log) (bytes out₀ : List ℕ) (at₀ : ℕ) where
       abbrev log : Log
       log = logOf items w slots bus
 
-      window : sized (w .size) ≡ true
-      window = has-window bytes i (w .size) next e-tag
+      window : sized (w .counts .size) ≡ true
+      window = has-window bytes i (w .counts .size) next e-tag
 
       end : {i₁ : ℕ} → i₁ ≡ i + 15 → i₁ ≡ i + (3 + sizeAt bytes i)
       end e = e ∙ ap (λ (n : ℕ). i + (3 + n)) (sym (frame-there is .long))
@@ -182,7 +183,7 @@ module _ (log₀ : Log) (bytes out₀ : List ℕ) (at₀ : ℕ) where
       -- A report enters: the slots have their turns.
       pub turns-begin : (b .number ≡ 0 → ⊥) → {losses shakes numbers : List ℕ} {rows₁ : ℕ} → Stored (w .losses) (w .shakes) (w .numbers) rows b rows₁ losses shakes numbers
           → {at₁ : ℕ} {out₁ : List ℕ} → (at₁ ≡ behind at (cond (b .refused) (rLine items₁ (b .code)) [])) × (out₁ ≡ sets out at (cond (b .refused) (rLine items₁ (b .code)) []))
-          → Turns b (record { losses = losses; shakes = shakes; numbers = numbers; size = w .size; entered = b .number; held = b .held }) items₁ rows₁ slots used out₁ at₁ 0 slots gauges at₁ out₁
+          → Turns b (windowOf (record { size = w .counts .size; entered = b .number; held = b .held }) losses shakes numbers) items₁ rows₁ slots used out₁ at₁ 0 slots gauges at₁ out₁
       turns-begin some {rows₁ = rows₁} st p =
           turns-none (l .gauged) (l .all-slots) (omega (arith, kept (put p), l .same, small)) (place-fits (put p))
           (subst (λ (ns : List ℕ). Rowed ns rows₁) (sym (st .numbers)) (rowed-with (l .rowed) (b .row) (b .number) (row-there some) (st .used)))
@@ -204,12 +205,12 @@ module _ (log₀ : Log) (bytes out₀ : List ℕ) (at₀ : ℕ) where
       -- A report enters, and the slots in use have had their turns.
       pub stands-enters : (b .number ≡ 0 → ⊥) → {losses shakes numbers : List ℕ} {rows₁ : ℕ} → Stored (w .losses) (w .shakes) (w .numbers) rows b rows₁ losses shakes numbers
           → {at₁ i₁ : ℕ} {out₁ : List ℕ} → (at₁ ≡ behind at (cond (b .refused) (rLine items₁ (b .code)) [])) × (out₁ ≡ sets out at (cond (b .refused) (rLine items₁ (b .code)) [])) → i₁ ≡ i + 15
-          → {n at₂ : ℕ} {slots₂ : List Question} {gauges₂ : List Gauge} {out₂ : List ℕ} → Turns b (record { losses = losses; shakes = shakes; numbers = numbers; size = w .size; entered = b .number; held = b .held }) items₁ rows₁ slots used out₁ at₁ n slots₂ gauges₂ at₂ out₂ → used ≤ n
-          → Stands items₁ (record { losses = losses; shakes = shakes; numbers = numbers; size = w .size; entered = b .number; held = b .held }) rows₁ slots₂ gauges₂ used bus₁ i₁ at₂ out₂
+          → {n at₂ : ℕ} {slots₂ : List Question} {gauges₂ : List Gauge} {out₂ : List ℕ} → Turns b (windowOf (record { size = w .counts .size; entered = b .number; held = b .held }) losses shakes numbers) items₁ rows₁ slots used out₁ at₁ n slots₂ gauges₂ at₂ out₂ → used ≤ n
+          → Stands items₁ (windowOf (record { size = w .counts .size; entered = b .number; held = b .held }) losses shakes numbers) rows₁ slots₂ gauges₂ used bus₁ i₁ at₂ out₂
       stands-enters some {losses} {shakes} {numbers} {rows₁} st {at₁} {i₁} {out₁} p e-i {n} {at₂} {slots₂} {gauges₂} {out₂} m end-of =
-          let new : Window = record { losses = losses; shakes = shakes; numbers = numbers; size = w .size; entered = b .number; held = b .held } in
-          let grown : new ≡ added w (b .loss) (b .shake) =
-          (λ j. record { losses = st .losses j; shakes = st .shakes j; numbers = st .numbers j; size = w .size; entered = b .number; held = b .held })
+          let new : Window = windowOf (record { size = w .counts .size; entered = b .number; held = b .held }) losses shakes numbers in
+          let grown : new ≡ added w (b .values) =
+          (λ j. record { losses = st .losses j; shakes = st .shakes j; numbers = st .numbers j; counts = record { size = w .counts .size; entered = b .number; held = b .held } })
           ∙ row-takes log window v long e-items (left .1) e-b some in
           let idle : (k : ℕ) → n ≤ k → k < length slots → record { searched = false; steps = 0; question = getD slots k noQuestion } ≡ turn b new (getD slots k noQuestion) =
           λ k h f. turn-idle b new (getD slots k noQuestion) (l .gauged .idle k (omega (arith, m .within)) (omega (arith, l .all-slots))) in
@@ -228,10 +229,10 @@ module _ (log₀ : Log) (bytes out₀ : List ℕ) (at₀ : ℕ) where
 
 -- Where no item comes that is done in place, or no room is left, this is what all of them leave.
 pub stands-runs : (from : Standing) (bus₀ bytes out₀ : List ℕ) {items : ℕ} {w : Window} {rows : ℕ} {slots : List Question} {gauges : List Gauge} {used : ℕ} {bus : List ℕ} {i at : ℕ} {out : List ℕ}
-    → Stands (logIn from bus₀) bytes out₀ (from .at) items w rows slots gauges used bus i at out → {go : Bool} → go ≡ (comes (w .size) bytes i && hasRoom (length out) at) → go ≡ false
+    → Stands (logIn from bus₀) bytes out₀ (from .at) items w rows slots gauges used bus i at out → {go : Bool} → go ≡ (comes (w .counts .size) bytes i && hasRoom (length out) at) → go ≡ false
     → {r : Standing} → r ≡ record { items = items; board = record { window = w; slots = slots }; taken = i; at = at } → Runs from bus₀ bytes out₀ r bus out
 stands-runs from bus₀ bytes out₀ {w = w} {bus = bus} {i = i} {at = at} l e-go ends e =
-    let no = ap (λ (n : ℕ). comes (w .size) bytes i && hasRoom n at) (sym (l .same)) ∙ sym e-go ∙ ends in
+    let no = ap (λ (n : ℕ). comes (w .counts .size) bytes i && hasRoom n at) (sym (l .same)) ∙ sym e-go ∙ ends in
     let is = went-all (logIn from bus₀) bytes out₀ (from .at) (l .went) no in
     let told = sym (ap (λ (d : Did). d .text) is) in
     record {

@@ -6,6 +6,7 @@ use lib.ListN.{length, getD}
 use lib.Dec.{leb, ltb, eqb}
 use Rattle.wire.specs.Bytes.{number, part}
 use Rattle.window.specs.Rows.{sized}
+use Rattle.slot.specs.Gauges.{slotCount}
 
 -- The length that the head of the item at a place says.
 abbrev pub sizeAt : List ℕ → ℕ → ℕ
@@ -17,7 +18,7 @@ itemComes bytes i tag size = leb (i + (3 + size)) (length bytes) && eqb (getD by
 
 -- "17 length 6", "19 length 1" or "20 length 1", for a slot 0 to 31.
 unfoldable pub slotComes : List ℕ → ℕ → Bool
-slotComes bytes i = (itemComes bytes i 20 1 || itemComes bytes i 19 1 || itemComes bytes i 17 6) && ltb (getD bytes (i + 3) 0) 32
+slotComes bytes i = (itemComes bytes i 20 1 || itemComes bytes i 19 1 || itemComes bytes i 17 6) && ltb (getD bytes (i + 3) 0) slotCount
 
 -- There is a window, and a frame or an item for a slot comes: such an item changes one session, one row or one slot.
 unfoldable pub comes : ℕ → List ℕ → ℕ → Bool

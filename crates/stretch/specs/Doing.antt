@@ -9,8 +9,9 @@ use Rattle.wire.specs.Bytes.{part}
 use Rattle.text.specs.Text.{behind}
 use Rattle.journal.specs.declared.Log.{Log}
 use Rattle.journal.specs.Log.{Outcome, itemDone}
+use Rattle.window.specs.declared.Counts.{Counts}
 use Rattle.window.specs.declared.Window.{Window}
-use Rattle.joining.specs.Room.{sessionsIn}
+use Rattle.bus.specs.Room.{sessionsIn}
 use Rattle.stretch.specs.declared.Stretch.{Stretch}
 use Rattle.stretch.specs.declared.Standing.{Standing}
 use Rattle.stretch.specs.Coming.{sizeAt, comes, hasRoom}
@@ -34,7 +35,7 @@ unfoldable pub did : ℕ → (room at : ℕ) → Log → List ℕ → ℕ → Di
 did zero room at log bytes i = record { text = []; log = log; next = i }
 did (suc n) room at log bytes i =
     let done = itemAt log bytes i in
-    cond (comes (log .board .window .size) bytes i && hasRoom room at)
+    cond (comes (log .board .window .counts .size) bytes i && hasRoom room at)
     (after (done .text) (did n room (behind at (done .text)) (done .log) bytes (i + (3 + sizeAt bytes i))))
     (record { text = []; log = log; next = i })
 
@@ -49,9 +50,9 @@ pub record Does (log : Log) (bytes room : List ℕ) (at : ℕ) (r : Stretch) (le
   pub place : r .at ≡ behind at (all (length room) at log bytes .text)
   pub stored : left ≡ sets room at (all (length room) at log bytes .text)
 
--- The window whose rows are these.
-abbrev pub windowOf : Window → (losses shakes numbers : List ℕ) → Window
-windowOf w losses shakes numbers = record { losses = losses; shakes = shakes; numbers = numbers; size = w .size; entered = w .entered; held = w .held }
+-- The window of these counts and rows.
+abbrev pub windowOf : Counts → (losses shakes numbers : List ℕ) → Window
+windowOf c losses shakes numbers = record { losses = losses; shakes = shakes; numbers = numbers; counts = c }
 
 -- The log of which these bytes are the sessions.
 abbrev pub logIn : Standing → List ℕ → Log

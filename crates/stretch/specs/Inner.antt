@@ -7,6 +7,7 @@ use lib.ListN.{getD, set, take}
 use lib.Seq.{sets}
 use lib.Dec.{leb, eqb}
 use Rattle.ranking.specs.Standing.{Held}
+use Rattle.window.specs.declared.Counts.{Counts}
 use Rattle.window.specs.Rows.{placeFor}
 use Rattle.question.specs.declared.Question.{Question}
 use Rattle.slot.specs.Asking.{setIn, emptied}
@@ -14,7 +15,7 @@ use Rattle.slot.specs.Gauges.{upToLast}
 use Rattle.board.specs.Work.{arrival}
 use Rattle.text.specs.Text as text
 use Rattle.text.specs.Text.{rLine, qLine, sLine, behind}
-use Rattle.journal.specs.Log.{weightsIn}
+use Rattle.journal.specs.Log.{ruleIn}
 use Rattle.joining.specs.declared.Answer.{Answer}
 use Rattle.joining.specs.declared.Answer.the-variants.{Refused, Kept, Complete}
 use Rattle.stretch.specs.declared.Brought.{Brought}
@@ -30,8 +31,8 @@ withRow rows row = cond (leb rows row) (row + 1) rows
 -- A report is stored in its row, and so many rows are in use then.
 pub record Stored (losses₀ shakes₀ numbers₀ : List ℕ) (rows : ℕ) (b : Brought) (n : ℕ) (losses₁ shakes₁ numbers₁ : List ℕ) : Type 0 where
   pub used : n ≡ withRow rows (b .row)
-  pub losses : losses₁ ≡ set losses₀ (b .row) (b .loss)
-  pub shakes : shakes₁ ≡ set shakes₀ (b .row) (b .shake)
+  pub losses : losses₁ ≡ set losses₀ (b .row) (b .values .loss)
+  pub shakes : shakes₁ ≡ set shakes₀ (b .row) (b .values .shake)
   pub numbers : numbers₁ ≡ set numbers₀ (b .row) (b .number)
 
 -- What showing a slot prints that has that question in it.
@@ -52,7 +53,7 @@ unfoldable pub served : (tag item : ℕ) → List ℕ → Question → List Held
 served tag item v q reports =
     cond (eqb tag 20) (record { text = shownText item (getD v 0 0) q; question = q })
     (cond (eqb tag 19) (record { text = cond (eqb (q .k) 0) (rLine item 17) []; question = emptied q })
-    (let seated = setIn q (getD v 1 0) (weightsIn v) reports in
+    (let seated = setIn q (getD v 1 0) (ruleIn v) reports in
     record { text = seatedText item (getD v 0 0) (seated .refusal) (seated .steps); question = seated .question }))
 
 -- Its text is stored from `at` on, and this is what the slot holds then.
@@ -62,10 +63,10 @@ pub record Serves (done : Served) (room : List ℕ) (at : ℕ) (q : Question) (n
   pub stored : left ≡ sets room at (done .text)
 
 -- What a frame's answer brings to a window: the line of a refusal, or a report that enters.
-abbrev pub brought : Answer → (size entered held : ℕ) → Brought
-brought (Refused n) size entered held = record { refused = true; code = n; number = 0; gone = 0; loss = 0; shake = 0; row = 0; held = 0 }
-brought Kept size entered held = record { refused = false; code = 0; number = 0; gone = 0; loss = 0; shake = 0; row = 0; held = 0 }
-brought (Complete r) size entered held =
-    let a = arrival size entered held (r .loss) (r .shake) in
-    let p = placeFor size entered held in
-    record { refused = not (eqb (a .refusal) 0); code = a .refusal; number = a .number; gone = a .oldest; loss = r .loss; shake = r .shake; row = p .row; held = p .held }
+abbrev pub brought : Answer → Counts → Brought
+brought (Refused n) c = record { refused = true; code = n; number = 0; gone = 0; values = record { loss = 0; shake = 0 }; row = 0; held = 0 }
+brought Kept c = record { refused = false; code = 0; number = 0; gone = 0; values = record { loss = 0; shake = 0 }; row = 0; held = 0 }
+brought (Complete r) c =
+    let a = arrival c (r .values) in
+    let p = placeFor c in
+    record { refused = not (eqb (a .refusal) 0); code = a .refusal; number = a .number; gone = a .oldest; values = r .values; row = p .row; held = p .held }

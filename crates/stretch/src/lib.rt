@@ -3,14 +3,15 @@
 ghost use mathlib.Core.Path.{_≡_};
 ghost use mathlib.Core.Bool.{true, cond, _&&_};
 ghost use mathlib.Core.List.{[]};
-ghost use Prim.Native.Nat.{_+_, _%_, _≤_, _<_, min};
+ghost use Prim.Native.Nat.{_+_, _≤_, _<_, min};
 ghost use lib.ListN.{length};
 ghost use lib.Seq.{sets};
 ghost use Rattle.wire.specs.Bytes.{part};
 ghost use Rattle.text.specs.Text.{behind, rLine};
-ghost use Rattle.joining.specs.Room.{sessionsIn, roomOf};
+ghost use Rattle.bus.specs.Room.{roomBytes, sessionsIn, roomOf};
 ghost use Rattle.joining.specs.Run.{sessionsAfter, answerTo};
-ghost use Rattle.window.specs.Rows.{standing};
+ghost use Rattle.values.specs.Range.{low};
+ghost use Rattle.window.specs.Rows.{rowCount, standing};
 ghost use Rattle.question.specs.Lines.{rowsOf};
 ghost use Rattle.slot.specs.Turn.{turn};
 ghost use Rattle.journal.specs.Log.{frameIn};
@@ -19,14 +20,18 @@ ghost use Rattle.stretch.specs.Inner.{rowsUsed, Stored, shownText, seate
 ghost use Rattle.stretch.specs.Doing.{Does, Runs, windowOf};
 use board::Arrival;
 use board::Board;
+use bus::Bus;
+use items::Item;
 use joining::Answer;
-use joining::Bus;
 use journal::Log;
 use question::Question;
 use slot::Gauge;
 use slot::Shown;
 use slot::Turned;
+use values::Values;
+use window::Counts;
 use window::Window;
+use wire::Field;
 
 // The log that the items leave, how many bytes they have, and the place behind their text.
 pub struct Stretch {
@@ -42,8 +47,7 @@ struct Brought {
     code: u8,
     number: u32,
     gone: u32,
-    loss: u16,
-    shake: u16,
+    values: Values,
     row: u16,
     held: u16,
 }
@@ -115,14 +119,15 @@ pub fn has_room(room: usize, at: usize) -> bool
 
 // The same with the sessions in bytes. The window and the slots are locals here and nowhere handed on, so that an item
 // changes them where they stand; beside each slot stands its gauge.
-fn run(from: Standing, bus: &mut [u8; 22098], bytes: &[u8], out: &mut [u8]) -> Standing
-    requires { ⌜ length (now bus) ≡ 22098 ⌝ }
+fn run(from: Standing, bus: &mut [u8; Bus::ROOM], bytes: &[u8], out: &mut [u8]) -> Standing
+    requires { ⌜ length (now bus) ≡ roomBytes ⌝ }
     ensures { λ r. ⌜ Runs from (now (bus .entry)) (now (bytes .entry)) (now (out .entry)) r (now (bus .exit)) (now (out .exit)) ⌝ }
 {
     let mut items = from.items;
     let mut at = from.at;
     let board = from.board;
-    let mut window = board.window;
+    let window = board.window;
+    let mut counts = window.counts;
     let mut losses = window.losses;
     let mut shakes = window.shakes;
     let mut numbers = window.numbers;
@@ -131,10 +136,10 @@ fn run(from: Standing, bus: &mut [u8; 22098], bytes: &[u8], out: &mut [u8]) -> S
     let mut gauges = Gauge::all(slots);
     let mut used = Gauge::in_use(slots);
     let mut i: usize = 0;
-    while goes_on(window.size, bytes, i, out.len(), at) {
+    while goes_on(counts.size, bytes, i, out.len(), at) {
         items = journal::next_item(items);
         let tag = wire::byte(bytes, i);
-        if tag != Log::FRAME {
+        if tag != Item::FRAME {
             let value = value_at(bytes, i);
             let s = wire::byte(value, 0) as usize;
             let held = slots[s];
@@ -144,25 +149,25 @@ fn run(from: Standing, bus: &mut [u8; 22098], bytes: &[u8], out: &mut [u8]) -> S
             gauges[s] = Gauge::of(left);
             used = Gauge::in_use(slots);
             at = slot.at;
-            i += 3 + value.len();
+            i += Field::HEAD + value.len();
             continue;
         }
-        let frame = &bytes[i + 3..i + 15];
-        let brought = hear(bus, frame, window.size, window.entered, window.held);
+        let frame = &bytes[i + Field::HEAD..i + Item::FRAME_BYTES];
+        let brought = hear(bus, frame, counts);
         at = put_refusal(out, at, items, brought.refused, brought.code);
-        i += 15;
+        i += Item::FRAME_BYTES;
         if brought.number == 0 {
             continue;
         }
-        window.entered = brought.number;
-        window.held = brought.held;
+        counts.entered = brought.number;
+        counts.held = brought.held;
         rows = put_row(&mut losses, &mut shakes, &mut numbers, rows, brought);
         let mut slot: usize = 0;
         while slot < used {
             let here = slot;
             slot += 1;
             let gauge = gauges[here];
-            if gauge.quiet(brought.gone, brought.loss, brought.shake) {
+            if gauge.quiet(brought.gone, brought.values) {
                 continue;
             }
             let held = slots[here];
@@ -173,30 +178,31 @@ fn run(from: Standing, bus: &mut [u8; 22098], bytes: &[u8], out: &mut [u8]) -> S
             gauges[here] = Gauge::of(left);
         }
     }
-    ended(items, window, losses, shakes, numbers, slots, i, at)
+    ended(items, counts, losses, shakes, numbers, slots, i, at)
 }
 
-// Where the items end: the window with these rows, and the slots.
+// Where the items end: the window with these counts and rows, and the slots.
 fn ended(
     items: u64,
-    window: Window,
-    losses: [u16; 1024],
-    shakes: [u16; 1024],
-    numbers: [u32; 1024],
-    slots: [Question; 32],
+    counts: Counts,
+    losses: [u16; Window::ROWS],
+    shakes: [u16; Window::ROWS],
+    numbers: [u32; Window::ROWS],
+    slots: [Question; Gauge::SLOTS],
     taken: usize,
     at: usize,
 ) -> Standing
-    ensures { λ r. ⌜ r ≡ record { items = items; board = record { window = windowOf window losses shakes numbers; slots = slots }; taken = taken; at = at } ⌝ }
+    ensures { λ r. ⌜ r ≡ record { items = items; board = record { window = windowOf counts losses shakes numbers; slots = slots }; taken = taken; at = at } ⌝ }
 {
-    let mut left = window;
-    left.losses = losses;
-    left.shakes = shakes;
-    left.numbers = numbers;
     Standing {
         items,
         board: Board {
-            window: left,
+            window: Window {
+                losses,
+                shakes,
+                numbers,
+                counts,
+            },
             slots,
         },
         taken,
@@ -226,24 +232,24 @@ fn comes_at(rows: u16, bytes: &[u8], i: usize) -> bool
     if Window::LARGEST < rows {
         return false;
     }
-    if item_comes(bytes, i, Log::FRAME, 12) {
+    if item_comes(bytes, i, Item::FRAME, Item::FRAME_SIZE) {
         return true;
     }
     slot_comes(bytes, i)
 }
 
 // Whether a whole item of that tag and length stands at a place.
-fn item_comes(bytes: &[u8], i: usize, tag: u8, size: u16) -> bool
+fn item_comes(bytes: &[u8], i: usize, tag: u8, size: usize) -> bool
     requires { ⌜ (i ≤ length (now bytes)) × (size ≤ 12) ⌝ }
     ensures { λ r. ⌜ r ≡ itemComes (now (bytes .entry)) i tag size ⌝ }
 {
-    if bytes.len() - i < 3 + (size as usize) {
+    if bytes.len() - i < Field::HEAD + size {
         return false;
     }
     if wire::byte(bytes, i) != tag {
         return false;
     }
-    wire::read16(bytes, i + 1) == size
+    (wire::read16(bytes, i + 1) as usize) == size
 }
 
 // Whether an item for a slot that there is comes at a place.
@@ -251,16 +257,16 @@ fn slot_comes(bytes: &[u8], i: usize) -> bool
     requires { ⌜ i ≤ length (now bytes) ⌝ }
     ensures { λ r. ⌜ r ≡ slotComes (now (bytes .entry)) i ⌝ }
 {
-    if Board::SLOTS <= wire::byte(bytes, i + 3) {
+    if Board::SLOTS <= wire::byte(bytes, i + Field::HEAD) {
         return false;
     }
-    if item_comes(bytes, i, Log::SHOW, 1) {
+    if item_comes(bytes, i, Item::SHOW, Item::SHOW_SIZE) {
         return true;
     }
-    if item_comes(bytes, i, Log::REMOVE, 1) {
+    if item_comes(bytes, i, Item::REMOVE, Item::REMOVE_SIZE) {
         return true;
     }
-    item_comes(bytes, i, Log::SET, 6)
+    item_comes(bytes, i, Item::SET, Item::SET_SIZE)
 }
 
 // The value of the whole item at a place.
@@ -268,14 +274,14 @@ fn value_at(bytes: &[u8], i: usize) -> &[u8]
     requires { ⌜ i + (3 + sizeAt (now bytes) i) ≤ length (now bytes) ⌝ }
     ensures { λ r. ⌜ now r ≡ part (i + 3) (sizeAt (now (bytes .entry)) i) (now (bytes .entry)) ⌝ }
 {
-    let start = i + 3;
+    let start = i + Field::HEAD;
     let end = start + (wire::read16(bytes, i + 1) as usize);
     &bytes[start..end]
 }
 
 // How many rows there are up to the last one that holds a report.
-fn rows_in<'a>(numbers: &'a [u32; 1024]) -> usize
-    ensures { λ r. ⌜ r ≡ rowsUsed 1024 (now (numbers .entry)) ⌝ }
+fn rows_in<'a>(numbers: &'a [u32; Window::ROWS]) -> usize
+    ensures { λ r. ⌜ r ≡ rowsUsed rowCount (now (numbers .entry)) ⌝ }
 {
     let mut rows = Window::ROWS;
     while 0 < rows {
@@ -290,18 +296,19 @@ fn rows_in<'a>(numbers: &'a [u32; 1024]) -> usize
 
 // Stores a report in its row: how many rows there are then up to the last one that holds a report.
 fn put_row(
-    losses: &mut [u16; 1024],
-    shakes: &mut [u16; 1024],
-    numbers: &mut [u32; 1024],
+    losses: &mut [u16; Window::ROWS],
+    shakes: &mut [u16; Window::ROWS],
+    numbers: &mut [u32; Window::ROWS],
     rows: usize,
     brought: Brought,
 ) -> usize
-    requires { ⌜ brought .row < 1024 ⌝ }
+    requires { ⌜ brought .row < rowCount ⌝ }
     ensures { λ r. ⌜ Stored (now (losses .entry)) (now (shakes .entry)) (now (numbers .entry)) rows brought r (now (losses .exit)) (now (shakes .exit)) (now (numbers .exit)) ⌝ }
 {
     let row = brought.row as usize;
-    losses[row] = brought.loss;
-    shakes[row] = brought.shake;
+    let values = brought.values;
+    losses[row] = values.loss;
+    shakes[row] = values.shake;
     numbers[row] = brought.number;
     if rows <= row { row + 1 } else { rows }
 }
@@ -312,28 +319,28 @@ fn serve<'a>(
     item: u64,
     value: &[u8],
     held: Question,
-    losses: &'a [u16; 1024],
-    shakes: &'a [u16; 1024],
-    numbers: &'a [u32; 1024],
+    losses: &'a [u16; Window::ROWS],
+    shakes: &'a [u16; Window::ROWS],
+    numbers: &'a [u32; Window::ROWS],
     out: &mut [u8],
     at: usize,
 ) -> Slot
-    ensures { λ r. ⌜ Serves (served tag item (now (value .entry)) held (standing (rowsOf (now (losses .entry)) (now (shakes .entry)) (now (numbers .entry))) 1024)) (now (out .entry)) at (r .question) (r .at) (now (out .exit)) ⌝ }
+    ensures { λ r. ⌜ Serves (served tag item (now (value .entry)) held (standing (rowsOf (now (losses .entry)) (now (shakes .entry)) (now (numbers .entry))) rowCount)) (now (out .entry)) at (r .question) (r .at) (now (out .exit)) ⌝ }
 {
-    if tag == Log::SHOW {
+    if tag == Item::SHOW {
         return Slot {
             question: held,
             at: put_shown(out, at, item, wire::byte(value, 0), held),
         };
     }
-    if tag == Log::REMOVE {
+    if tag == Item::REMOVE {
         return Slot {
             question: slot::emptied(held),
             at: put_refusal(out, at, item, held.k == 0, Shown::EMPTY),
         };
     }
-    let weights = journal::weights_in(value);
-    let seated = slot::set_in(held, wire::byte(value, 1), weights, losses, shakes, numbers);
+    let rule = journal::rule_in(value);
+    let seated = slot::set_in(held, wire::byte(value, 1), rule, losses, shakes, numbers);
     let question = seated.question;
     Slot {
         question,
@@ -384,34 +391,34 @@ fn put_refusal(out: &mut [u8], at: usize, item: u64, refused: bool, code: u8) ->
     }
 }
 
-// Hands a frame in its 12 bytes to its sender's session: what that brings to a window of that size, with that many entered and held.
-fn hear(room: &mut [u8; 22098], value: &[u8], size: u16, entered: u32, held: u16) -> Brought
+// Hands a frame in its 12 bytes to its sender's session: what that brings to a window of these counts.
+fn hear(room: &mut [u8; Bus::ROOM], value: &[u8], counts: Counts) -> Brought
     requires { ⌜ length (now value) ≡ 12 ⌝ }
-    ensures { λ r. ⌜ r ≡ brought (answerTo (sessionsIn (now (room .entry))) (frameIn (now (value .entry)))) size entered held ⌝ }
+    ensures { λ r. ⌜ r ≡ brought (answerTo (sessionsIn (now (room .entry))) (frameIn (now (value .entry)))) counts ⌝ }
     ensures { λ _. ⌜ now (room .exit) ≡ roomOf (sessionsAfter (sessionsIn (now (room .entry))) (frameIn (now (value .entry)))) ⌝ }
 {
     let id = wire::read32(value, 0);
-    let answer = Bus::take(room, id, &value[4..12]);
-    brings(answer, size, entered, held)
+    let answer = Bus::take(room, id, &value[Item::DATA..Item::FRAME_SIZE]);
+    brings(answer, counts)
 }
 
-// What an answer brings to a window of that size, with that many entered and held.
-fn brings(answer: Answer, size: u16, entered: u32, held: u16) -> Brought
-    ensures { λ r. ⌜ r ≡ brought answer size entered held ⌝ }
+// What an answer brings to a window of these counts.
+fn brings(answer: Answer, counts: Counts) -> Brought
+    ensures { λ r. ⌜ r ≡ brought answer counts ⌝ }
 {
     match answer {
         Answer::Refused(n) => not_brought(true, n),
         Answer::Kept => not_brought(false, 0),
         Answer::Complete(r) => {
-            let arrival = Arrival::of(size, entered, held, r.loss, r.shake);
-            let place = Window::place(size, entered, held);
+            let values = r.values;
+            let arrival = Arrival::of(counts, values);
+            let place = Window::place(counts);
             Brought {
                 refused: arrival.refusal != 0,
                 code: arrival.refusal,
                 number: arrival.number,
                 gone: arrival.oldest,
-                loss: r.loss,
-                shake: r.shake,
+                values,
                 row: place.row,
                 held: place.held,
             }
@@ -420,15 +427,14 @@ fn brings(answer: Answer, size: u16, entered: u32, held: u16) -> Brought
 }
 
 fn not_brought(refused: bool, code: u8) -> Brought
-    ensures { λ r. ⌜ r ≡ record { refused = refused; code = code; number = 0; gone = 0; loss = 0; shake = 0; row = 0; held = 0 } ⌝ }
+    ensures { λ r. ⌜ r ≡ record { refused = refused; code = code; number = 0; gone = 0; values = record { loss = 0; shake = 0 }; row = 0; held = 0 } ⌝ }
 {
     Brought {
         refused,
         code,
         number: 0,
         gone: 0,
-        loss: 0,
-        shake: 0,
+        values: Values { loss: 0, shake: 0 },
         row: 0,
         held: 0,
     }
@@ -438,18 +444,17 @@ fn not_brought(refused: bool, code: u8) -> Brought
 fn turn<'a>(
     question: Question,
     brought: Brought,
-    losses: &'a [u16; 1024],
-    shakes: &'a [u16; 1024],
-    numbers: &'a [u32; 1024],
+    losses: &'a [u16; Window::ROWS],
+    shakes: &'a [u16; Window::ROWS],
+    numbers: &'a [u32; Window::ROWS],
     rows: usize,
 ) -> Turned
-    ensures { λ r. ⌜ r ≡ turn question (record { number = brought .number; loss = brought .loss % 4096; shake = brought .shake % 4096 }) (brought .gone) (standing (rowsOf (now (losses .entry)) (now (shakes .entry)) (now (numbers .entry))) (min rows 1024)) ⌝ }
+    ensures { λ r. ⌜ r ≡ turn question (record { number = brought .number; values = low (brought .values) }) (brought .gone) (standing (rowsOf (now (losses .entry)) (now (shakes .entry)) (now (numbers .entry))) (min rows rowCount)) ⌝ }
 {
     slot::turn(
         question,
         brought.number,
-        brought.loss,
-        brought.shake,
+        brought.values,
         brought.gone,
         losses,
         shakes,

@@ -42,10 +42,10 @@ returns-2 c = rw (c .before .enum-told .given .1) (c .not-brought2 .ensures)
 
 returns-3 : tie.Need-returns-3
 returns-3 c =
-    let known = c .before .before .before .before .answer2 .given in
+    let known = c .before .before .before .before .before .answer2 .given in
     let r = known .0 .0 in
     rw (known .1)
-    (ap₂ (λ (a : Arrival) (p : Place). record { refused = not (eqb (a .refusal) 0); code = a .refusal; number = a .number; gone = a .oldest; loss = r .loss; shake = r .shake; row = p .row; held = p .held }) (c .before .before .of .ensures) (c .before .place .ensures))
+    (ap₂ (λ (a : Arrival) (p : Place). record { refused = not (eqb (a .refusal) 0); code = a .refusal; number = a .number; gone = a .oldest; values = r .values; row = p .row; held = p .held }) (c .before .before .of .ensures) (c .before .place .ensures))
 
 pub brings-spec : {M : Type 1} → statement M
 brings-spec =

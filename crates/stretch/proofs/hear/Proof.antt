@@ -8,8 +8,9 @@ use Rattle.wire.specs.Bytes.{number, part}
 use Rattle.joining.specs.declared.Answer.{Answer}
 use Rattle.joining.specs.declared.Session.{Session}
 use Rattle.joining.specs.Frame.{Frame}
-use Rattle.joining.specs.Room.{roomOf, sessionsIn}
+use Rattle.bus.specs.Room.{roomOf, sessionsIn}
 use Rattle.joining.specs.Run.{sessionsAfter, answerTo}
+use Rattle.window.specs.declared.Counts.{Counts}
 use Rattle.journal.specs.Log.{frameIn}
 use Rattle.stretch.specs.declared.Brought.{Brought}
 use Rattle.stretch.specs.Inner.{brought}
@@ -17,12 +18,12 @@ use borrow.Author.Needs.{needs}
 use Rattle.stretch.proofs.hear.Statement.{statement}
 use Rattle.stretch.proofs.hear.Tie as tie
 
-heard : (ss : List Session) (v : List ℕ) (size entered held : ℕ) {id : ℕ} {a : Answer} {b : Brought} {left : List ℕ} → id ≡ number (part 0 4 v)
-    → a ≡ answerTo ss (record { identifier = id; data-bytes = part 4 8 v }) → left ≡ roomOf (sessionsAfter ss (record { identifier = id; data-bytes = part 4 8 v })) → b ≡ brought a size entered held
-    → (b ≡ brought (answerTo ss (frameIn v)) size entered held) × (left ≡ roomOf (sessionsAfter ss (frameIn v)))
-heard ss v size entered held e f g h =
+heard : (ss : List Session) (v : List ℕ) (c : Counts) {id : ℕ} {a : Answer} {b : Brought} {left : List ℕ} → id ≡ number (part 0 4 v)
+    → a ≡ answerTo ss (record { identifier = id; data-bytes = part 4 8 v }) → left ≡ roomOf (sessionsAfter ss (record { identifier = id; data-bytes = part 4 8 v })) → b ≡ brought a c
+    → (b ≡ brought (answerTo ss (frameIn v)) c) × (left ≡ roomOf (sessionsAfter ss (frameIn v)))
+heard ss v c e f g h =
     let frame : _≡_ {A = Frame} _ (frameIn v) = λ j. record { identifier = e j; data-bytes = part 4 8 v } in
-    (h ∙ ap (λ (x : Answer). brought x size entered held) (f ∙ ap (answerTo ss) frame), g ∙ ap (λ (x : Frame). roomOf (sessionsAfter ss x)) frame)
+    (h ∙ ap (λ (x : Answer). brought x c) (f ∙ ap (answerTo ss) frame), g ∙ ap (λ (x : Frame). roomOf (sessionsAfter ss x)) frame)
 
 read32-requires : tie.Need-read32-requires
 read32-requires c κs = search needs
@@ -45,7 +46,7 @@ brings-requires c κs = search needs
 returns : tie.Need-returns
 returns c =
     let a = c .before .before .before .before .before .before .args in
-    heard (sessionsIn (now (a .room))) (now (a .value)) (a .size) (a .entered) (a .held) (c .before .before .before .before .read32 .ensures) (c .before .take .ensures .0) (c .before .take .ensures .1) (c .brings .ensures)
+    heard (sessionsIn (now (a .room))) (now (a .value)) (a .counts) (c .before .before .before .before .read32 .ensures) (c .before .take .ensures .0) (c .before .take .ensures .1) (c .brings .ensures)
 
 pub hear-spec : {M : Type 1} → statement M
 hear-spec =

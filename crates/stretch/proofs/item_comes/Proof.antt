@@ -39,6 +39,9 @@ add-read16 c = search needs
 read16-requires : tie.Need-read16-requires
 read16-requires c κs = search needs
 
+cast-result : tie.Need-cast-result
+cast-result c = search needs
+
 returns-3 : tie.Need-returns-3
 unfolding itemComes
 returns-3 c =
@@ -47,4 +50,4 @@ returns-3 c =
 
 pub item-comes-spec : {M : Type 1} → statement M
 item-comes-spec =
-    tie.close (tie.spec sub-if1 add-if1 returns byte-requires returns-2 add-read16 read16-requires returns-3)
+    tie.close (tie.spec sub-if1 add-if1 returns byte-requires returns-2 add-read16 read16-requires cast-result returns-3)

@@ -20,18 +20,18 @@ use Rattle.stretch.proofs.run.Statement.{statement}
 use Rattle.stretch.proofs.run.Tie as tie
 
 abbrev Inv-loop2 : tie.InvT-loop2
-Inv-loop2 bus bytes out₀ items at₀ window losses shakes numbers rows slots₀ gauges₀ used i tag brought slot₀ out at slots gauges slot =
-    Turns brought (windowOf window losses shakes numbers) items rows slots₀ used out₀ at₀ slot slots gauges at out
+Inv-loop2 bus bytes out₀ items at₀ counts losses shakes numbers rows slots₀ gauges₀ used i tag brought slot₀ out at slots gauges slot =
+    Turns brought (windowOf counts losses shakes numbers) items rows slots₀ used out₀ at₀ slot slots gauges at out
 
 abbrev μ-loop2 : tie.MeasureT-loop2
-μ-loop2 bus bytes out₀ items at₀ window losses shakes numbers rows slots₀ gauges₀ used i tag brought slot₀ out at slots gauges slot = used - slot
+μ-loop2 bus bytes out₀ items at₀ counts losses shakes numbers rows slots₀ gauges₀ used i tag brought slot₀ out at slots gauges slot = used - slot
 
 abbrev Inv-loop : tie.InvT-loop
-Inv-loop bus₀ bytes out₀ items₀ at₀ window₀ losses₀ shakes₀ numbers₀ rows₀ slots₀ gauges₀ used₀ i₀ bus out items at window losses shakes numbers rows slots gauges used i =
-    Stands (logOf items₀ (windowOf window₀ losses₀ shakes₀ numbers₀) slots₀ bus₀) bytes out₀ at₀ items (windowOf window losses shakes numbers) rows slots gauges used bus i at out
+Inv-loop bus₀ bytes out₀ items₀ at₀ counts₀ losses₀ shakes₀ numbers₀ rows₀ slots₀ gauges₀ used₀ i₀ bus out items at counts losses shakes numbers rows slots gauges used i =
+    Stands (logOf items₀ (windowOf counts₀ losses₀ shakes₀ numbers₀) slots₀ bus₀) bytes out₀ at₀ items (windowOf counts losses shakes numbers) rows slots gauges used bus i at out
 
 abbrev μ-loop : tie.MeasureT-loop
-μ-loop bus₀ bytes out₀ items₀ at₀ window₀ losses₀ shakes₀ numbers₀ rows₀ slots₀ gauges₀ used₀ i₀ bus out items at window losses shakes numbers rows slots gauges used i = length bytes - i
+μ-loop bus₀ bytes out₀ items₀ at₀ counts₀ losses₀ shakes₀ numbers₀ rows₀ slots₀ gauges₀ used₀ i₀ bus out items at counts losses shakes numbers rows slots gauges used i = length bytes - i
 
 -- The value of a frame, by its ends and by its length.
 twelve : (i : ℕ) (l : List ℕ) → take (i + 15 - (i + 3)) (drop (i + 3) l) ≡ part (i + 3) 12 l
@@ -42,7 +42,7 @@ twelve i l =
 -- An item comes.
 module _ (g : tie.Then1 Inv-loop2 μ-loop2 Inv-loop μ-loop) where
   abbrev args-at : tie.Start Inv-loop2 μ-loop2 Inv-loop μ-loop
-  args-at = (g .before .before .before .before .before .before .before .before .before .before .before .before .before .before .before)
+  args-at = (g .before .before .before .before .before .before .before .before .before .before .before .before .before .before .before .before)
 
   short : length (now (args-at .args .bytes)) < 2 ^ 64
   short = search needs
@@ -92,12 +92,12 @@ in-use-requires c κs = search needs
 
 loop-holds : tie.Need-loop-holds Inv-loop2 μ-loop2 Inv-loop μ-loop
 loop-holds c =
-    let a = c .before .before .before .before .before .before .before .before .before .before .before .before .args in
+    let a = c .before .before .before .before .before .before .before .before .before .before .before .before .before .args in
     record {
       inside = omega arith;
       same = refl;
-      room = c .before .before .before .before .before .before .before .before .before .before .before .before .pre;
-      all-slots = sym (length-map (a .from .board .slots) _) ∙ c .before .before .before .before .before .before .before .before .before .before .before .before .good .0 .1 .1 .1 .0 .1 .1 .1 .0 .1 .0 .1;
+      room = c .before .before .before .before .before .before .before .before .before .before .before .before .before .pre;
+      all-slots = sym (length-map (a .from .board .slots) _) ∙ c .before .before .before .before .before .before .before .before .before .before .before .before .before .good .0 .1 .1 .1 .0 .1 .1 .1 .0 .1 .0 .1;
       went = went-none (logIn (a .from) (now (a .bus))) (now (a .bytes)) (now (a .out)) (a .from .at) (search needs);
       gauged = gauged-of (a .from .board .slots) (c .before .all .ensures) (c .in-use .ensures);
       rowed = rowed-of (a .from .board .window .numbers) (c .before .before .before .rows-in .ensures);
@@ -283,7 +283,7 @@ same-length c = c .before .before .before .loop .inv .same
 
 returns : tie.Need-returns Inv-loop2 μ-loop2 Inv-loop μ-loop
 returns c =
-    let a = c .before .before .before .before .before .before .before .before .before .before .before .before .before .before .before .before .args in
+    let a = c .before .before .before .before .before .before .before .before .before .before .before .before .before .before .before .before .before .args in
     stands-runs (a .from) (now (a .bus)) (now (a .bytes)) (now (a .out)) (c .before .before .before .loop .inv) (c .before .before .goes-on .ensures) (c .before .if1 .left) (c .ended .ensures)
 
 pub run-spec : {M : Type 1} → statement M

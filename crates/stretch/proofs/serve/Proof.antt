@@ -52,8 +52,8 @@ returns-2 c =
     serves (served-remove (a .tag) (a .item) (now (a .value)) (a .held) (standing (rowsOf (now (a .losses)) (now (a .shakes)) (now (a .numbers))) 1024) (c .before .before .before .before .before .before .before .if1 .left) (c .before .before .before .before .before .before .if2 .taken))
     refl (c .before .before .before .before .before .emptied .ensures) (c .before .before .put-refusal .ensures)
 
-weights-in-requires : tie.Need-weights-in-requires
-weights-in-requires c κs = search needs
+rule-in-requires : tie.Need-rule-in-requires
+rule-in-requires c κs = search needs
 
 byte-requires-2 : tie.Need-byte-requires-2
 byte-requires-2 c κs = search needs
@@ -75,9 +75,9 @@ returns-3 c =
     let a = c .before .before .before .before .before .before .before .before .before .before .before .before .before .args in
     let rows = standing (rowsOf (now (a .losses)) (now (a .shakes)) (now (a .numbers))) 1024 in
     let k = c .before .before .before .before .before .before .before .byte2 .ensures in
-    let weights = c .before .before .before .before .before .before .before .before .weights-in .ensures in
+    let rule = c .before .before .before .before .before .before .before .before .rule-in .ensures in
     let set = c .before .before .before .before .before .before .set-in in
-    serves (served-set (a .tag) (a .item) (now (a .value)) (a .held) rows (c .before .before .before .before .before .before .before .before .before .before .if1 .left) (c .before .before .before .before .before .before .before .before .before .if2 .left) (set .ensures ∙ (λ j. setIn (a .held) (k j) (weights j) rows)))
+    serves (served-set (a .tag) (a .item) (now (a .value)) (a .held) rows (c .before .before .before .before .before .before .before .before .before .before .if1 .left) (c .before .before .before .before .before .before .before .before .before .if2 .left) (set .ensures ∙ (λ j. setIn (a .held) (k j) (rule j) rows)))
     (ap (λ (n : ℕ). seatedText (a .item) n (set .result .refusal) (set .result .steps)) (c .before .before .before .byte3 .ensures)) refl (c .before .before .put-seated .ensures)
 
 pub serve-spec : {M : Type 1} → statement M
@@ -92,7 +92,7 @@ serve-spec =
     put-refusal-requires
     same-length-2
     returns-2
-    weights-in-requires
+    rule-in-requires
     byte-requires-2
     set-in-requires
     byte-requires-3

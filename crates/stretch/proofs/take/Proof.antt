@@ -8,7 +8,7 @@ use lib.ListN.{length}
 use lib.Seq.{sets}
 use Rattle.text.specs.Text.{behind}
 use Rattle.joining.specs.declared.Session.{Session}
-use Rattle.joining.specs.Room.{sessionsIn}
+use Rattle.bus.specs.Room.{sessionsIn}
 use Rattle.journal.specs.declared.Log.{Log}
 use Rattle.stretch.specs.declared.Standing.{Standing}
 use Rattle.stretch.specs.Doing.{all, Does, Runs}

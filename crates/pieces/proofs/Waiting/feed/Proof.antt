@@ -10,7 +10,7 @@ use denote.Ref.{now}
 use lib.Dec.{ltb}
 use lib.ListN.{length, getD, take, drop, length-drop}
 use lib.Seq.{length-sets, take-all}
-use Rattle.ranking.proofs.Tests.{and-both}
+use Rattle.laws.proofs.Tests.{and-both}
 use Rattle.text.proofs.Places.{none}
 use Rattle.journal.specs.Log.{itemDone}
 use Rattle.stretch.specs.Coming.{hasRoom}
