@@ -19,7 +19,8 @@ use Rattle.text.proofs.Places.{Put, then, said}
 use Rattle.journal.specs.declared.Log.{Log}
 use Rattle.pieces.specs.declared.Waiting.{Waiting}
 use Rattle.journal.specs.Log.{Outcome, itemDone}
-use Rattle.pieces.specs.Machine.{Came, nothing, withByte, isWhole, sizeIn, valueEnd, valueIn, came, run, ran, hasRoom}
+use Rattle.stretch.specs.Coming.{hasRoom}
+use Rattle.pieces.specs.Machine.{Came, nothing, withByte, isWhole, sizeIn, valueEnd, valueIn, came, run, ran}
 use Rattle.pieces.proofs.Waits.{Holds, holds-more, holds-size}
 use Rattle.pieces.proofs.Feeding.{Ran, step, run-more, run-append, came-whole, came-not}
 

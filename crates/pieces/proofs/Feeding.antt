@@ -17,7 +17,8 @@ use Rattle.text.proofs.Places.{Put, then, said, none}
 use Rattle.journal.specs.declared.Log.{Log}
 use Rattle.pieces.specs.declared.Waiting.{Waiting}
 use Rattle.journal.specs.Log.{itemDone}
-use Rattle.pieces.specs.Machine.{Came, nothing, withByte, isWhole, valueIn, came, run, ran, hasRoom, Feeds}
+use Rattle.stretch.specs.Coming.{hasRoom}
+use Rattle.pieces.specs.Machine.{Came, nothing, withByte, isWhole, valueIn, came, run, ran, Feeds}
 
 -- What came, and what more bytes bring then.
 abbrev pub follow : Came → List ℕ → Came

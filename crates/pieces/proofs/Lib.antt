@@ -2,10 +2,7 @@
 pub mod Feeding
 pub mod Waits
 pub mod Coming
-pub mod InPlace
-pub mod Gauging
-pub mod Rowing
-pub mod Seating
+pub mod Stretches
 pub mod Writing
 pub mod Once
 pub mod Program

@@ -14,7 +14,8 @@ use Rattle.text.proofs.Decimal.{below-or}
 use Rattle.journal.specs.declared.Log.{Log}
 use Rattle.pieces.specs.declared.Waiting.{Waiting}
 use Rattle.pieces.specs.declared.Fed.{Fed}
-use Rattle.pieces.specs.Machine.{Came, ran, hasRoom, Feeds}
+use Rattle.stretch.specs.Coming.{hasRoom}
+use Rattle.pieces.specs.Machine.{Came, ran, Feeds}
 
 module _ {log : Log} {w : Waiting} {piece room : List ℕ} where
   -- No call takes fewer bytes than another.

@@ -13,7 +13,7 @@ use lib.Dec.{ltb, leb, eqb}
 use lib.ListN.{length, getD, take, drop, replicate, length-append, length-replicate, take-append-drop}
 use lib.Seq.{sets, take-append-seam}
 use Rattle.wire.proofs.Numbers.{Bytes}
-use Rattle.laws.proofs.Tests.{clash, either}
+use Rattle.laws.proofs.Tests.{clash}
 use Rattle.text.specs.Text.{behind}
 use Rattle.text.proofs.Decimal.{below-or}
 use Rattle.text.proofs.Lengths.{rLine-longest}
@@ -22,10 +22,12 @@ use Rattle.journal.specs.declared.Log.{Log}
 use Rattle.pieces.specs.declared.Waiting.{Waiting}
 use Rattle.pieces.specs.declared.Fed.{Fed}
 use Rattle.journal.specs.Log.{nextItem, freshLog, logText}
-use Rattle.pieces.specs.Machine.{Came, nothing, withByte, isWhole, came, run, ran, hasRoom, Feeds, endLine}
+use Rattle.stretch.specs.Coming.{hasRoom}
+use Rattle.pieces.specs.Machine.{Came, nothing, withByte, isWhole, came, run, ran, Feeds, endLine}
 use Rattle.journal.specs.Reached.{Reached, fresh, item}
 use Rattle.pieces.specs.Program.{Program, feeds, finishes}
 use Rattle.pieces.proofs.Feeding.{follow, run-append, ran-next}
+use Rattle.laws.proofs.Tests.{either}
 use Rattle.journal.proofs.Reached.{next-small, item-short}
 use Rattle.pieces.proofs.Writing.{writes}
 
@@ -71,7 +73,7 @@ module _ (log : Log) (w : Waiting) (piece room : List ℕ) where
   pub wrote : {r : Fed} {left : List ℕ} → Reached log → length room < 2 ^ 64 → Feeds log w piece room r left → take (r .written) left ≡ ran log w piece (r .taken) .text
   wrote {r} o small f = front-is room (ran log w piece (r .taken) .text) small (room-there (r .taken) o small (f .within) (f .roomy)) (f .place) (f .stored)
 
-  -- With a room of `Waiting::MOST` bytes a call takes at least one byte.
+  -- With a room of `Stretch::MOST` bytes a call takes at least one byte.
   pub goes-on : {r : Fed} {left : List ℕ} → 1 ≤ length piece → 1056 ≤ length room → Feeds log w piece room r left → 1 ≤ r .taken
   unfolding hasRoom behind run
   goes-on {r} some most f =
@@ -133,7 +135,7 @@ one-byte log w b room most =
       },
     )
 
--- For one, a byte at a time with rooms of `Waiting::MOST` bytes.
+-- For one, a byte at a time with rooms of `Stretch::MOST` bytes.
 pub some-program : (bytes : List ℕ) (log : Log) (w : Waiting) → (printed : List ℕ) × Program log w bytes printed
 some-program [] log w =
     let room : List ℕ = replicate 1056 0 in

@@ -15,7 +15,8 @@ use Rattle.wire.proofs.Numbers.{number-two}
 use Rattle.text.proofs.Decimal.{below-or}
 use Rattle.journal.specs.declared.Log.{Log}
 use Rattle.pieces.specs.declared.Waiting.{Waiting}
-use Rattle.journal.specs.Log.{counted, unless, known, itemRefusal, itemDone, refused}
+use Rattle.journal.specs.Log.{counted, unless, itemRefusal, itemDone, refused}
+use Rattle.lines.specs.Numbers.{known}
 use Rattle.pieces.specs.Machine.{nothing, withByte, sizeIn}
 
 pub record Holds (w : Waiting) (p : List ℕ) : Type 0 where

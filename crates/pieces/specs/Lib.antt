@@ -1,4 +1,3 @@
 -- A log that comes in pieces: what the functions of `pieces` are held to.
 pub mod Machine
-pub mod Inner
 pub mod Program

@@ -12,6 +12,7 @@ use Rattle.journal.specs.declared.Log.{Log}
 use Rattle.pieces.specs.declared.Waiting.{Waiting}
 use Rattle.pieces.specs.declared.Fed.{Fed}
 use Rattle.journal.specs.Log.{nextItem, itemDone}
+use Rattle.stretch.specs.Coming.{hasRoom}
 
 -- Nothing has come of the next item.
 abbrev pub nothing : Waiting
@@ -59,10 +60,6 @@ run log w (b ∷ bs) =
     let c = came log w b in
     let r = run (c .log) (c .waiting) bs in
     record { text = c .text ++ r .text; log = r .log; waiting = r .waiting }
-
--- A room of that length has space from `at` on for the most that one item prints: 32 S lines of 33 bytes.
-unfoldable pub hasRoom : ℕ → ℕ → Bool
-hasRoom room at = leb (at + 1056) room
 
 -- What is left of a piece's first n bytes.
 abbrev pub ran : Log → Waiting → List ℕ → ℕ → Came

@@ -1,0 +1,192 @@
+-- A frame, done where the log stands: it changes one session, and a report that enters its row and the slots that have a turn.
+-- Assumes nothing.
+use mathlib.Core.Path.{_≡_, refl, sym, ap, subst, _∙_}
+use mathlib.Core.Bool.{true, false, cond, _||_}
+use mathlib.Core.List.{List, [], _++_, map}
+use Prim.Native.Nat.{ℕ, _+_, _-_, _≤_, _<_}
+use native.Mathlib.Nat.{mod-lt}
+use native.Mathlib.Omega.{arith}
+use borrow.Author.Tests.{eqb-true, ne-eqb, eq-eqb}
+use lib.Dec.{eqb}
+use lib.ListN.{length, set, length-map}
+use lib.Seq.{take-all}
+use Rattle.values.specs.declared.Values.{Values}
+use Rattle.values.specs.Range.{low}
+use Rattle.values.proofs.Facts.{low-same}
+use Rattle.ranking.specs.Standing.{Held}
+use Rattle.laws.proofs.Tests.{Tested, passed, failed, tested, clash, if-so}
+use Rattle.window.specs.declared.Window.{Window}
+use Rattle.window.specs.declared.Place.{Place}
+use Rattle.window.specs.Rows.{sized, standing, added, placeFor}
+use Rattle.window.proofs.Fitness.{size-range, added-taken}
+use Rattle.question.specs.declared.Question.{Question}
+use Rattle.question.specs.Lines.{inRows, rowsOf}
+use Rattle.slot.specs.declared.Turned.{Turned}
+use Rattle.slot.specs.Turn.{takes, lists}
+use Rattle.slot.specs.Turn as one
+use Rattle.slot.specs.Gauges.{isIdle}
+use Rattle.slot.proofs.Filling.{filled-all}
+use Rattle.slot.proofs.Gauges.{idle-untouched}
+use Rattle.slot.proofs.Turns.{turn-still, rows-alone}
+use Rattle.board.specs.Work.{outgoing, turned, enterRefusal, enterWork, arrival}
+use Rattle.board.proofs.Refusals.{enterable}
+use Rattle.joining.specs.Run.{sessionsAfter, answerTo}
+use Rattle.joining.specs.declared.Answer.{Answer}
+use Rattle.joining.specs.declared.Answer.the-variants.{Refused, Kept, Complete}
+use Rattle.joining.specs.declared.Session.{Session}
+use Rattle.text.specs.Text.{rLine}
+use Rattle.journal.specs.declared.Log.{Log}
+use Rattle.journal.specs.Log.{nextItem, counted, withBoard, refused, unless, sLines, enterItem, answered, frameIn, frameItem, itemDone}
+use Rattle.journal.proofs.Items as items
+use Rattle.stretch.specs.declared.Brought.{Brought}
+use Rattle.stretch.specs.Inner.{brought}
+use Rattle.stretch.proofs.Serving.{some-rows}
+use Rattle.stretch.proofs.Turns.{Turning, told}
+
+-- ---- a question's turn
+
+abbrev pub report : Brought → Held
+report b = record { number = b .number; values = low (b .values) }
+
+-- What its entry leaves of a question.
+abbrev pub turn : Brought → Window → Question → Turned
+turn b w q = one.turn q (report b) (b .gone) (inRows w)
+
+module _ (b : Brought) (w : Window) (q : Question) where
+  -- A turn over the rows in use is one over all rows.
+  pub turned-is : (rows : ℕ) → standing (rowsOf (w .losses) (w .shakes) (w .numbers)) rows ≡ standing (rowsOf (w .losses) (w .shakes) (w .numbers)) 1024
+      → one.turn q (report b) (b .gone) (standing (rowsOf (w .losses) (w .shakes) (w .numbers)) rows) ≡ turn b w q
+  unfolding inRows
+  turned-is rows all = ap (one.turn q (report b) (b .gone)) (all ∙ rows-alone w 1024)
+
+  -- A question that takes no report and loses none stays.
+  pub turn-stays : takes q (low (b .values)) || lists q (b .gone) ≡ false → record { searched = false; steps = 0; question = q } ≡ turn b w q
+  turn-stays e = sym (turn-still q (report b) (b .gone) (inRows w) e)
+
+  -- A slot with no k and no lines takes no report, and lists none.
+  pub turn-idle : isIdle q ≡ true → record { searched = false; steps = 0; question = q } ≡ turn b w q
+  turn-idle e = turn-stays (idle-untouched q (b .gone) (low (b .values)) e)
+
+-- ---- what a frame's answer brings
+
+module _ (log : Log) where
+  abbrev w : Window
+  w = log .board .window
+
+  abbrev gives : Answer → Brought
+  gives a = brought a (w .counts)
+
+  enter-refused : (v : Values) → (enterRefusal (w .counts) v ≡ 0 → ⊥) → enterItem log v ≡ refused log (enterRefusal (w .counts) v)
+  unfolding enterItem enterWork unless
+  enter-refused v e =
+      let t = ne-eqb (enterRefusal (w .counts) v) 0 e in
+      rw t (rw t)
+
+  -- No report enters: the line of a refusal, or nothing.
+  pub brought-none : (a : Answer) → gives a .number ≡ 0 → answered log a ≡ record { text = cond (gives a .refused) (rLine (log .items) (gives a .code)) []; log = log }
+  unfolding arrival
+  brought-none (Refused n) e = refl
+  brought-none Kept e = refl
+  brought-none (Complete r) e = go (tested (eqb (enterRefusal (w .counts) (r .values)) 0)) e
+    where
+      go : Tested (eqb (enterRefusal (w .counts) (r .values)) 0) → gives (Complete r) .number ≡ 0
+          → answered log (Complete r) ≡ record { text = cond (gives (Complete r) .refused) (rLine (log .items) (gives (Complete r) .code)) []; log = log }
+      go (passed t) z = absurd (omega (arith, rw t at z))
+      go (failed t) z = rw t (rw t (enter-refused (r .values) (λ e. clash (eq-eqb (enterRefusal (w .counts) (r .values)) 0 e) t)))
+
+  -- A report enters.
+  pub record Enters (a : Answer) : Type 0 where
+    pub silent : gives a .refused ≡ false
+    pub next : gives a .number ≡ w .counts .entered + 1
+    pub oldest : gives a .gone ≡ outgoing w
+    pub place : record { row = gives a .row; held = gives a .held } ≡ placeFor (w .counts)
+    pub free : enterRefusal (w .counts) (gives a .values) ≡ 0
+    pub is : answered log a ≡ enterItem log (gives a .values)
+
+  pub brought-some : (a : Answer) → (gives a .number ≡ 0 → ⊥) → Enters a
+  unfolding arrival
+  brought-some (Refused n) e = absurd (e refl)
+  brought-some Kept e = absurd (e refl)
+  brought-some (Complete r) e = go (tested (eqb (enterRefusal (w .counts) (r .values)) 0)) e
+    where
+      go : Tested (eqb (enterRefusal (w .counts) (r .values)) 0) → (gives (Complete r) .number ≡ 0 → ⊥) → Enters (Complete r)
+      go (passed t) z = record { silent = rw t; next = rw t; oldest = rw t; place = refl; free = eqb-true (enterRefusal (w .counts) (r .values)) 0 t; is = refl }
+      go (failed t) z = absurd (z (rw t))
+
+  pub enter-so : (v : Values) → enterRefusal (w .counts) v ≡ 0
+      → enterItem log v ≡ record { text = sLines (log .items) 0 (map (λ q. turned w v q .searched) (log .board .slots)) (map (λ q. turned w v q .steps) (log .board .slots)); log = withBoard log (record { window = added w v; slots = map (λ q. turned w v q .question) (log .board .slots) }) }
+  unfolding enterItem enterWork unless
+  enter-so v e = rw (eq-eqb (enterRefusal (w .counts) v) 0 e)
+
+  -- When all slots have had their turn, the report has entered.
+  entered-done : (a : Answer) → (gives a .number ≡ 0 → ⊥) → {window : Window} {slots : List Question} {n at₀ at : ℕ} {out₀ out : List ℕ} → window ≡ added w (gives a .values)
+      → length (log .board .slots) ≤ n → Turning (turn (gives a) window) (log .items) (log .board .slots) out₀ at₀ n slots at out
+      → answered log a ≡ record { text = cond (gives a .refused) (rLine (log .items) (gives a .code)) [] ++ told (turn (gives a) window) (log .items) (log .board .slots) out₀ at₀ n; log = withBoard log (record { window = window; slots = slots }) }
+  entered-done a some {window} {slots} {n} {at₀} {at} {out₀} {out} grown all t =
+      let old = log .board .slots in
+      let b = gives a in
+      let e = brought-some a some in
+      let may = enterable (w .counts) (b .values) (e .free) in
+      let same = low-same (b .values) (may .permitted) in
+      let f = turn b window in
+      let slots-are = filled-all (λ q. f q .question) old n slots all (t .first) ∙ (λ i. map (λ q. one.turn q (record { number = e .next i; values = same i }) (e .oldest i) (inRows (grown i)) .question) old) in
+      let again-are = take-all n (map (λ q. f q .searched) old) (omega (arith, length-map old (λ q. f q .searched))) ∙ (λ i. map (λ q. one.turn q (record { number = e .next i; values = same i }) (e .oldest i) (inRows (grown i)) .searched) old) in
+      let steps-are = take-all n (map (λ q. f q .steps) old) (omega (arith, length-map old (λ q. f q .steps))) ∙ (λ i. map (λ q. one.turn q (record { number = e .next i; values = same i }) (e .oldest i) (inRows (grown i)) .steps) old) in
+      e .is ∙ enter-so (b .values) (e .free)
+      ∙ sym (λ i. record { text = cond (e .silent i) (rLine (log .items) (b .code)) [] ++ sLines (log .items) 0 (again-are i) (steps-are i); log = withBoard log (record { window = grown i; slots = slots-are i }) })
+
+-- ---- a whole frame
+
+row-fits : (w : Window) → sized (w .counts .size) ≡ true → {p : Place} → p ≡ placeFor (w .counts) → p .row < 1024
+unfolding placeFor
+row-fits w window {p} q =
+    let range = size-range (w .counts .size) window in
+    let row = ap (λ (r : Place). r .row) (q ∙ if-so _ _ window) in
+    omega (arith, row, mod-lt (w .counts .entered + 1 - 1) (range .0), range .1)
+
+module _ (log : Log) (window : sized (log .board .window .counts .size) ≡ true) (v : List ℕ) {item : ℕ} {left : List Session} {b : Brought} (long : length v ≡ 12) (e-item : item ≡ nextItem (log .items))
+    (e-left : left ≡ sessionsAfter (log .sessions) (frameIn v)) (e : b ≡ gives log (answerTo (log .sessions) (frameIn v))) where
+  abbrev after : Log
+  after = record { items = item; board = log .board; sessions = left }
+
+  abbrev answer : Answer
+  answer = answerTo (log .sessions) (frameIn v)
+
+  frame-done : itemDone log 18 v ≡ answered after answer
+  unfolding frameItem
+  frame-done = items.frame-done log (some-rows log window) v long ∙ sym (λ j. answered (record { items = e-item j; board = log .board; sessions = e-left j }) answer)
+
+  pub frame-none : b .number ≡ 0 → itemDone log 18 v ≡ record { text = cond (b .refused) (rLine item (b .code)) []; log = after }
+  frame-none z =
+      frame-done ∙ brought-none after answer (sym (ap (λ (g : Brought). g .number) e) ∙ z)
+      ∙ sym (ap (λ (g : Brought). record { text = cond (g .refused) (rLine item (g .code)) []; log = after }) e)
+
+  module _ (some : b .number ≡ 0 → ⊥) where
+    enters : Enters log answer
+    enters = brought-some log answer (λ z. some (ap (λ (h : Brought). h .number) e ∙ z))
+
+    placed : record { row = b .row; held = b .held } ≡ placeFor (log .board .window .counts)
+    placed = ap (λ (g : Brought). record { row = g .row; held = g .held }) e ∙ enters .place
+
+    pub row-in : b .row < 1024
+    row-in = row-fits (log .board .window) window placed
+
+    -- The report's row takes it.
+    pub row-takes : record { losses = set (log .board .window .losses) (b .row) (b .values .loss); shakes = set (log .board .window .shakes) (b .row) (b .values .shake); numbers = set (log .board .window .numbers) (b .row) (b .number); counts = record { size = log .board .window .counts .size; entered = b .number; held = b .held } } ≡ added (log .board .window) (b .values)
+    unfolding placeFor
+    row-takes =
+        let w = log .board .window in
+        let may = enterable (w .counts) (gives log answer .values) (enters .free) in
+        let number = ap (λ (h : Brought). h .number) e ∙ enters .next in
+        let place = placed ∙ if-so _ _ window in
+        (λ j. record { losses = set (w .losses) (place j .row) (b .values .loss); shakes = set (w .shakes) (place j .row) (b .values .shake); numbers = set (w .numbers) (place j .row) (number j); counts = record { size = w .counts .size; entered = number j; held = place j .held } })
+        ∙ sym (added-taken w (b .values) window (may .room))
+
+    pub frame-enters : {new : Window} {slots : List Question} {n at₀ at : ℕ} {out₀ out : List ℕ} → new ≡ added (log .board .window) (b .values)
+        → length (log .board .slots) ≤ n → Turning (turn b new) item (log .board .slots) out₀ at₀ n slots at out
+        → itemDone log 18 v ≡ record { text = cond (b .refused) (rLine item (b .code)) [] ++ told (turn b new) item (log .board .slots) out₀ at₀ n; log = record { items = item; board = record { window = new; slots = slots }; sessions = left } }
+    frame-enters {new} {slots} {n} {at₀} {at} {out₀} {out} grown all t =
+        frame-done
+        ∙ subst (λ (g : Brought). (g .number ≡ 0 → ⊥) → new ≡ added (log .board .window) (g .values) → Turning (turn g new) item (log .board .slots) out₀ at₀ n slots at out
+        → answered after answer ≡ record { text = cond (g .refused) (rLine item (g .code)) [] ++ told (turn g new) item (log .board .slots) out₀ at₀ n; log = record { items = item; board = record { window = new; slots = slots }; sessions = left } })
+        (sym e) (λ m g u. entered-done after answer m g all u) some grown t

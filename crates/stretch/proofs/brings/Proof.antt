@@ -1,0 +1,63 @@
+-- By the three answers.
+-- Assumes nothing.
+use mathlib.Core.Path.{ap₂}
+use mathlib.Core.Bool.{not}
+use lib.Dec.{eqb}
+use Rattle.board.specs.declared.Arrival.{Arrival}
+use Rattle.window.specs.declared.Place.{Place}
+use borrow.Author.Needs.{needs}
+use Rattle.stretch.proofs.brings.Statement.{statement}
+use Rattle.stretch.proofs.brings.Tie as tie
+use Rattle.stretch.proofs.brings.Reads as reads
+use Rattle.stretch.proofs.brings.Lts as lts
+use Rattle.board.proofs.Arrival.of.Reads as of-reads
+use Rattle.stretch.proofs.not_brought.Reads as not-brought-reads
+
+enum-known-answer : tie.Need-enum-known-answer
+enum-known-answer c = search needs
+
+not-brought-requires : tie.Need-not-brought-requires
+not-brought-requires c κs = search needs
+
+enum-told : tie.Need-enum-told
+enum-told c = search needs
+
+not-brought-requires-2 : tie.Need-not-brought-requires-2
+not-brought-requires-2 c κs = search needs
+
+enum-known-answer-2 : tie.Need-enum-known-answer-2
+enum-known-answer-2 c = search needs
+
+of-requires : tie.Need-of-requires
+of-requires c κs = search needs
+
+place-requires : tie.Need-place-requires
+place-requires c κs = search needs
+
+returns : tie.Need-returns
+returns c = rw (c .before .before .answer .given .1) (c .not-brought .ensures)
+
+returns-2 : tie.Need-returns-2
+returns-2 c = rw (c .before .enum-told .given .1) (c .not-brought2 .ensures)
+
+returns-3 : tie.Need-returns-3
+returns-3 c =
+    let known = c .before .before .before .before .before .answer2 .given in
+    let r = known .0 .0 in
+    rw (known .1)
+    (ap₂ (λ (a : Arrival) (p : Place). record { refused = not (eqb (a .refusal) 0); code = a .refusal; number = a .number; gone = a .oldest; values = r .values; row = p .row; held = p .held }) (c .before .before .of .ensures) (c .before .place .ensures))
+
+pub brings-spec : {M : Type 1} → statement M
+brings-spec =
+    tie.close
+    (tie.spec
+    enum-known-answer
+    not-brought-requires
+    enum-told
+    not-brought-requires-2
+    enum-known-answer-2
+    of-requires
+    place-requires
+    returns
+    returns-2
+    returns-3)

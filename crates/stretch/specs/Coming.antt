@@ -1,0 +1,29 @@
+-- What comes next in a log's bytes, and whether it can be done where the log stands.
+use Prim.Native.Nat.{ℕ, _+_}
+use mathlib.Core.Bool.{Bool, _&&_, _||_}
+use mathlib.Core.List.{List}
+use lib.ListN.{length, getD}
+use lib.Dec.{leb, ltb, eqb}
+use Rattle.wire.specs.Bytes.{number, part}
+use Rattle.window.specs.Rows.{sized}
+use Rattle.slot.specs.Gauges.{slotCount}
+
+-- The length that the head of the item at a place says.
+abbrev pub sizeAt : List ℕ → ℕ → ℕ
+sizeAt bytes i = number (part (i + 1) 2 bytes)
+
+-- A whole item of that tag and length stands at a place.
+unfoldable pub itemComes : List ℕ → (i tag size : ℕ) → Bool
+itemComes bytes i tag size = leb (i + (3 + size)) (length bytes) && eqb (getD bytes i 0) tag && eqb (sizeAt bytes i) size
+
+-- "17 length 6", "19 length 1" or "20 length 1", for a slot 0 to 31.
+unfoldable pub slotComes : List ℕ → ℕ → Bool
+slotComes bytes i = (itemComes bytes i 20 1 || itemComes bytes i 19 1 || itemComes bytes i 17 6) && ltb (getD bytes (i + 3) 0) slotCount
+
+-- There is a window, and a frame or an item for a slot comes: such an item changes one session, one row or one slot.
+unfoldable pub comes : ℕ → List ℕ → ℕ → Bool
+comes rows bytes i = sized rows && (itemComes bytes i 18 12 || slotComes bytes i)
+
+-- A room of that length has space from `at` on for the most that one item prints: 32 S lines of 33 bytes.
+unfoldable pub hasRoom : ℕ → ℕ → Bool
+hasRoom room at = leb (at + 1056) room

@@ -1,0 +1,72 @@
+-- What the inner functions answer.
+use Prim.Native.Nat.{ℕ, _+_}
+use mathlib.Core.Bool.{Bool, true, false, not, cond}
+use mathlib.Core.Path.{_≡_}
+use mathlib.Core.List.{List, []}
+use lib.ListN.{getD, set, take}
+use lib.Seq.{sets}
+use lib.Dec.{leb, eqb}
+use Rattle.ranking.specs.Standing.{Held}
+use Rattle.window.specs.declared.Counts.{Counts}
+use Rattle.window.specs.Rows.{placeFor}
+use Rattle.question.specs.declared.Question.{Question}
+use Rattle.slot.specs.Asking.{setIn, emptied}
+use Rattle.slot.specs.Gauges.{upToLast}
+use Rattle.board.specs.Work.{arrival}
+use Rattle.text.specs.Text as text
+use Rattle.text.specs.Text.{rLine, qLine, sLine, behind}
+use Rattle.journal.specs.Log.{ruleIn}
+use Rattle.joining.specs.declared.Answer.{Answer}
+use Rattle.joining.specs.declared.Answer.the-variants.{Refused, Kept, Complete}
+use Rattle.stretch.specs.declared.Brought.{Brought}
+
+-- How many of the first n rows there are up to the last one that holds a report.
+abbrev pub rowsUsed : ℕ → List ℕ → ℕ
+rowsUsed n numbers = upToLast (λ k. eqb k 0) 0 n numbers
+
+-- The rows, and that one.
+abbrev pub withRow : (rows row : ℕ) → ℕ
+withRow rows row = cond (leb rows row) (row + 1) rows
+
+-- A report is stored in its row, and so many rows are in use then.
+pub record Stored (losses₀ shakes₀ numbers₀ : List ℕ) (rows : ℕ) (b : Brought) (n : ℕ) (losses₁ shakes₁ numbers₁ : List ℕ) : Type 0 where
+  pub used : n ≡ withRow rows (b .row)
+  pub losses : losses₁ ≡ set losses₀ (b .row) (b .values .loss)
+  pub shakes : shakes₁ ≡ set shakes₀ (b .row) (b .values .shake)
+  pub numbers : numbers₁ ≡ set numbers₀ (b .row) (b .number)
+
+-- What showing a slot prints that has that question in it.
+unfoldable pub shownText : (item slot : ℕ) → Question → List ℕ
+shownText item slot q = cond (eqb (q .k) 0) (rLine item 17) (qLine slot (take (q .len) (text.listed (q .numbers) (q .scores))))
+
+-- What setting a question prints: "`S item slot steps` for each search", or the refusal.
+unfoldable pub seatedText : (item slot refusal steps : ℕ) → List ℕ
+seatedText item slot refusal steps = cond (eqb refusal 0) (sLine item slot steps) (rLine item refusal)
+
+-- What an item for one slot prints, and what the slot holds then.
+pub record Served : Type 0 where
+  pub text : List ℕ
+  pub question : Question
+
+-- "20 length 1, show slot"; "19 length 1, remove slot"; "17 length 6, slot, k, a, b", over these reports.
+unfoldable pub served : (tag item : ℕ) → List ℕ → Question → List Held → Served
+served tag item v q reports =
+    cond (eqb tag 20) (record { text = shownText item (getD v 0 0) q; question = q })
+    (cond (eqb tag 19) (record { text = cond (eqb (q .k) 0) (rLine item 17) []; question = emptied q })
+    (let seated = setIn q (getD v 1 0) (ruleIn v) reports in
+    record { text = seatedText item (getD v 0 0) (seated .refusal) (seated .steps); question = seated .question }))
+
+-- Its text is stored from `at` on, and this is what the slot holds then.
+pub record Serves (done : Served) (room : List ℕ) (at : ℕ) (q : Question) (next : ℕ) (left : List ℕ) : Type 0 where
+  pub holds : q ≡ done .question
+  pub place : next ≡ behind at (done .text)
+  pub stored : left ≡ sets room at (done .text)
+
+-- What a frame's answer brings to a window: the line of a refusal, or a report that enters.
+abbrev pub brought : Answer → Counts → Brought
+brought (Refused n) c = record { refused = true; code = n; number = 0; gone = 0; values = record { loss = 0; shake = 0 }; row = 0; held = 0 }
+brought Kept c = record { refused = false; code = 0; number = 0; gone = 0; values = record { loss = 0; shake = 0 }; row = 0; held = 0 }
+brought (Complete r) c =
+    let a = arrival c (r .values) in
+    let p = placeFor c in
+    record { refused = not (eqb (a .refusal) 0); code = a .refusal; number = a .number; gone = a .oldest; values = r .values; row = p .row; held = p .held }

@@ -1,0 +1,464 @@
+// A stretch of a log's whole items, done where the log stands: frames, and items for a slot that there is. The window, the slots and
+// the sessions are locals of one function and nowhere handed on, so that an item changes them in place.
+ghost use mathlib.Core.Path.{_≡_};
+ghost use mathlib.Core.Bool.{true, cond, _&&_};
+ghost use mathlib.Core.List.{[]};
+ghost use Prim.Native.Nat.{_+_, _≤_, _<_, min};
+ghost use lib.ListN.{length};
+ghost use lib.Seq.{sets};
+ghost use Rattle.wire.specs.Bytes.{part};
+ghost use Rattle.text.specs.Text.{behind, rLine};
+ghost use Rattle.bus.specs.Room.{roomBytes, sessionsIn, roomOf};
+ghost use Rattle.joining.specs.Run.{sessionsAfter, answerTo};
+ghost use Rattle.values.specs.Range.{low};
+ghost use Rattle.window.specs.Rows.{rowCount, standing};
+ghost use Rattle.question.specs.Lines.{rowsOf};
+ghost use Rattle.slot.specs.Turn.{turn};
+ghost use Rattle.journal.specs.Log.{frameIn};
+ghost use Rattle.stretch.specs.Coming.{sizeAt, itemComes, slotComes, comes, hasRoom};
+ghost use Rattle.stretch.specs.Inner.{rowsUsed, Stored, shownText, seatedText, served, Serves, brought};
+ghost use Rattle.stretch.specs.Doing.{Does, Runs, windowOf};
+use board::Arrival;
+use board::Board;
+use bus::Bus;
+use items::Item;
+use joining::Answer;
+use journal::Log;
+use question::Question;
+use slot::Gauge;
+use slot::Shown;
+use slot::Turned;
+use values::Values;
+use window::Counts;
+use window::Window;
+use wire::Field;
+
+// The log that the items leave, how many bytes they have, and the place behind their text.
+pub struct Stretch {
+    pub log: Log,
+    pub taken: usize,
+    pub at: usize,
+}
+
+// What a frame brought: the line of a refusal, or a report with its number, the number of the report that is gone then, 0 for
+// none, the report's row, and how many are held with it.
+struct Brought {
+    refused: bool,
+    code: u8,
+    number: u32,
+    gone: u32,
+    values: Values,
+    row: u16,
+    held: u16,
+}
+
+// Where `run` starts and ends: the items' count and the board, how many bytes were taken, and the place behind the text.
+struct Standing {
+    items: u64,
+    board: Board,
+    taken: usize,
+    at: usize,
+}
+
+// What a slot holds behind an item for it, and the place behind what that printed.
+struct Slot {
+    question: Question,
+    at: usize,
+}
+
+impl Stretch {
+    // The most that one item prints: a line for the search of each slot.
+    pub const MOST: usize = 1056;
+}
+
+// Does the items that the bytes start with, as long as the next is done in place and `out` has room for whatever it prints,
+// and stores their text from `at` on. The sessions stand in bytes meanwhile.
+pub fn take(log: Log, bytes: &[u8], out: &mut [u8], at: usize) -> Stretch
+    ensures { λ r. ⌜ Does log (now (bytes .entry)) (now (out .entry)) at r (now (out .exit)) ⌝ }
+{
+    let board = log.board;
+    let sessions = log.sessions;
+    let mut bus = [0u8; Bus::ROOM];
+    Bus::fill(&mut bus, sessions);
+    let from = Standing {
+        items: log.items,
+        board,
+        taken: 0,
+        at,
+    };
+    let run = run(from, &mut bus, bytes, out);
+    let left = run.board;
+    let standing = Bus::read(&bus);
+    Stretch {
+        log: Log {
+            items: run.items,
+            board: left,
+            sessions: standing,
+        },
+        taken: run.taken,
+        at: run.at,
+    }
+}
+
+// Whether the bytes start with an item that is done in place, where the window has that size.
+pub fn comes(rows: u16, bytes: &[u8]) -> bool
+    ensures { λ r. ⌜ r ≡ comes rows (now (bytes .entry)) 0 ⌝ }
+{
+    comes_at(rows, bytes, 0)
+}
+
+// Whether a room has space for what one item prints, from `at` on.
+pub fn has_room(room: usize, at: usize) -> bool
+    ensures { λ r. ⌜ r ≡ hasRoom room at ⌝ }
+{
+    if room < Stretch::MOST {
+        return false;
+    }
+    at <= room - Stretch::MOST
+}
+
+// The same with the sessions in bytes. The window and the slots are locals here and nowhere handed on, so that an item
+// changes them where they stand; beside each slot stands its gauge.
+fn run(from: Standing, bus: &mut [u8; Bus::ROOM], bytes: &[u8], out: &mut [u8]) -> Standing
+    requires { ⌜ length (now bus) ≡ roomBytes ⌝ }
+    ensures { λ r. ⌜ Runs from (now (bus .entry)) (now (bytes .entry)) (now (out .entry)) r (now (bus .exit)) (now (out .exit)) ⌝ }
+{
+    let mut items = from.items;
+    let mut at = from.at;
+    let board = from.board;
+    let window = board.window;
+    let mut counts = window.counts;
+    let mut losses = window.losses;
+    let mut shakes = window.shakes;
+    let mut numbers = window.numbers;
+    let mut rows = rows_in(&numbers);
+    let mut slots = board.slots;
+    let mut gauges = Gauge::all(slots);
+    let mut used = Gauge::in_use(slots);
+    let mut i: usize = 0;
+    while goes_on(counts.size, bytes, i, out.len(), at) {
+        items = journal::next_item(items);
+        let tag = wire::byte(bytes, i);
+        if tag != Item::FRAME {
+            let value = value_at(bytes, i);
+            let s = wire::byte(value, 0) as usize;
+            let held = slots[s];
+            let slot = serve(tag, items, value, held, &losses, &shakes, &numbers, out, at);
+            let left = slot.question;
+            slots[s] = left;
+            gauges[s] = Gauge::of(left);
+            used = Gauge::in_use(slots);
+            at = slot.at;
+            i += Field::HEAD + value.len();
+            continue;
+        }
+        let frame = &bytes[i + Field::HEAD..i + Item::FRAME_BYTES];
+        let brought = hear(bus, frame, counts);
+        at = put_refusal(out, at, items, brought.refused, brought.code);
+        i += Item::FRAME_BYTES;
+        if brought.number == 0 {
+            continue;
+        }
+        counts.entered = brought.number;
+        counts.held = brought.held;
+        rows = put_row(&mut losses, &mut shakes, &mut numbers, rows, brought);
+        let mut slot: usize = 0;
+        while slot < used {
+            let here = slot;
+            slot += 1;
+            let gauge = gauges[here];
+            if gauge.quiet(brought.gone, brought.values) {
+                continue;
+            }
+            let held = slots[here];
+            let turned = turn(held, brought, &losses, &shakes, &numbers, rows);
+            at = journal::put_search(out, at, items, here as u8, turned.searched, turned.steps);
+            let left = turned.question;
+            slots[here] = left;
+            gauges[here] = Gauge::of(left);
+        }
+    }
+    ended(items, counts, losses, shakes, numbers, slots, i, at)
+}
+
+// Where the items end: the window with these counts and rows, and the slots.
+fn ended(
+    items: u64,
+    counts: Counts,
+    losses: [u16; Window::ROWS],
+    shakes: [u16; Window::ROWS],
+    numbers: [u32; Window::ROWS],
+    slots: [Question; Gauge::SLOTS],
+    taken: usize,
+    at: usize,
+) -> Standing
+    ensures { λ r. ⌜ r ≡ record { items = items; board = record { window = windowOf counts losses shakes numbers; slots = slots }; taken = taken; at = at } ⌝ }
+{
+    Standing {
+        items,
+        board: Board {
+            window: Window {
+                losses,
+                shakes,
+                numbers,
+                counts,
+            },
+            slots,
+        },
+        taken,
+        at,
+    }
+}
+
+// Whether an item that is done in place comes at a place, and a room of that length has space for what it prints.
+fn goes_on(rows: u16, bytes: &[u8], i: usize, room: usize, at: usize) -> bool
+    requires { ⌜ i ≤ length (now bytes) ⌝ }
+    ensures { λ r. ⌜ r ≡ (comes rows (now (bytes .entry)) i && hasRoom room at) ⌝ }
+{
+    if comes_at(rows, bytes, i) {
+        return has_room(room, at);
+    }
+    false
+}
+
+// Whether there is a window, and a frame or an item for a slot comes at a place.
+fn comes_at(rows: u16, bytes: &[u8], i: usize) -> bool
+    requires { ⌜ i ≤ length (now bytes) ⌝ }
+    ensures { λ r. ⌜ r ≡ comes rows (now (bytes .entry)) i ⌝ }
+{
+    if rows < Window::SMALLEST {
+        return false;
+    }
+    if Window::LARGEST < rows {
+        return false;
+    }
+    if item_comes(bytes, i, Item::FRAME, Item::FRAME_SIZE) {
+        return true;
+    }
+    slot_comes(bytes, i)
+}
+
+// Whether a whole item of that tag and length stands at a place.
+fn item_comes(bytes: &[u8], i: usize, tag: u8, size: usize) -> bool
+    requires { ⌜ (i ≤ length (now bytes)) × (size ≤ 12) ⌝ }
+    ensures { λ r. ⌜ r ≡ itemComes (now (bytes .entry)) i tag size ⌝ }
+{
+    if bytes.len() - i < Field::HEAD + size {
+        return false;
+    }
+    if wire::byte(bytes, i) != tag {
+        return false;
+    }
+    (wire::read16(bytes, i + 1) as usize) == size
+}
+
+// Whether an item for a slot that there is comes at a place.
+fn slot_comes(bytes: &[u8], i: usize) -> bool
+    requires { ⌜ i ≤ length (now bytes) ⌝ }
+    ensures { λ r. ⌜ r ≡ slotComes (now (bytes .entry)) i ⌝ }
+{
+    if Board::SLOTS <= wire::byte(bytes, i + Field::HEAD) {
+        return false;
+    }
+    if item_comes(bytes, i, Item::SHOW, Item::SHOW_SIZE) {
+        return true;
+    }
+    if item_comes(bytes, i, Item::REMOVE, Item::REMOVE_SIZE) {
+        return true;
+    }
+    item_comes(bytes, i, Item::SET, Item::SET_SIZE)
+}
+
+// The value of the whole item at a place.
+fn value_at(bytes: &[u8], i: usize) -> &[u8]
+    requires { ⌜ i + (3 + sizeAt (now bytes) i) ≤ length (now bytes) ⌝ }
+    ensures { λ r. ⌜ now r ≡ part (i + 3) (sizeAt (now (bytes .entry)) i) (now (bytes .entry)) ⌝ }
+{
+    let start = i + Field::HEAD;
+    let end = start + (wire::read16(bytes, i + 1) as usize);
+    &bytes[start..end]
+}
+
+// How many rows there are up to the last one that holds a report.
+fn rows_in<'a>(numbers: &'a [u32; Window::ROWS]) -> usize
+    ensures { λ r. ⌜ r ≡ rowsUsed rowCount (now (numbers .entry)) ⌝ }
+{
+    let mut rows = Window::ROWS;
+    while 0 < rows {
+        let last = rows - 1;
+        if numbers[last] != 0 {
+            return rows;
+        }
+        rows = last;
+    }
+    0
+}
+
+// Stores a report in its row: how many rows there are then up to the last one that holds a report.
+fn put_row(
+    losses: &mut [u16; Window::ROWS],
+    shakes: &mut [u16; Window::ROWS],
+    numbers: &mut [u32; Window::ROWS],
+    rows: usize,
+    brought: Brought,
+) -> usize
+    requires { ⌜ brought .row < rowCount ⌝ }
+    ensures { λ r. ⌜ Stored (now (losses .entry)) (now (shakes .entry)) (now (numbers .entry)) rows brought r (now (losses .exit)) (now (shakes .exit)) (now (numbers .exit)) ⌝ }
+{
+    let row = brought.row as usize;
+    let values = brought.values;
+    losses[row] = values.loss;
+    shakes[row] = values.shake;
+    numbers[row] = brought.number;
+    if rows <= row { row + 1 } else { rows }
+}
+
+// Does an item for a slot that holds this question, over the rows that are lent: shows it, empties it, or sets a question.
+fn serve<'a>(
+    tag: u8,
+    item: u64,
+    value: &[u8],
+    held: Question,
+    losses: &'a [u16; Window::ROWS],
+    shakes: &'a [u16; Window::ROWS],
+    numbers: &'a [u32; Window::ROWS],
+    out: &mut [u8],
+    at: usize,
+) -> Slot
+    ensures { λ r. ⌜ Serves (served tag item (now (value .entry)) held (standing (rowsOf (now (losses .entry)) (now (shakes .entry)) (now (numbers .entry))) rowCount)) (now (out .entry)) at (r .question) (r .at) (now (out .exit)) ⌝ }
+{
+    if tag == Item::SHOW {
+        return Slot {
+            question: held,
+            at: put_shown(out, at, item, wire::byte(value, 0), held),
+        };
+    }
+    if tag == Item::REMOVE {
+        return Slot {
+            question: slot::emptied(held),
+            at: put_refusal(out, at, item, held.k == 0, Shown::EMPTY),
+        };
+    }
+    let rule = journal::rule_in(value);
+    let seated = slot::set_in(held, wire::byte(value, 1), rule, losses, shakes, numbers);
+    let question = seated.question;
+    Slot {
+        question,
+        at: put_seated(
+            out,
+            at,
+            item,
+            wire::byte(value, 0),
+            seated.refusal,
+            seated.steps,
+        ),
+    }
+}
+
+// Prints the list of a slot, or that the slot is empty.
+fn put_shown(out: &mut [u8], at: usize, item: u64, slot: u8, question: Question) -> usize
+    ensures { λ r. ⌜ r ≡ behind at (shownText item slot question) ⌝ }
+    ensures { λ _. ⌜ now (out .exit) ≡ sets (now (out .entry)) at (shownText item slot question) ⌝ }
+{
+    if question.k == 0 {
+        return text::put_r(out, at, item, Shown::EMPTY);
+    }
+    let numbers = question.numbers;
+    let scores = question.scores;
+    text::put_q(out, at, slot, numbers, scores, question.len as usize)
+}
+
+// Prints what setting a question in a slot answers: the line of a refusal, or of the search.
+fn put_seated(out: &mut [u8], at: usize, item: u64, slot: u8, refusal: u8, steps: u16) -> usize
+    ensures { λ r. ⌜ r ≡ behind at (seatedText item slot refusal steps) ⌝ }
+    ensures { λ _. ⌜ now (out .exit) ≡ sets (now (out .entry)) at (seatedText item slot refusal steps) ⌝ }
+{
+    if refusal == 0 {
+        return text::put_s(out, at, item, slot, steps);
+    }
+    text::put_r(out, at, item, refusal)
+}
+
+// Prints the line of a refusal, if there is one.
+fn put_refusal(out: &mut [u8], at: usize, item: u64, refused: bool, code: u8) -> usize
+    ensures { λ r. ⌜ r ≡ behind at (cond refused (rLine item code) []) ⌝ }
+    ensures { λ _. ⌜ now (out .exit) ≡ sets (now (out .entry)) at (cond refused (rLine item code) []) ⌝ }
+{
+    if refused {
+        text::put_r(out, at, item, code)
+    } else {
+        at
+    }
+}
+
+// Hands a frame in its 12 bytes to its sender's session: what that brings to a window of these counts.
+fn hear(room: &mut [u8; Bus::ROOM], value: &[u8], counts: Counts) -> Brought
+    requires { ⌜ length (now value) ≡ 12 ⌝ }
+    ensures { λ r. ⌜ r ≡ brought (answerTo (sessionsIn (now (room .entry))) (frameIn (now (value .entry)))) counts ⌝ }
+    ensures { λ _. ⌜ now (room .exit) ≡ roomOf (sessionsAfter (sessionsIn (now (room .entry))) (frameIn (now (value .entry)))) ⌝ }
+{
+    let id = wire::read32(value, 0);
+    let answer = Bus::take(room, id, &value[Item::DATA..Item::FRAME_SIZE]);
+    brings(answer, counts)
+}
+
+// What an answer brings to a window of these counts.
+fn brings(answer: Answer, counts: Counts) -> Brought
+    ensures { λ r. ⌜ r ≡ brought answer counts ⌝ }
+{
+    match answer {
+        Answer::Refused(n) => not_brought(true, n),
+        Answer::Kept => not_brought(false, 0),
+        Answer::Complete(r) => {
+            let values = r.values;
+            let arrival = Arrival::of(counts, values);
+            let place = Window::place(counts);
+            Brought {
+                refused: arrival.refusal != 0,
+                code: arrival.refusal,
+                number: arrival.number,
+                gone: arrival.oldest,
+                values,
+                row: place.row,
+                held: place.held,
+            }
+        }
+    }
+}
+
+fn not_brought(refused: bool, code: u8) -> Brought
+    ensures { λ r. ⌜ r ≡ record { refused = refused; code = code; number = 0; gone = 0; values = record { loss = 0; shake = 0 }; row = 0; held = 0 } ⌝ }
+{
+    Brought {
+        refused,
+        code,
+        number: 0,
+        gone: 0,
+        values: Values { loss: 0, shake: 0 },
+        row: 0,
+        held: 0,
+    }
+}
+
+// A question's turn where a report enters, over the first rows of those that are lent.
+fn turn<'a>(
+    question: Question,
+    brought: Brought,
+    losses: &'a [u16; Window::ROWS],
+    shakes: &'a [u16; Window::ROWS],
+    numbers: &'a [u32; Window::ROWS],
+    rows: usize,
+) -> Turned
+    ensures { λ r. ⌜ r ≡ turn question (record { number = brought .number; values = low (brought .values) }) (brought .gone) (standing (rowsOf (now (losses .entry)) (now (shakes .entry)) (now (numbers .entry))) (min rows rowCount)) ⌝ }
+{
+    slot::turn(
+        question,
+        brought.number,
+        brought.values,
+        brought.gone,
+        losses,
+        shakes,
+        numbers,
+        rows,
+    )
+}
