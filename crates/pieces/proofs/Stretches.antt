@@ -41,11 +41,11 @@ module _ (log₀ : Log) (w₀ : Waiting) (piece room : List ℕ) (small : length
 
   -- One item.
   ran-one : (j : ℕ) {log : Log} {w : Waiting} {at : ℕ} {left : List ℕ} → Ran log₀ w₀ piece room (i + j) log w at left → length (w .bytes) ≡ 15 → w .have ≡ 0
-      → comes (log .board .window .size) rest j && hasRoom (length room) at ≡ true
+      → comes (log .board .window .counts .size) rest j && hasRoom (length room) at ≡ true
       → Ran log₀ w₀ piece room (i + (j + (3 + sizeAt rest j))) (itemAt log rest j .log) nothing (behind at (itemAt log rest j .text)) (sets left at (itemAt log rest j .text))
   ran-one j {log} {w} {at} {left} r full free t =
-      let both = and-both (comes (log .board .window .size) rest j) (hasRoom (length room) at) t in
-      let there = whole-there rest j (log .board .window .size) (both .0) in
+      let both = and-both (comes (log .board .window .counts .size) rest j) (hasRoom (length room) at) t in
+      let there = whole-there rest j (log .board .window .counts .size) (both .0) in
       let v = sizeAt rest j in
       let one : i + j + 1 ≡ i + (j + 1) = omega arith in
       let three : i + j + 3 ≡ i + (j + 3) = omega arith in
@@ -76,9 +76,9 @@ module _ (log₀ : Log) (w₀ : Waiting) (piece room : List ℕ) (small : length
   ran-did : (n j : ℕ) {log : Log} {at : ℕ} {left : List ℕ} → Ran log₀ w₀ piece room (i + j) log nothing at left
       → Ran log₀ w₀ piece room (i + did n (length room) at log rest j .next) (did n (length room) at log rest j .log) nothing (behind at (did n (length room) at log rest j .text)) (sets left at (did n (length room) at log rest j .text))
   ran-did zero j {log} {at} {left} r = ran-none (did zero (length room) at log rest j) j (did-zero (length room) rest at log j) r
-  ran-did (suc n) j {log} {at} {left} r = go (tested (comes (log .board .window .size) rest j && hasRoom (length room) at)) (λ k l a s. ran-did n k {log = l} {at = a} {left = s})
+  ran-did (suc n) j {log} {at} {left} r = go (tested (comes (log .board .window .counts .size) rest j && hasRoom (length room) at)) (λ k l a s. ran-did n k {log = l} {at = a} {left = s})
     where
-      go : Tested (comes (log .board .window .size) rest j && hasRoom (length room) at)
+      go : Tested (comes (log .board .window .counts .size) rest j && hasRoom (length room) at)
           → ((k : ℕ) (l : Log) (a : ℕ) (s : List ℕ) → Ran log₀ w₀ piece room (i + k) l nothing a s → Ran log₀ w₀ piece room (i + did n (length room) a l rest k .next) (did n (length room) a l rest k .log) nothing (behind a (did n (length room) a l rest k .text)) (sets s a (did n (length room) a l rest k .text)))
           → Ran log₀ w₀ piece room (i + did (suc n) (length room) at log rest j .next) (did (suc n) (length room) at log rest j .log) nothing (behind at (did (suc n) (length room) at log rest j .text)) (sets left at (did (suc n) (length room) at log rest j .text))
       go (passed t) more =
@@ -89,14 +89,14 @@ module _ (log₀ : Log) (w₀ : Waiting) (piece room : List ℕ) (small : length
 
   -- The claim: what the stretch answers is what its bytes bring, and it takes one at least.
   ran-stretch : {log : Log} {w : Waiting} {at : ℕ} {left : List ℕ} {r : Stretch} {left₁ : List ℕ} → Ran log₀ w₀ piece room i log w at left → length (w .bytes) ≡ 15 → w .have ≡ 0
-      → comes (log .board .window .size) rest 0 ≡ true → hasRoom (length room) at ≡ true → Does log rest left at r left₁
+      → comes (log .board .window .counts .size) rest 0 ≡ true → hasRoom (length room) at ≡ true → Does log rest left at r left₁
       → Ran log₀ w₀ piece room (i + r .taken) (r .log) nothing (r .at) left₁ × (1 ≤ r .taken) × (i + r .taken ≤ length piece)
   ran-stretch {log} {w} {at} {left} {r} {left₁} s full free c has d = go (length rest) refl
     where
       go : (n : ℕ) → n ≡ length rest → Ran log₀ w₀ piece room (i + r .taken) (r .log) nothing (r .at) left₁ × (1 ≤ r .taken) × (i + r .taken ≤ length piece)
-      go zero e = absurd (omega (arith, whole-there rest 0 (log .board .window .size) c .0))
+      go zero e = absurd (omega (arith, whole-there rest 0 (log .board .window .counts .size) c .0))
       go (suc m) e =
-          let t : comes (log .board .window .size) rest 0 && hasRoom (length room) at ≡ true = rw (c, has) in
+          let t : comes (log .board .window .counts .size) rest 0 && hasRoom (length room) at ≡ true = rw (c, has) in
           let done = itemAt log rest 0 in
           let end = 0 + (3 + sizeAt rest 0) in
           let later = did m (length room) (behind at (done .text)) (done .log) rest end in
@@ -106,15 +106,15 @@ module _ (log₀ : Log) (w₀ : Waiting) (piece room : List ℕ) (small : length
           let first = ran-one 0 (ran-at start (λ k. log) (λ k. at) (λ k. left) s) full free t in
           let whole = ran-after (all (length left) at log rest) later (done .text) at left (omega (arith, left-long s)) is (ran-did m end first) in
           let taken = d .taken ∙ ap (λ (x : Did). x .next) is in
-          let within = did-within (length room) rest m (behind at (done .text)) (done .log) end (whole-there rest 0 (log .board .window .size) c .0) in
+          let within = did-within (length room) rest m (behind at (done .text)) (done .log) end (whole-there rest 0 (log .board .window .counts .size) c .0) in
           (ran-at (ap (λ (k : ℕ). i + k) (sym (d .taken))) (sym (d .leaves)) (sym (d .place)) (sym (d .stored)) whole, omega (arith, within .0, taken), omega (arith, within .1, taken, length-drop i piece))
 
   -- The same of what the code holds.
   pub stretch-fed : {log : Log} {w w₁ : Waiting} {at : ℕ} {left tail : List ℕ} {r : Stretch} {left₁ : List ℕ} {b : Bool} → Ran log₀ w₀ piece room i log w at left → length (w .bytes) ≡ 15
-      → b ≡ (eqb (w .have) 0 && comes (log .board .window .size) tail 0) → b ≡ true → hasRoom (length room) at ≡ true → tail ≡ rest → Does log tail left at r left₁ → w₁ ≡ nothing
+      → b ≡ (eqb (w .have) 0 && comes (log .board .window .counts .size) tail 0) → b ≡ true → hasRoom (length room) at ≡ true → tail ≡ rest → Does log tail left at r left₁ → w₁ ≡ nothing
       → Ran log₀ w₀ piece room (i + r .taken) (r .log) w₁ (r .at) left₁ × (1 ≤ r .taken) × (i + r .taken ≤ length piece)
   stretch-fed {log} {w} {w₁} {at} {left} {tail} {r} {left₁} s full e t has f d n =
-      let both = and-both (eqb (w .have) 0) (comes (log .board .window .size) tail 0) (sym e ∙ t) in
-      let c = ap (λ (l : List ℕ). comes (log .board .window .size) l 0) (sym f) ∙ both .1 in
+      let both = and-both (eqb (w .have) 0) (comes (log .board .window .counts .size) tail 0) (sym e ∙ t) in
+      let c = ap (λ (l : List ℕ). comes (log .board .window .counts .size) l 0) (sym f) ∙ both .1 in
       let done = ran-stretch s full (eqb-true (w .have) 0 (both .0)) c has (subst (λ (l : List ℕ). Does log l left at r left₁) f d) in
       (subst (λ (x : Waiting). Ran log₀ w₀ piece room (i + r .taken) (r .log) x (r .at) left₁) (sym n) (done .0), done .1, done .2)

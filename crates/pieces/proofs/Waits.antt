@@ -1,22 +1,21 @@
 -- What waits stands for the bytes that came since the last whole item: the first 15 are the same, and all are counted.
 -- Assumes nothing.
 use mathlib.Core.Path.{_≡_, refl, sym, ap, ap₂, _∙_}
-use mathlib.Core.Bool.{Bool, true, false, cond}
 use mathlib.Core.Logic.{⊎-elim}
 use mathlib.Core.List.{List, [], _∷_, _++_}
 use Prim.Native.Nat.{ℕ, _+_, _*_, _≤_, _<_}
 use native.Mathlib.Omega.{arith}
-use borrow.Author.Tests.{ne-eqb}
-use lib.Dec.{ltb, eqb}
+use lib.Dec.{ltb}
 use lib.ListN.{length, getD, set, length-append, length-set, List·getD-append}
 use lib.Seq.{getD-set-same, getD-set-other, getD-append-seam}
 use Rattle.wire.specs.Bytes.{number, part}
 use Rattle.wire.proofs.Numbers.{number-two}
 use Rattle.text.proofs.Decimal.{below-or}
+use Rattle.items.proofs.Reading.{long-unknown, empty-unknown}
 use Rattle.journal.specs.declared.Log.{Log}
 use Rattle.pieces.specs.declared.Waiting.{Waiting}
-use Rattle.journal.specs.Log.{counted, unless, itemRefusal, itemDone, refused}
-use Rattle.lines.specs.Numbers.{known}
+use Rattle.journal.specs.Log.{itemDone}
+use Rattle.journal.proofs.Items.{unknown-done}
 use Rattle.pieces.specs.Machine.{nothing, withByte, sizeIn}
 
 pub record Holds (w : Waiting) (p : List ℕ) : Type 0 where
@@ -57,25 +56,6 @@ holds-size w p h three =
     number-two (w .bytes) 1 ∙ ap₂ (λ (x y : ℕ). x + 256 * y) (h .front 1 (omega arith) (omega arith)) (h .front 2 (omega arith) (omega arith))
     ∙ sym (number-two p 1)
 
--- No item is known that has no value or one of more than 12 bytes.
-never : (a b c d e : Bool) → cond a false (cond b false (cond c false (cond d false (cond e false false)))) ≡ false
-never true b c d e = refl
-never false true c d e = refl
-never false false true d e = refl
-never false false false true e = refl
-never false false false false true = refl
-never false false false false false = refl
-
-unknown : (tag size : ℕ) → (size ≡ 1 → ⊥) → (size ≡ 2 → ⊥) → (size ≡ 6 → ⊥) → (size ≡ 12 → ⊥) → known tag size ≡ false
-unfolding known
-unknown tag size h1 h2 h6 h12 = rw (ne-eqb size 2 h2, ne-eqb size 6 h6, ne-eqb size 12 h12, ne-eqb size 1 h1) (never (eqb tag 16) (eqb tag 17) (eqb tag 18) (eqb tag 19) (eqb tag 20))
-
-refused-22 : (log : Log) (tag : ℕ) (v : List ℕ) → known tag (length v) ≡ false → itemDone log tag v ≡ refused (counted log) 22
-unfolding itemDone itemRefusal unless
-refused-22 log tag v e = rw e
-
--- Of an item that is too long the value makes no difference.
+-- Of an item that is too long the value makes no difference: no item is known that has none, or one of more than 12 bytes.
 pub too-long : (log : Log) (tag : ℕ) (v : List ℕ) → 12 < length v → itemDone log tag v ≡ itemDone log tag []
-too-long log tag v h =
-    refused-22 log tag v (unknown tag (length v) (λ e. omega arith) (λ e. omega arith) (λ e. omega arith) (λ e. omega arith))
-    ∙ sym (refused-22 log tag [] (unknown tag 0 (λ e. omega arith) (λ e. omega arith) (λ e. omega arith) (λ e. omega arith)))
+too-long log tag v h = unknown-done log tag v (long-unknown tag v h) ∙ sym (unknown-done log tag [] (empty-unknown tag))

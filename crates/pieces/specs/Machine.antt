@@ -14,9 +14,13 @@ use Rattle.pieces.specs.declared.Fed.{Fed}
 use Rattle.journal.specs.Log.{nextItem, itemDone}
 use Rattle.stretch.specs.Coming.{hasRoom}
 
+-- What is kept of an item: its first 15 bytes.
+abbrev pub kept : ℕ
+kept = 15
+
 -- Nothing has come of the next item.
 abbrev pub nothing : Waiting
-nothing = record { bytes = replicate 15 0; have = 0 }
+nothing = record { bytes = replicate kept 0; have = 0 }
 
 -- One byte more; those past the 15th are counted only.
 unfoldable pub withByte : Waiting → ℕ → Waiting

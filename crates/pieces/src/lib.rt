@@ -9,12 +9,14 @@ ghost use Rattle.text.specs.Text.{behind};
 ghost use Rattle.journal.specs.Log.{Stores, itemDone};
 ghost use Rattle.stretch.specs.Coming.{comes, hasRoom};
 ghost use Rattle.pieces.specs.Machine.{nothing, withByte, isWhole, valueEnd, valueIn, Feeds, endLine};
+use items::Item;
 use journal::Done;
 use journal::Log;
+use wire::Field;
 
 // What has come of an item that is not whole yet: its first 15 bytes, and how many there were. No longer item is known.
 pub struct Waiting {
-    pub bytes: [u8; 15],
+    pub bytes: [u8; Waiting::KEPT],
     pub have: u32,
 }
 
@@ -30,14 +32,14 @@ impl Waiting {
     // The bytes of the longest item.
     pub const LONGEST: u32 = 65538;
 
-    // The longest value of a known item.
-    pub const VALUE: u16 = 12;
+    // What is kept of an item: the head, and the longest value of a known one.
+    pub const KEPT: usize = 15;
 
     // Nothing waits.
     pub fn nothing() -> Waiting
         ensures { λ r. ⌜ r ≡ nothing ⌝ }
     {
-        let bytes = [0u8; 15];
+        let bytes = [0u8; Waiting::KEPT];
         Waiting { bytes, have: 0 }
     }
 
@@ -80,7 +82,7 @@ impl Waiting {
         let mut at: usize = 0;
         let mut i: usize = 0;
         while goes_on(piece.len(), i, out.len(), at) {
-            if starts(next.have, left.board.window.size, &piece[i..]) {
+            if starts(next.have, left.board.window.counts.size, &piece[i..]) {
                 let done = stretch::take(left, &piece[i..], out, at);
                 i += done.taken;
                 at = done.at;
@@ -123,10 +125,11 @@ impl Waiting {
 fn value_end(size: u16) -> usize
     ensures { λ r. ⌜ r ≡ valueEnd size ⌝ }
 {
-    if size <= Waiting::VALUE {
-        3 + (size as usize)
+    let long = size as usize;
+    if long <= Item::LONGEST {
+        Field::HEAD + long
     } else {
-        3
+        Field::HEAD
     }
 }
 
@@ -134,10 +137,10 @@ fn value_end(size: u16) -> usize
 fn behind_head(s: &[u8]) -> &[u8]
     ensures { λ r. ⌜ now r ≡ drop 3 (now (s .entry)) ⌝ }
 {
-    if s.len() < 3 {
+    if s.len() < Field::HEAD {
         return &s[s.len()..];
     }
-    &s[3..]
+    &s[Field::HEAD..]
 }
 
 fn one_more(have: u32) -> u32
