@@ -3,7 +3,7 @@
 use mathlib.Core.Path.{_≡_, refl, sym, _∙_, ap}
 use mathlib.Core.Bool.{Bool, true, false, cond}
 use mathlib.Core.List.{List, _++_}
-use Prim.Native.Nat.{ℕ, _+_, _-_, _*_, _≤_, _<_}
+use Prim.Native.Nat.{ℕ, _+_, _-_, _*_, _<_}
 use native.Mathlib.Omega.{arith}
 use borrow.Author.Tests.{lt-ltb, ne-eqb}
 use lib.Dec.{ltb}
@@ -19,7 +19,7 @@ use Rattle.joining.specs.Run.{nobody, sessionsAfter, answerTo}
 use Rattle.joining.proofs.Fitness.{Open}
 use Rattle.joining.proofs.Frames.{sound-frame}
 use Rattle.joining.proofs.Steps.{due}
-use Rattle.bus.specs.Room.{sessionAt, sessionBytes, sessionsOf, sessionsIn, roomOf}
+use Rattle.bus.specs.Room.{sessionAt, sessionBytes, sessionsIn, roomOf}
 use Rattle.bus.proofs.Places.{take-sets, session-of, put-session, room-of-sessions}
 
 -- A step's answer and bytes, where the step is known.

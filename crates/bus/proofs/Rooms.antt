@@ -3,7 +3,7 @@
 use mathlib.Core.Path.{_≡_, refl, sym, _∙_, ap, subst}
 use mathlib.Core.Bool.{Bool, true, false, cond, not, false≢true}
 use mathlib.Core.List.{List, [], _∷_, _++_}
-use Prim.Native.Nat.{ℕ, zero, suc, _+_, _*_, _-_, _≤_, _<_}
+use Prim.Native.Nat.{ℕ, zero, suc, _+_, _*_, _-_, _<_}
 use native.Mathlib.Omega.{arith}
 use borrow.Author.Tests.{ltb-true}
 use lib.Dec.{eqb, ltb}
@@ -14,7 +14,7 @@ use Rattle.joining.specs.declared.Taken.{Taken}
 use Rattle.joining.specs.Frame.{Frame, senderOf, frameRefusal}
 use Rattle.joining.specs.Joining.{place, fit, refused, take-frame}
 use Rattle.joining.specs.Run.{nobody, sessionsAfter, sessionsAt, soloStep}
-use Rattle.bus.specs.Room.{sessionAt, sessionBytes, sessionsOf, sessionsIn, roomOf, roomAt}
+use Rattle.bus.specs.Room.{sessionBytes, sessionsOf, sessionsIn, roomOf, roomAt}
 use Rattle.joining.proofs.Cases.{Case, passed, shut, stray, good, next, last, cases}
 use Rattle.bus.proofs.Places.{Sized, sessions-of-room, room-of-sessions, put-session}
 

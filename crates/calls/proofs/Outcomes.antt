@@ -1,6 +1,6 @@
 -- Any two outcomes that a contract allows are equal, since each contract is an equation: the answer, and every number that was lent.
 -- Assumes nothing.
-use mathlib.Core.Path.{_≡_, sym, _∙_}
+use mathlib.Core.Path.{sym, _∙_}
 use mathlib.Core.List.{List}
 use Prim.Native.Nat.{ℕ}
 use lib.IntN.{ℤ}

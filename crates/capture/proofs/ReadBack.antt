@@ -2,20 +2,19 @@
 -- Assumes nothing.
 use mathlib.Core.Path.{_≡_, refl}
 use mathlib.Core.Bool.{Bool, true, false, cond}
-use mathlib.Core.List.{List, []}
+use mathlib.Core.List.{List}
 use Prim.Native.Nat.{ℕ, _≤_}
 use native.Mathlib.Omega.{arith}
 use lib.Dec.{ltb, eqb}
 use lib.ListN.{length, take}
 use Rattle.items.specs.Run.{runBytes, readItems}
 use Rattle.items.proofs.Runs.{AllFit, reads-back}
-use Rattle.lines.specs.declared.Number.{Number}
 use Rattle.lines.specs.Words.{wordAt}
 use Rattle.lines.specs.Numbers.{unknown, numberIn}
 use Rattle.lines.proofs.Numbers.{number-most}
 use Rattle.capture.specs.declared.Sort.{Sort}
 use Rattle.capture.specs.declared.Sort.the-variants as sort
-use Rattle.capture.specs.Capture.{idSize, dataText, idIn, bytesIn, sortOf, itemOf, itemsIn}
+use Rattle.capture.specs.Capture.{idSize, dataText, idIn, sortOf, itemOf, itemsIn}
 use Rattle.capture.proofs.Texts.{bytes-count}
 use Rattle.capture.proofs.Frames.{line-sixteen}
 

@@ -3,13 +3,13 @@
 use mathlib.Core.Path.{_≡_, refl, sym, _∙_, ap, subst}
 use mathlib.Core.Bool.{Bool, true, false, cond}
 use mathlib.Core.Option.{Option}
-use mathlib.Core.List.{List, [], _∷_, _++_, append-assoc, append-nil, map}
+use mathlib.Core.List.{List, [], _++_, append-assoc, append-nil, map}
 use Prim.Native.Nat.{ℕ, zero, suc, _+_, _*_, _/_, _≤_}
 use native.Mathlib.Numerals.{add-one}
 use native.Mathlib.Omega.{arith}
 use borrow.Author.Tests.{eqb-true, eqb-false, leb-true, ltb-false}
 use lib.Dec.{eqb, leb, ltb}
-use lib.ListN.{length, take, drop, length-append, length-take, length-drop}
+use lib.ListN.{length, drop, length-append, length-take, length-drop}
 use lib.Seq.{sets, drop-drop}
 use Rattle.wire.specs.Bytes.{number, part}
 use Rattle.wire.proofs.Stores.{sets-append}
@@ -19,7 +19,7 @@ use Rattle.items.specs.Run.{Meant, runBytes}
 use Rattle.items.proofs.Writing.{frame-long}
 use Rattle.report.specs.declared.Report.{Report}
 use Rattle.report.specs.declared.Written.the-variants as writing
-use Rattle.report.specs.Payload.{payload, size, given, fault}
+use Rattle.report.specs.Payload.{payload, given, fault}
 use Rattle.report.proofs.Places.{size-payload}
 use Rattle.joining.specs.Frame as frame
 use Rattle.joining.specs.Joining.{packets}

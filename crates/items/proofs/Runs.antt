@@ -1,14 +1,13 @@
 -- Items that were written one after the other are read as the same items: each is a whole field, and the next starts behind it.
 -- Assumes nothing.
 use mathlib.Core.Path.{_≡_, refl, sym, ap, ap₂, _∙_}
-use mathlib.Core.List.{List, [], _∷_, _++_, append-assoc}
+use mathlib.Core.List.{List, [], _∷_, _++_}
 use Prim.Native.Nat.{ℕ, zero, suc, _+_, _≤_, _<_}
 use native.Mathlib.Omega.{arith}
-use lib.ListN.{length, getD, drop, length-append}
+use lib.ListN.{length, drop, length-append}
 use lib.Seq.{take-at, drop-at}
-use Rattle.wire.specs.Bytes.{number, bytes, head, field, part, fieldAt}
-use Rattle.wire.specs.declared.Field.the-variants.{Whole, Cut}
-use Rattle.wire.proofs.Numbers.{length-bytes}
+use Rattle.wire.specs.Bytes.{bytes, head, field, part, fieldAt}
+use Rattle.wire.specs.declared.Field.the-variants.{Whole}
 use Rattle.wire.proofs.Fields.{length-field, written-stands, stands-facts, whole, cut-short}
 use Rattle.items.specs.declared.Item.{Item}
 use Rattle.items.specs.declared.Item.the-variants.{Window, Set, Frame, Remove, Show, Unknown}

@@ -3,12 +3,12 @@
 use mathlib.Core.Path.{_≡_, refl, sym, ap, ap₂, subst, _∙_}
 use mathlib.Core.Bool.{true, false}
 use mathlib.Core.Logic.{⊎-elim}
-use mathlib.Core.List.{List, [], _∷_, _++_, append-assoc, append-nil}
-use Prim.Native.Nat.{ℕ, zero, suc, _+_, _*_, _-_, _%_, _^_, _≤_, _<_}
+use mathlib.Core.List.{List, [], _∷_, _++_, append-nil}
+use Prim.Native.Nat.{ℕ, zero, suc, _+_, _*_, _-_, _^_, _≤_, _<_}
 use native.Mathlib.Omega.{arith}
 use borrow.Author.Tests.{le-leb, lt-leb}
 use lib.Dec.{ltb}
-use lib.ListN.{length, getD, take, drop, length-append, length-drop}
+use lib.ListN.{length, getD, take, drop, length-drop}
 use lib.Seq.{take-all, take-nil, take-suc, take-take, take-add, drop-drop, getD-take, getD-drop, ext-getD, length-take-le}
 use Rattle.wire.specs.Bytes.{number, part}
 use Rattle.wire.proofs.Numbers.{number-two}
@@ -20,7 +20,7 @@ use Rattle.journal.specs.declared.Log.{Log}
 use Rattle.pieces.specs.declared.Waiting.{Waiting}
 use Rattle.journal.specs.Log.{Outcome, itemDone}
 use Rattle.stretch.specs.Coming.{hasRoom}
-use Rattle.pieces.specs.Machine.{Came, nothing, withByte, isWhole, sizeIn, valueEnd, valueIn, came, run, ran}
+use Rattle.pieces.specs.Machine.{Came, nothing, withByte, isWhole, sizeIn, valueEnd, valueIn, run, ran}
 use Rattle.pieces.proofs.Waits.{Holds, holds-more, holds-size}
 use Rattle.pieces.proofs.Feeding.{Ran, step, run-more, run-append, came-whole, came-not}
 

@@ -24,7 +24,7 @@ use Rattle.window.specs.declared.Window.{Window}
 use Rattle.window.specs.Rows.{reportIn, standing}
 use Rattle.list.proofs.Stored.{fewest, lines-back}
 use Rattle.question.specs.declared.Question.{Question}
-use Rattle.question.specs.Lines.{lines, asked, withList, cutToK, inCell, taken, stepped, stepOn, inRows}
+use Rattle.question.specs.Lines.{lines, asked, withList, cutToK, inCell, stepped, stepOn, inRows}
 use Rattle.question.specs.Inner.{joined, taking, listTaken, at}
 use Rattle.question.proofs.Stored.{lines-asked}
 

@@ -18,7 +18,6 @@ use Rattle.laws.proofs.Orders.{ahead, ltb-strict}
 use Rattle.laws.proofs.Whole.{ltZ-strict}
 use Rattle.search.specs.Best.{best}
 use Rattle.search.specs.Search.{heldIn, steps, found, marks, matters}
-use Rattle.search.specs.Search as search
 use Rattle.search.proofs.Best.{length-same}
 use Rattle.search.proofs.Search.{All, Sound, Newest, found-is, steps-open, marked, mattering, steps-count, steps-le, wanted, local-found, local-marks, local-steps, length-marks}
 use Rattle.ranking.specs.Cells.{score, cell, cornerOf, bestScore, before, cells, visiting, reaching}

@@ -26,7 +26,7 @@ use Rattle.ranking.proofs.Entries.{above-strict, top-short, top-cons, top-enter
 use Rattle.ranking.proofs.Standing.{steps-bounded}
 use Rattle.search.proofs.Guard.{Guarded}
 use Rattle.window.specs.declared.Window.{Window}
-use Rattle.window.specs.Rows.{heldReports, fitWindow, added}
+use Rattle.window.specs.Rows.{heldReports, fitWindow}
 use Rattle.window.proofs.Reports.{held-distinct, length-held}
 use Rattle.window.proofs.Standing.{held-permitted}
 use Rattle.question.specs.declared.Question.{Question}

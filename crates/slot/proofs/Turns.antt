@@ -12,7 +12,7 @@ use lib.Dec.{eqb, ltb, leb}
 use lib.ListN.{getD, take}
 use Rattle.laws.specs.Lists.{_∈_}
 use Rattle.ranking.specs.Cells.{cell, visiting, placeOf}
-use Rattle.ranking.specs.Standing.{Held, Entry, Permitted, above, entry, entries, top, searchOf}
+use Rattle.ranking.specs.Standing.{Held, Entry, Permitted, above, entries, top, searchOf}
 use Rattle.ranking.specs.declared.Rule.{Rule}
 use Rattle.laws.proofs.Tests.{Tested, passed, failed, tested, clash, or-neither, if-so, if-not}
 use Rattle.laws.proofs.Lists.{_⊆_, here, there, moved}

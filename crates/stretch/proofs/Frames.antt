@@ -36,7 +36,7 @@ use Rattle.joining.specs.declared.Answer.the-variants.{Refused, Kept, Complete}
 use Rattle.joining.specs.declared.Session.{Session}
 use Rattle.text.specs.Text.{rLine}
 use Rattle.journal.specs.declared.Log.{Log}
-use Rattle.journal.specs.Log.{nextItem, counted, withBoard, refused, unless, sLines, enterItem, answered, frameIn, frameItem, itemDone}
+use Rattle.journal.specs.Log.{nextItem, withBoard, refused, unless, sLines, enterItem, answered, frameIn, frameItem, itemDone}
 use Rattle.journal.proofs.Items as items
 use Rattle.stretch.specs.declared.Brought.{Brought}
 use Rattle.stretch.specs.Inner.{brought}

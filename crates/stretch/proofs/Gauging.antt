@@ -3,12 +3,9 @@
 use mathlib.Core.Path.{_≡_, refl, sym, ap, subst, _∙_}
 use mathlib.Core.Bool.{true}
 use mathlib.Core.List.{List, [], _∷_, map}
-use Prim.Native.Nat.{ℕ, zero, suc, _+_, _-_, _%_, _^_, _≤_, _<_}
+use Prim.Native.Nat.{ℕ, zero, suc, _-_, _≤_, _<_}
 use native.Mathlib.Nat.{not-suc-le-zero, le-of-suc-le-suc}
-use native.Mathlib.Omega.{arith}
-use lib.ListN.{length, getD, set, drop}
-use lib.Seq.{getD-drop}
-use Rattle.window.specs.declared.Window.{Window}
+use lib.ListN.{length, getD, set}
 use Rattle.question.specs.declared.Question.{Question}
 use Rattle.slot.specs.declared.gauge.Gauge.{Gauge}
 use Rattle.slot.specs.Gauges.{noQuestion, gaugeOf, isIdle, inUse}

@@ -1,7 +1,7 @@
 -- What was done so far, and what is still to do from there, is all that is to be done.
 -- Assumes nothing.
 use mathlib.Core.Path.{_≡_, refl, sym, ap, subst, _∙_}
-use mathlib.Core.Bool.{Bool, true, false, _&&_}
+use mathlib.Core.Bool.{true, false, _&&_}
 use mathlib.Core.List.{List, [], _++_, append-assoc, append-nil}
 use Prim.Native.Nat.{ℕ, zero, suc, _+_, _^_, _≤_, _<_}
 use native.Mathlib.Omega.{arith}
@@ -10,7 +10,6 @@ use Rattle.laws.proofs.Tests.{Tested, passed, failed, tested, and-both, if-so, 
 use Rattle.text.specs.Text.{behind}
 use Rattle.text.proofs.Places.{Put, then, none}
 use Rattle.journal.specs.declared.Log.{Log}
-use Rattle.journal.specs.Log.{Outcome}
 use Rattle.stretch.specs.Coming.{sizeAt, comes, hasRoom}
 use Rattle.stretch.proofs.Coming.{whole-there}
 use Rattle.stretch.specs.Doing.{Did, itemAt, after, did, all}

@@ -1,6 +1,6 @@
 -- `commands::question` meets its contract: each answer is what the definition says.
 -- Assumes nothing.
-use mathlib.Core.Path.{ap, _∙_}
+use mathlib.Core.Path.{_∙_}
 use Prim.Native.Nat.{_≤_}
 use denote.Ref.{now}
 use Rattle.items.specs.Items.{signed16}

@@ -1,7 +1,7 @@
 -- `joining::announced` meets its contract: without a refusal the session is opened, with 4 it stays, and with another it is closed.
 -- Assumes nothing.
 use denote.Ref.{now}
-use mathlib.Core.Path.{refl, sym, _∙_}
+use mathlib.Core.Path.{sym, _∙_}
 use Rattle.joining.proofs.Fitness.{carried-range}
 use Rattle.joining.proofs.Steps.{opens, stays, closes, good-size}
 use borrow.Author.Needs.{needs}

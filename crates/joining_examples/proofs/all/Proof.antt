@@ -3,7 +3,6 @@
 use Prim.Native.Nat.{_-_}
 use lib.ListN.{length}
 use native.Mathlib.Omega.{arith}
-use borrow.Author.Needs.{needs}
 use Rattle.joining_examples.proofs.all.Statement.{statement}
 use Rattle.joining_examples.proofs.all.Tie as tie
 

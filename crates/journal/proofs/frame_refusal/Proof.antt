@@ -14,9 +14,6 @@ use Rattle.joining.specs.declared.Sender.the-variants.{Of, Refused}
 use borrow.Author.Needs.{needs}
 use Rattle.journal.proofs.frame_refusal.Statement.{statement}
 use Rattle.journal.proofs.frame_refusal.Tie as tie
-use Rattle.journal.proofs.frame_refusal.Reads as reads
-use Rattle.journal.proofs.frame_refusal.Lts as lts
-use Rattle.joining.proofs.Frame.sender.Reads as sender-reads
 
 -- A frame is for a session only where it is not refused, and else answered its refusal.
 by-refusal : (r k : ℕ) (b : Bool) (s : Sender) → eqb r 0 ≡ b → cond b (Of k) (Refused r) ≡ s → (cond b 0 r ≡ r) × ((n : ℕ) → s ≡ Refused n → n ≡ r) × ((m : ℕ) → s ≡ Of m → 0 ≡ r)

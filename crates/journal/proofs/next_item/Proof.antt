@@ -5,8 +5,6 @@ use Rattle.journal.specs.Log.{nextItem}
 use borrow.Author.Needs.{needs}
 use Rattle.journal.proofs.next_item.Statement.{statement}
 use Rattle.journal.proofs.next_item.Tie as tie
-use Rattle.journal.proofs.next_item.Reads as reads
-use Rattle.journal.proofs.next_item.Lts as lts
 
 add-result : tie.Need-add-result
 add-result c = search needs

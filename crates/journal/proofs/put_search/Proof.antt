@@ -5,9 +5,6 @@ use Rattle.text.proofs.Places.{none, both}
 use borrow.Author.Needs.{needs}
 use Rattle.journal.proofs.put_search.Statement.{statement}
 use Rattle.journal.proofs.put_search.Tie as tie
-use Rattle.journal.proofs.put_search.Reads as reads
-use Rattle.journal.proofs.put_search.Lts as lts
-use Rattle.text.proofs.put_s.Reads as put-s-reads
 
 put-s-requires : tie.Need-put-s-requires
 put-s-requires c κs = search needs

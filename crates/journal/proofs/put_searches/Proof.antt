@@ -14,9 +14,6 @@ use Rattle.journal.proofs.Searches.{lines-more, lines-none}
 use borrow.Author.Needs.{needs}
 use Rattle.journal.proofs.put_searches.Statement.{statement}
 use Rattle.journal.proofs.put_searches.Tie as tie
-use Rattle.journal.proofs.put_searches.Reads as reads
-use Rattle.journal.proofs.put_searches.Lts as lts
-use Rattle.journal.proofs.put_search.Reads as put-search-reads
 
 abbrev Inv-loop : tie.InvT-loop
 Inv-loop out₀ at item searched steps next₀ i₀ out next i =

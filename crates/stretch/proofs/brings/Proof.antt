@@ -8,10 +8,6 @@ use Rattle.window.specs.declared.Place.{Place}
 use borrow.Author.Needs.{needs}
 use Rattle.stretch.proofs.brings.Statement.{statement}
 use Rattle.stretch.proofs.brings.Tie as tie
-use Rattle.stretch.proofs.brings.Reads as reads
-use Rattle.stretch.proofs.brings.Lts as lts
-use Rattle.board.proofs.Arrival.of.Reads as of-reads
-use Rattle.stretch.proofs.not_brought.Reads as not-brought-reads
 
 enum-known-answer : tie.Need-enum-known-answer
 enum-known-answer c = search needs

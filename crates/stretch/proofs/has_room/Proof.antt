@@ -7,7 +7,6 @@ use native.Mathlib.Omega.{arith}
 use borrow.Author.Tests.{leb-true, leb-false, le-leb, lt-leb}
 use lib.Dec.{leb}
 use Rattle.stretch.specs.Coming.{hasRoom}
-use borrow.Author.Needs.{needs}
 use Rattle.stretch.proofs.has_room.Statement.{statement}
 use Rattle.stretch.proofs.has_room.Tie as tie
 

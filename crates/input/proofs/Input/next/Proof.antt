@@ -1,6 +1,6 @@
 -- `input::Input::next` meets its contract: turn by turn the line is the first of what came so far, and the turns are counted down.
 -- Assumes nothing.
-use mathlib.Core.Path.{_≡_, refl, sym, _∙_, ap}
+use mathlib.Core.Path.{_≡_, refl, _∙_, ap}
 use mathlib.Core.Bool.{false}
 use Prim.Native.Nat.{_<_}
 use native.Mathlib.Omega.{arith}

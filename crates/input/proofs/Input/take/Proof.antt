@@ -1,12 +1,12 @@
 -- `input::Input::take` meets its contract: what was read and not taken is cut at its first line end.
 -- Assumes nothing.
-use mathlib.Core.Path.{_≡_, _∙_, ap}
+use mathlib.Core.Path.{_≡_, _∙_}
 use denote.Ref.{now}
 use lib.ListN.{length}
 use lib.Seq.{length-sets}
 use Rattle.lines.proofs.Words.{run-within}
 use Rattle.lines.specs.declared.Run.the-variants.{Until}
-use Rattle.input.specs.Lines.{unread, lineTaken, firstLine, ended}
+use Rattle.input.specs.Lines.{unread, firstLine}
 use Rattle.input.proofs.Cutting.{took}
 use borrow.Author.Needs.{needs}
 use native.Mathlib.Omega.{arith}

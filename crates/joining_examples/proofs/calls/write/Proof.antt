@@ -1,7 +1,6 @@
 -- `joining_examples::calls::write` is safe: the part ends within the room, as the test says.
 -- Assumes nothing.
 use mathlib.Core.Path.{sym}
-use native.Mathlib.Omega.{arith}
 use lib.Seq.{length-take-le}
 use borrow.Author.Needs.{needs}
 use Rattle.joining_examples.proofs.calls.write.Statement.{statement}

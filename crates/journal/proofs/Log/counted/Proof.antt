@@ -3,9 +3,6 @@
 use borrow.Author.Needs.{needs}
 use Rattle.journal.proofs.Log.counted.Statement.{statement}
 use Rattle.journal.proofs.Log.counted.Tie as tie
-use Rattle.journal.proofs.Log.counted.Reads as reads
-use Rattle.journal.proofs.Log.counted.Lts as lts
-use Rattle.journal.proofs.next_item.Reads as next-item-reads
 
 next-item-requires : tie.Need-next-item-requires
 next-item-requires c κs = search needs

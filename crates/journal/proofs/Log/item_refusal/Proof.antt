@@ -1,6 +1,6 @@
 -- `journal::Log::item_refusal` meets its contract: an unknown item, the window's, and then every other, by whether there is a window.
 -- Assumes nothing.
-use mathlib.Core.Path.{_≡_, refl, sym, ap, _∙_}
+use mathlib.Core.Path.{_≡_, refl}
 use mathlib.Core.List.{[], _∷_}
 use Prim.Native.Nat.{ℕ}
 use borrow.Author.Tests.{eq-eqb, ne-eqb}
