@@ -15,7 +15,7 @@ use values::Values;
 // A session with these numbers and the first bytes of P1's payload.
 pub fn made(size: u8, count: u8, next: u8, used: usize) -> Session {
     let payload = [1u8, 2, 0, 100, 0, 2, 2, 0, 200, 0, 3, 4, 0, 7, 0, 0, 0];
-    let mut bytes = [255u8; 84];
+    let mut bytes = [255u8; Payload::LARGEST];
     wire::put_all(&mut bytes, 0, wire::front(&payload, used));
     Session {
         bytes,
@@ -65,18 +65,18 @@ pub fn payload(session: Session) {
     printing::bytes(Payload::note(payload));
 }
 
-pub fn fresh(room: &mut [u8; 22098]) {
+pub fn fresh(room: &mut [u8; Bus::ROOM]) {
     let bus = Bus::fresh();
     let sessions = bus.sessions;
     Bus::fill(room, sessions);
 }
 
-pub fn heard(room: &mut [u8; 22098], id: u32, data: &[u8]) {
+pub fn heard(room: &mut [u8; Bus::ROOM], id: u32, data: &[u8]) {
     print::answer(Bus::take(room, id, data));
 }
 
 // The sessions that are not fresh.
-pub fn left(room: &[u8; 22098]) {
+pub fn left(room: &[u8; Bus::ROOM]) {
     let sessions = Bus::read(room);
     let mut k: usize = 0;
     while k < 254 {

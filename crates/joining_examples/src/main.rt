@@ -15,6 +15,7 @@
 mod calls;
 mod print;
 
+use bus::Bus;
 use calls::made;
 use calls::take;
 use joining::Session;
@@ -28,7 +29,7 @@ fn main() {
 }
 
 fn all(text: &[u8]) {
-    let mut room = [0u8; 22098];
+    let mut room = [0u8; Bus::ROOM];
     let mut session = Session::fresh();
     let mut at: usize = 0;
     while at < text.len() {
@@ -38,7 +39,7 @@ fn all(text: &[u8]) {
 }
 
 // Prints one case; the session that it leaves.
-fn case(session: Session, room: &mut [u8; 22098], line: &[u8]) -> Session {
+fn case(session: Session, room: &mut [u8; Bus::ROOM], line: &[u8]) -> Session {
     let mut space = [0u8; 16];
     let n = cases::bytes(line, 2, &mut space);
     text(line);
@@ -53,7 +54,13 @@ fn case(session: Session, room: &mut [u8; 22098], line: &[u8]) -> Session {
     after
 }
 
-fn tried(session: Session, room: &mut [u8; 22098], line: &[u8], id: u32, data: &[u8]) -> Session {
+fn tried(
+    session: Session,
+    room: &mut [u8; Bus::ROOM],
+    line: &[u8],
+    id: u32,
+    data: &[u8],
+) -> Session {
     match wire::byte(line, 0) {
         b's' => return asked(line),
         b'f' => return take(session, id, data),
