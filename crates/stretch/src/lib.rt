@@ -3,17 +3,15 @@
 ghost use mathlib.Core.Path.{_≡_};
 ghost use mathlib.Core.Bool.{true, cond, _&&_};
 ghost use mathlib.Core.List.{[]};
-ghost use Prim.Native.Nat.{_+_, _≤_, _<_, min};
+ghost use Prim.Native.Nat.{_+_, _≤_, _<_};
 ghost use lib.ListN.{length};
 ghost use lib.Seq.{sets};
 ghost use Rattle.wire.specs.Bytes.{part};
 ghost use Rattle.text.specs.Text.{behind, rLine};
 ghost use Rattle.bus.specs.Room.{roomBytes, sessionsIn, roomOf};
 ghost use Rattle.joining.specs.Run.{sessionsAfter, answerTo};
-ghost use Rattle.values.specs.Range.{low};
 ghost use Rattle.window.specs.Rows.{rowCount, standing};
 ghost use Rattle.question.specs.Lines.{rowsOf};
-ghost use Rattle.slot.specs.Turn.{turn};
 ghost use Rattle.journal.specs.Log.{frameIn};
 ghost use Rattle.stretch.specs.Coming.{sizeAt, itemComes, slotComes, comes, hasRoom};
 ghost use Rattle.stretch.specs.Inner.{rowsUsed, Stored, shownText, seatedText, served, Serves, brought};
@@ -27,7 +25,6 @@ use journal::Log;
 use question::Question;
 use slot::Gauge;
 use slot::Shown;
-use slot::Turned;
 use values::Values;
 use window::Counts;
 use window::Window;
@@ -171,7 +168,16 @@ fn run(from: Standing, bus: &mut [u8; Bus::ROOM], bytes: &[u8], out: &mut [u8]) 
                 continue;
             }
             let held = slots[here];
-            let turned = turn(held, brought, &losses, &shakes, &numbers, rows);
+            let turned = slot::turn(
+                held,
+                brought.number,
+                brought.values,
+                brought.gone,
+                &losses,
+                &shakes,
+                &numbers,
+                rows,
+            );
             at = journal::put_search(out, at, items, here as u8, turned.searched, turned.steps);
             let left = turned.question;
             slots[here] = left;
@@ -215,8 +221,8 @@ fn goes_on(rows: u16, bytes: &[u8], i: usize, room: usize, at: usize) -> bool
     requires { ⌜ i ≤ length (now bytes) ⌝ }
     ensures { λ r. ⌜ r ≡ (comes rows (now (bytes .entry)) i && hasRoom room at) ⌝ }
 {
-    if comes_at(rows, bytes, i) {
-        return has_room(room, at);
+    if has_room(room, at) {
+        return comes_at(rows, bytes, i);
     }
     false
 }
@@ -438,27 +444,4 @@ fn not_brought(refused: bool, code: u8) -> Brought
         row: 0,
         held: 0,
     }
-}
-
-// A question's turn where a report enters, over the first rows of those that are lent.
-fn turn<'a>(
-    question: Question,
-    brought: Brought,
-    losses: &'a [u16; Window::ROWS],
-    shakes: &'a [u16; Window::ROWS],
-    numbers: &'a [u32; Window::ROWS],
-    rows: usize,
-) -> Turned
-    ensures { λ r. ⌜ r ≡ turn question (record { number = brought .number; values = low (brought .values) }) (brought .gone) (standing (rowsOf (now (losses .entry)) (now (shakes .entry)) (now (numbers .entry))) (min rows rowCount)) ⌝ }
-{
-    slot::turn(
-        question,
-        brought.number,
-        brought.values,
-        brought.gone,
-        losses,
-        shakes,
-        numbers,
-        rows,
-    )
 }
