@@ -99,7 +99,6 @@ module _ (log : Log) where
     pub silent : gives a .refused ≡ false
     pub next : gives a .number ≡ w .counts .entered + 1
     pub oldest : gives a .gone ≡ outgoing w
-    pub place : record { row = gives a .row; held = gives a .held } ≡ placeFor (w .counts)
     pub free : enterRefusal (w .counts) (gives a .values) ≡ 0
     pub is : answered log a ≡ enterItem log (gives a .values)
 
@@ -110,7 +109,7 @@ module _ (log : Log) where
   brought-some (Complete r) e = go (tested (eqb (enterRefusal (w .counts) (r .values)) 0)) e
     where
       go : Tested (eqb (enterRefusal (w .counts) (r .values)) 0) → (gives (Complete r) .number ≡ 0 → ⊥) → Enters (Complete r)
-      go (passed t) z = record { silent = rw t; next = rw t; oldest = rw t; place = refl; free = eqb-true (enterRefusal (w .counts) (r .values)) 0 t; is = refl }
+      go (passed t) z = record { silent = rw t; next = rw t; oldest = rw t; free = eqb-true (enterRefusal (w .counts) (r .values)) 0 t; is = refl }
       go (failed t) z = absurd (z (rw t))
 
   pub enter-so : (v : Values) → enterRefusal (w .counts) v ≡ 0
@@ -137,7 +136,8 @@ module _ (log : Log) where
 
 -- ---- a whole frame
 
-row-fits : (w : Window) → sized (w .counts .size) ≡ true → {p : Place} → p ≡ placeFor (w .counts) → p .row < 1024
+-- The row is one of the window's.
+pub row-fits : (w : Window) → sized (w .counts .size) ≡ true → {p : Place} → p ≡ placeFor (w .counts) → p .row < 1024
 unfolding placeFor
 row-fits w window {p} q =
     let range = size-range (w .counts .size) window in
@@ -165,16 +165,11 @@ module _ (log : Log) (window : sized (log .board .window .counts .size) ≡ true
     enters : Enters log answer
     enters = brought-some log answer (λ z. some (ap (λ (h : Brought). h .number) e ∙ z))
 
-    placed : record { row = b .row; held = b .held } ≡ placeFor (log .board .window .counts)
-    placed = ap (λ (g : Brought). record { row = g .row; held = g .held }) e ∙ enters .place
-
-    pub row-in : b .row < 1024
-    row-in = row-fits (log .board .window) window placed
-
     -- The report's row takes it.
-    pub row-takes : record { losses = set (log .board .window .losses) (b .row) (b .values .loss); shakes = set (log .board .window .shakes) (b .row) (b .values .shake); numbers = set (log .board .window .numbers) (b .row) (b .number); counts = record { size = log .board .window .counts .size; entered = b .number; held = b .held } } ≡ added (log .board .window) (b .values)
+    pub row-takes : {p : Place} → p ≡ placeFor (log .board .window .counts)
+        → record { losses = set (log .board .window .losses) (p .row) (b .values .loss); shakes = set (log .board .window .shakes) (p .row) (b .values .shake); numbers = set (log .board .window .numbers) (p .row) (b .number); counts = record { size = log .board .window .counts .size; entered = b .number; held = p .held } } ≡ added (log .board .window) (b .values)
     unfolding placeFor
-    row-takes =
+    row-takes placed =
         let w = log .board .window in
         let may = enterable (w .counts) (gives log answer .values) (enters .free) in
         let number = ap (λ (h : Brought). h .number) e ∙ enters .next in

@@ -12,7 +12,8 @@ use Rattle.wire.proofs.Fields.{length-part}
 use Rattle.laws.proofs.Tests.{and-both}
 use Rattle.values.specs.Range.{low}
 use Rattle.window.specs.declared.Window.{Window}
-use Rattle.window.specs.Rows.{sized, standing, added}
+use Rattle.window.specs.declared.Place.{Place}
+use Rattle.window.specs.Rows.{sized, standing, added, placeFor}
 use Rattle.question.specs.declared.Question.{Question}
 use Rattle.question.specs.Lines.{rowsOf}
 use Rattle.slot.specs.declared.gauge.Gauge.{Gauge}
@@ -34,7 +35,7 @@ use Rattle.stretch.specs.Inner.{served, Serves, brought, Stored}
 use Rattle.stretch.specs.Doing.{Did, Runs, itemAt, windowOf, logIn}
 use Rattle.stretch.proofs.Coming.{Item, Slot, has-window, a-frame, for-slot}
 use Rattle.stretch.proofs.Serving.{slot-here}
-use Rattle.stretch.proofs.Frames.{report, turn, turned-is, turn-stays, turn-idle, frame-none, row-in, row-takes, frame-enters}
+use Rattle.stretch.proofs.Frames.{report, turn, turned-is, turn-stays, turn-idle, frame-none, row-fits, row-takes, frame-enters}
 use Rattle.stretch.proofs.Turns.{Turning, turning-none, turning-more, turning-still, turning-rest, still-old}
 use Rattle.stretch.proofs.Gauging.{Gauged, gauged-of, gauge-at, gauges-set}
 use Rattle.stretch.proofs.Rowing.{Rowed, rowed-with, rowed-all}
@@ -177,16 +178,16 @@ module _ (log₀ : Log) (bytes out₀ : List ℕ) (at₀ : ℕ) where
       is-frame : itemAt log bytes i ≡ itemDone log 18 v
       is-frame = (λ j. itemDone log (frame-there is .starts j) (part (i + 3) (frame-there is .long j) bytes)) ∙ ap (itemDone log 18) (sym e-v)
 
-      pub row-there : (b .number ≡ 0 → ⊥) → b .row < 1024
-      row-there some = row-in log window v long e-items (left .1) e-b some
+      pub row-there : {p : Place} → p ≡ placeFor (w .counts) → p .row < 1024
+      row-there e = row-fits w window e
 
       -- A report enters: the slots have their turns.
-      pub turns-begin : (b .number ≡ 0 → ⊥) → {losses shakes numbers : List ℕ} {rows₁ : ℕ} → Stored (w .losses) (w .shakes) (w .numbers) rows b rows₁ losses shakes numbers
+      pub turns-begin : {r : Place} → r ≡ placeFor (w .counts) → {losses shakes numbers : List ℕ} {rows₁ : ℕ} → Stored (w .losses) (w .shakes) (w .numbers) rows (r .row) b rows₁ losses shakes numbers
           → {at₁ : ℕ} {out₁ : List ℕ} → (at₁ ≡ behind at (cond (b .refused) (rLine items₁ (b .code)) [])) × (out₁ ≡ sets out at (cond (b .refused) (rLine items₁ (b .code)) []))
-          → Turns b (windowOf (record { size = w .counts .size; entered = b .number; held = b .held }) losses shakes numbers) items₁ rows₁ slots used out₁ at₁ 0 slots gauges at₁ out₁
-      turns-begin some {rows₁ = rows₁} st p =
+          → Turns b (windowOf (record { size = w .counts .size; entered = b .number; held = r .held }) losses shakes numbers) items₁ rows₁ slots used out₁ at₁ 0 slots gauges at₁ out₁
+      turns-begin {r} e-r {rows₁ = rows₁} st p =
           turns-none (l .gauged) (l .all-slots) (omega (arith, kept (put p), l .same, small)) (place-fits (put p))
-          (subst (λ (ns : List ℕ). Rowed ns rows₁) (sym (st .numbers)) (rowed-with (l .rowed) (b .row) (b .number) (row-there some) (st .used)))
+          (subst (λ (ns : List ℕ). Rowed ns rows₁) (sym (st .numbers)) (rowed-with (l .rowed) (r .row) (b .number) (row-there e-r) (st .used)))
 
       -- It brings no report.
       pub stands-none : b .number ≡ 0 → {at₁ i₁ : ℕ} {out₁ : List ℕ} → (at₁ ≡ behind at (cond (b .refused) (rLine items₁ (b .code)) [])) × (out₁ ≡ sets out at (cond (b .refused) (rLine items₁ (b .code)) [])) → i₁ ≡ i + 15
@@ -203,15 +204,15 @@ module _ (log₀ : Log) (bytes out₀ : List ℕ) (at₀ : ℕ) where
           }
 
       -- A report enters, and the slots in use have had their turns.
-      pub stands-enters : (b .number ≡ 0 → ⊥) → {losses shakes numbers : List ℕ} {rows₁ : ℕ} → Stored (w .losses) (w .shakes) (w .numbers) rows b rows₁ losses shakes numbers
+      pub stands-enters : (b .number ≡ 0 → ⊥) → {r : Place} → r ≡ placeFor (w .counts) → {losses shakes numbers : List ℕ} {rows₁ : ℕ} → Stored (w .losses) (w .shakes) (w .numbers) rows (r .row) b rows₁ losses shakes numbers
           → {at₁ i₁ : ℕ} {out₁ : List ℕ} → (at₁ ≡ behind at (cond (b .refused) (rLine items₁ (b .code)) [])) × (out₁ ≡ sets out at (cond (b .refused) (rLine items₁ (b .code)) [])) → i₁ ≡ i + 15
-          → {n at₂ : ℕ} {slots₂ : List Question} {gauges₂ : List Gauge} {out₂ : List ℕ} → Turns b (windowOf (record { size = w .counts .size; entered = b .number; held = b .held }) losses shakes numbers) items₁ rows₁ slots used out₁ at₁ n slots₂ gauges₂ at₂ out₂ → used ≤ n
-          → Stands items₁ (windowOf (record { size = w .counts .size; entered = b .number; held = b .held }) losses shakes numbers) rows₁ slots₂ gauges₂ used bus₁ i₁ at₂ out₂
-      stands-enters some {losses} {shakes} {numbers} {rows₁} st {at₁} {i₁} {out₁} p e-i {n} {at₂} {slots₂} {gauges₂} {out₂} m end-of =
-          let new : Window = windowOf (record { size = w .counts .size; entered = b .number; held = b .held }) losses shakes numbers in
+          → {n at₂ : ℕ} {slots₂ : List Question} {gauges₂ : List Gauge} {out₂ : List ℕ} → Turns b (windowOf (record { size = w .counts .size; entered = b .number; held = r .held }) losses shakes numbers) items₁ rows₁ slots used out₁ at₁ n slots₂ gauges₂ at₂ out₂ → used ≤ n
+          → Stands items₁ (windowOf (record { size = w .counts .size; entered = b .number; held = r .held }) losses shakes numbers) rows₁ slots₂ gauges₂ used bus₁ i₁ at₂ out₂
+      stands-enters some {r} e-r {losses} {shakes} {numbers} {rows₁} st {at₁} {i₁} {out₁} p e-i {n} {at₂} {slots₂} {gauges₂} {out₂} m end-of =
+          let new : Window = windowOf (record { size = w .counts .size; entered = b .number; held = r .held }) losses shakes numbers in
           let grown : new ≡ added w (b .values) =
-          (λ j. record { losses = st .losses j; shakes = st .shakes j; numbers = st .numbers j; counts = record { size = w .counts .size; entered = b .number; held = b .held } })
-          ∙ row-takes log window v long e-items (left .1) e-b some in
+          (λ j. record { losses = st .losses j; shakes = st .shakes j; numbers = st .numbers j; counts = record { size = w .counts .size; entered = b .number; held = r .held } })
+          ∙ row-takes log window v long e-items (left .1) e-b some e-r in
           let idle : (k : ℕ) → n ≤ k → k < length slots → record { searched = false; steps = 0; question = getD slots k noQuestion } ≡ turn b new (getD slots k noQuestion) =
           λ k h f. turn-idle b new (getD slots k noQuestion) (l .gauged .idle k (omega (arith, m .within)) (omega (arith, l .all-slots))) in
           let all = turning-rest (turn b new) items₁ slots out₁ at₁ (32 - n) n (omega (arith, m .within, m .few, l .all-slots)) (m .turning) idle (m .small) (place-fits (m .turning .printed)) in

@@ -29,11 +29,11 @@ abbrev pub withRow : (rows row : ℕ) → ℕ
 withRow rows row = cond (leb rows row) (row + 1) rows
 
 -- A report is stored in its row, and so many rows are in use then.
-pub record Stored (losses₀ shakes₀ numbers₀ : List ℕ) (rows : ℕ) (b : Brought) (n : ℕ) (losses₁ shakes₁ numbers₁ : List ℕ) : Type 0 where
-  pub used : n ≡ withRow rows (b .row)
-  pub losses : losses₁ ≡ set losses₀ (b .row) (b .values .loss)
-  pub shakes : shakes₁ ≡ set shakes₀ (b .row) (b .values .shake)
-  pub numbers : numbers₁ ≡ set numbers₀ (b .row) (b .number)
+pub record Stored (losses₀ shakes₀ numbers₀ : List ℕ) (rows row : ℕ) (b : Brought) (n : ℕ) (losses₁ shakes₁ numbers₁ : List ℕ) : Type 0 where
+  pub used : n ≡ withRow rows row
+  pub losses : losses₁ ≡ set losses₀ row (b .values .loss)
+  pub shakes : shakes₁ ≡ set shakes₀ row (b .values .shake)
+  pub numbers : numbers₁ ≡ set numbers₀ row (b .number)
 
 -- What showing a slot prints that has that question in it.
 unfoldable pub shownText : (item slot : ℕ) → Question → List ℕ
@@ -64,9 +64,8 @@ pub record Serves (done : Served) (room : List ℕ) (at : ℕ) (q : Question) (n
 
 -- What a frame's answer brings to a window: the line of a refusal, or a report that enters.
 abbrev pub brought : Answer → Counts → Brought
-brought (Refused n) c = record { refused = true; code = n; number = 0; gone = 0; values = record { loss = 0; shake = 0 }; row = 0; held = 0 }
-brought Kept c = record { refused = false; code = 0; number = 0; gone = 0; values = record { loss = 0; shake = 0 }; row = 0; held = 0 }
+brought (Refused n) c = record { refused = true; code = n; number = 0; gone = 0; values = record { loss = 0; shake = 0 } }
+brought Kept c = record { refused = false; code = 0; number = 0; gone = 0; values = record { loss = 0; shake = 0 } }
 brought (Complete r) c =
     let a = arrival c (r .values) in
-    let p = placeFor c in
-    record { refused = not (eqb (a .refusal) 0); code = a .refusal; number = a .number; gone = a .oldest; values = r .values; row = p .row; held = p .held }
+    record { refused = not (eqb (a .refusal) 0); code = a .refusal; number = a .number; gone = a .oldest; values = r .values }

@@ -27,6 +27,7 @@ use slot::Gauge;
 use slot::Shown;
 use values::Values;
 use window::Counts;
+use window::Place;
 use window::Window;
 use wire::Field;
 
@@ -37,16 +38,14 @@ pub struct Stretch {
     pub at: usize,
 }
 
-// What a frame brought: the line of a refusal, or a report with its number, the number of the report that is gone then, 0 for
-// none, the report's row, and how many are held with it.
+// What a frame brought: the line of a refusal, or a report with its number, and the number of the report that is gone then, 0 for
+// none.
 struct Brought {
     refused: bool,
     code: u8,
     number: u32,
     gone: u32,
     values: Values,
-    row: u16,
-    held: u16,
 }
 
 // Where `run` starts and ends: the items' count and the board, how many bytes were taken, and the place behind the text.
@@ -156,9 +155,10 @@ fn run(from: Standing, bus: &mut [u8; Bus::ROOM], bytes: &[u8], out: &mut [u8]) 
         if brought.number == 0 {
             continue;
         }
+        let place = Window::place(counts);
         counts.entered = brought.number;
-        counts.held = brought.held;
-        rows = put_row(&mut losses, &mut shakes, &mut numbers, rows, brought);
+        counts.held = place.held;
+        rows = put_row(&mut losses, &mut shakes, &mut numbers, rows, place, brought);
         let mut slot: usize = 0;
         while slot < used {
             let here = slot;
@@ -306,12 +306,13 @@ fn put_row(
     shakes: &mut [u16; Window::ROWS],
     numbers: &mut [u32; Window::ROWS],
     rows: usize,
+    place: Place,
     brought: Brought,
 ) -> usize
-    requires { ⌜ brought .row < rowCount ⌝ }
-    ensures { λ r. ⌜ Stored (now (losses .entry)) (now (shakes .entry)) (now (numbers .entry)) rows brought r (now (losses .exit)) (now (shakes .exit)) (now (numbers .exit)) ⌝ }
+    requires { ⌜ place .row < rowCount ⌝ }
+    ensures { λ r. ⌜ Stored (now (losses .entry)) (now (shakes .entry)) (now (numbers .entry)) rows (place .row) brought r (now (losses .exit)) (now (shakes .exit)) (now (numbers .exit)) ⌝ }
 {
-    let row = brought.row as usize;
+    let row = place.row as usize;
     let values = brought.values;
     losses[row] = values.loss;
     shakes[row] = values.shake;
@@ -418,22 +419,19 @@ fn brings(answer: Answer, counts: Counts) -> Brought
         Answer::Complete(r) => {
             let values = r.values;
             let arrival = Arrival::of(counts, values);
-            let place = Window::place(counts);
             Brought {
                 refused: arrival.refusal != 0,
                 code: arrival.refusal,
                 number: arrival.number,
                 gone: arrival.oldest,
                 values,
-                row: place.row,
-                held: place.held,
             }
         }
     }
 }
 
 fn not_brought(refused: bool, code: u8) -> Brought
-    ensures { λ r. ⌜ r ≡ record { refused = refused; code = code; number = 0; gone = 0; values = record { loss = 0; shake = 0 }; row = 0; held = 0 } ⌝ }
+    ensures { λ r. ⌜ r ≡ record { refused = refused; code = code; number = 0; gone = 0; values = record { loss = 0; shake = 0 } } ⌝ }
 {
     Brought {
         refused,
@@ -441,7 +439,5 @@ fn not_brought(refused: bool, code: u8) -> Brought
         number: 0,
         gone: 0,
         values: Values { loss: 0, shake: 0 },
-        row: 0,
-        held: 0,
     }
 }

@@ -1,10 +1,9 @@
 -- By the three answers.
 -- Assumes nothing.
-use mathlib.Core.Path.{ap₂}
+use mathlib.Core.Path.{ap}
 use mathlib.Core.Bool.{not}
 use lib.Dec.{eqb}
 use Rattle.board.specs.declared.Arrival.{Arrival}
-use Rattle.window.specs.declared.Place.{Place}
 use borrow.Author.Needs.{needs}
 use Rattle.stretch.proofs.brings.Statement.{statement}
 use Rattle.stretch.proofs.brings.Tie as tie
@@ -27,9 +26,6 @@ enum-known-answer-2 c = search needs
 of-requires : tie.Need-of-requires
 of-requires c κs = search needs
 
-place-requires : tie.Need-place-requires
-place-requires c κs = search needs
-
 returns : tie.Need-returns
 returns c = rw (c .before .before .answer .given .1) (c .not-brought .ensures)
 
@@ -38,10 +34,10 @@ returns-2 c = rw (c .before .enum-told .given .1) (c .not-brought2 .ensures)
 
 returns-3 : tie.Need-returns-3
 returns-3 c =
-    let known = c .before .before .before .before .before .answer2 .given in
+    let known = c .before .before .before .before .answer2 .given in
     let r = known .0 .0 in
     rw (known .1)
-    (ap₂ (λ (a : Arrival) (p : Place). record { refused = not (eqb (a .refusal) 0); code = a .refusal; number = a .number; gone = a .oldest; values = r .values; row = p .row; held = p .held }) (c .before .before .of .ensures) (c .before .place .ensures))
+    (ap (λ (a : Arrival). record { refused = not (eqb (a .refusal) 0); code = a .refusal; number = a .number; gone = a .oldest; values = r .values }) (c .before .of .ensures))
 
 pub brings-spec : {M : Type 1} → statement M
 brings-spec =
@@ -53,7 +49,6 @@ brings-spec =
     not-brought-requires-2
     enum-known-answer-2
     of-requires
-    place-requires
     returns
     returns-2
     returns-3)

@@ -200,26 +200,29 @@ loop-again-2 c =
     stands-none _ _ _ _ (small (for-bus f)) (for-bus f .before .before .loop .inv) (for-bus f .before .goes-on .ensures) (for-bus f .if1 .taken) (f .before .byte .ensures) (f .before .before .next-item .ensures) (f .if2 .left)
     (twelve (for-bus f .before .before .loop .i) (now (args-at (for-bus f) .args .bytes))) (c .before .before .before .before .before .before .hear .ensures .0) (c .before .before .before .before .before .before .hear .ensures .1) (c .if3 .taken) (c .before .before .before .before .put-refusal .ensures) refl
 
+place-requires : tie.Need-place-requires Inv-loop2 μ-loop2 Inv-loop μ-loop
+place-requires c κs = search needs
+
 put-row-requires : tie.Need-put-row-requires Inv-loop2 μ-loop2 Inv-loop μ-loop
 put-row-requires c κs =
-    let f = (c .before .before .before .before .before .before .before .before .before .before .before .before) in
+    let f = (c .before .before .before .before .before .before .before .before .before .before .before .before .before) in
     row-there _ _ _ _ (small (for-bus f)) (for-bus f .before .before .loop .inv) (for-bus f .before .goes-on .ensures) (for-bus f .if1 .taken) (f .before .byte .ensures) (f .before .before .next-item .ensures) (f .if2 .left)
-    (twelve (for-bus f .before .before .loop .i) (now (args-at (for-bus f) .args .bytes))) (c .before .before .before .before .before .before .before .before .before .hear .ensures .0) (c .before .before .before .before .before .before .before .before .before .hear .ensures .1) (c .before .before .before .if3 .left)
+    (twelve (for-bus f .before .before .loop .i) (now (args-at (for-bus f) .args .bytes))) (c .before .before .before .before .before .before .before .before .before .before .hear .ensures .0) (c .before .before .before .before .before .before .before .before .before .before .hear .ensures .1) (c .before .before .before .place .ensures)
 
 loop2-holds : tie.Need-loop2-holds Inv-loop2 μ-loop2 Inv-loop μ-loop
 loop2-holds c =
-    let f = (c .before .before .before .before .before .before .before .before .before .before .before .before .before) in
+    let f = (c .before .before .before .before .before .before .before .before .before .before .before .before .before .before) in
     turns-begin _ _ _ _ (small (for-bus f)) (for-bus f .before .before .loop .inv) (for-bus f .before .goes-on .ensures) (for-bus f .if1 .taken) (f .before .byte .ensures) (f .before .before .next-item .ensures) (f .if2 .left)
-    (twelve (for-bus f .before .before .loop .i) (now (args-at (for-bus f) .args .bytes))) (c .before .before .before .before .before .before .before .before .before .before .hear .ensures .0) (c .before .before .before .before .before .before .before .before .before .before .hear .ensures .1) (c .before .before .before .before .if3 .left) (c .put-row .ensures) (c .before .before .before .before .before .before .before .before .put-refusal .ensures)
+    (twelve (for-bus f .before .before .loop .i) (now (args-at (for-bus f) .args .bytes))) (c .before .before .before .before .before .before .before .before .before .before .before .hear .ensures .0) (c .before .before .before .before .before .before .before .before .before .before .before .hear .ensures .1) (c .before .before .before .before .place .ensures) (c .put-row .ensures) (c .before .before .before .before .before .before .before .before .before .put-refusal .ensures)
 
 loop-less-3 : tie.Need-loop-less-3 Inv-loop2 μ-loop2 Inv-loop μ-loop
-loop-less-3 c = omega (arith, frame-comes (c .before .before .before .before .before .before .before .before .before .before .before .before .before .before .before) .there)
+loop-less-3 c = omega (arith, frame-comes (c .before .before .before .before .before .before .before .before .before .before .before .before .before .before .before .before) .there)
 
 loop-again-3 : tie.Need-loop-again-3 Inv-loop2 μ-loop2 Inv-loop μ-loop
 loop-again-3 c =
-    let f = (c .before .before .before .before .before .before .before .before .before .before .before .before .before .before .before) in
+    let f = (c .before .before .before .before .before .before .before .before .before .before .before .before .before .before .before .before) in
     stands-enters _ _ _ _ (small (for-bus f)) (for-bus f .before .before .loop .inv) (for-bus f .before .goes-on .ensures) (for-bus f .if1 .taken) (f .before .byte .ensures) (f .before .before .next-item .ensures) (f .if2 .left)
-    (twelve (for-bus f .before .before .loop .i) (now (args-at (for-bus f) .args .bytes))) (c .before .before .before .before .before .before .before .before .before .before .before .before .hear .ensures .0) (c .before .before .before .before .before .before .before .before .before .before .before .before .hear .ensures .1) (c .before .before .before .before .before .before .if3 .left) (c .before .before .put-row .ensures) (c .before .before .before .before .before .before .before .before .before .before .put-refusal .ensures) refl (c .before .loop2 .inv) (omega arith)
+    (twelve (for-bus f .before .before .loop .i) (now (args-at (for-bus f) .args .bytes))) (c .before .before .before .before .before .before .before .before .before .before .before .before .before .hear .ensures .0) (c .before .before .before .before .before .before .before .before .before .before .before .before .before .hear .ensures .1) (c .before .before .before .before .before .before .before .if3 .left) (c .before .before .before .before .before .before .place .ensures) (c .before .before .put-row .ensures) (c .before .before .before .before .before .before .before .before .before .before .before .put-refusal .ensures) refl (c .before .loop2 .inv) (omega arith)
 
 add-slot : tie.Need-add-slot Inv-loop2 μ-loop2 Inv-loop μ-loop
 add-slot c = omega (arith, in-array c)
@@ -327,6 +330,7 @@ run-spec =
     add-i-3
     loop-less-2
     loop-again-2
+    place-requires
     put-row-requires
     loop2-holds
     loop-less-3
