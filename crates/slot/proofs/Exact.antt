@@ -27,7 +27,7 @@ use Rattle.slot.specs.Asking.{searchedAmong, setIn}
 use Rattle.slot.specs.Turn.{listed, turn}
 use Rattle.slot.specs.declared.Seated.{Seated}
 use Rattle.slot.specs.declared.Turned.{Turned}
-use Rattle.slot.proofs.Standing.{Searches, Slot, empty, stands, searches, searches-on, step-none, step-no-more, step-further}
+use Rattle.slot.proofs.Standing.{Slot, empty, stands, searches, searches-on, step-none, step-no-more, step-further}
 use Rattle.slot.proofs.Setting.{set-asks, set-searched}
 use Rattle.slot.proofs.Turns.{among-held, listed-keeps, turn-searched, turn-when}
 
