@@ -1,5 +1,5 @@
 -- What is promised of every reached board, read off what is kept: it is fit but for questions in the middle of their search (demand 2's states), every finished question has the
--- best k of the held reports, and the searches that setting and entering run are exact (demand 3).
+-- best k of the held reports, and the searches that setting, entering and single steps run are exact (demand 3).
 -- Assumes nothing.
 use mathlib.Core.Path.{_≡_, refl, sym, ap, _∙_, subst}
 use mathlib.Core.Logic.{_⊎_, inl, inr, ⊎-elim, _↔_}
@@ -20,9 +20,9 @@ use Rattle.ranking.proofs.Entries.{above-strict}
 use Rattle.window.specs.Rows.{heldReports, fitWindow, added}
 use Rattle.window.specs.History.{numbered, latest}
 use Rattle.question.specs.declared.Question.{Question}
-use Rattle.question.specs.Lines.{lines, emptySlot, finished, inRows}
+use Rattle.question.specs.Lines.{lines, emptySlot, stepsTaken, finished, inRows}
 use Rattle.list.specs.Lines.{allOf}
-use Rattle.question.specs.Calls.{fitQuestion}
+use Rattle.question.specs.Calls.{fitQuestion, stepCall}
 use Rattle.question.proofs.Stored.{lines-asked}
 use Rattle.list.proofs.Blank.{all-in, all-is}
 use Rattle.slot.specs.declared.Turned.{Turned}
@@ -107,6 +107,14 @@ module _ {n : ℕ} {past : List Values} {b : Board} (reached : Reached n past b)
           (lines-asked (s .k) (s .rule) (top (s .rule) (s .k) (heldReports (b .window))) (s .next) (omega (arith, s .asks .small, length-best-le (above (s .rule)) (above-strict (s .rule)) (s .k) (entries (s .rule) (heldReports (b .window))))))
 
 -- ---- demand 3
+
+-- Stepping: where a step is not refused and leaves the question finished, the search that was begun is exact, and the question tells its steps. (A question that was finished before has
+-- the marks of its last search, and its step is refused.)
+pub step-exact : {n : ℕ} {past : List Values} {b : Board} → Reached n past b → (slot : ℕ) → slot < 32
+    → stepCall (b .window) (slotAt b slot) .refusal ≡ 0
+    → finished (stepCall (b .window) (slotAt b slot) .question) ≡ true
+    → Exactly (b .window) (slotAt b slot .k) (slotAt b slot .rule) (stepsTaken (stepCall (b .window) (slotAt b slot) .question)) (stepCall (b .window) (slotAt b slot) .question)
+step-exact {b = b} reached slot h t done = one.step-exact (b .window) (reached-window reached) (slotAt b slot) (slot-of b (kept reached) slot h) t done
 
 -- Of a reached board that is fit, and a call that is not refused:
 module _ {n : ℕ} {past : List Values} {b : Board} (reached : Reached n past b) (fit : fitBoard b ≡ true) where

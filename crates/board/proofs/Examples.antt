@@ -4,11 +4,11 @@ use mathlib.Core.Path.{_≡_, refl, sym, ap, _∙_, subst}
 use mathlib.Core.Logic.{inl}
 use mathlib.Core.Bool.{Bool, true, false, not}
 use mathlib.Core.List.{List, [], _∷_, _++_}
-use Prim.Native.Nat.{ℕ, _+_, min, _≤_, _<_}
+use Prim.Native.Nat.{ℕ, zero, suc, _+_, min, _≤_, _<_}
 use native.Mathlib.Omega.{arith}
 use lib.IntN.{pos}
-use lib.ListN.{length, getD, getD-replicate}
-use lib.Seq.{getD-set-same}
+use lib.ListN.{length, getD, replicate, length-map, getD-replicate}
+use lib.Seq.{getD-set-same, getD-set-other, ext-getD}
 use Rattle.ranking.specs.Cells.{ruleOf, fitRule, score, cell, bestScore, before, visiting}
 use Rattle.search.specs.Search.{steps}
 use Rattle.ranking.specs.Standing.{Held, Entry, goesFirst, above, entries, top, searchOf}
@@ -30,7 +30,7 @@ use Rattle.slot.specs.Turn.{listed, later, lists}
 use Rattle.slot.specs.Gauges.{noQuestion}
 use Rattle.slot.proofs.Standing.{Stands, stands-ended}
 use Rattle.slot.proofs.Setting.{set-refusal, set-searched, set-stands}
-use Rattle.slot.proofs.Turns.{among-held, listed-keeps, turn-searched, turn-kept, turn-when}
+use Rattle.slot.proofs.Turns.{among-held, listed-keeps, turn-searched, turn-kept, turn-when, empty-stays}
 use Rattle.board.specs.Work.{slotAt, freshBoard, leaving, outgoing, newReport, turned, enterRefusal, enterWork}
 use Rattle.board.specs.Calls.{fitBoard, setCall, enterCall}
 use Rattle.board.specs.Reached.{Reached, pastAfter, fresh, enter}
@@ -57,18 +57,19 @@ named n past v k rule =
     (allOf (later (leaving (countsAt n (length past))))
     (top rule k (record { number = length past + 1; values = v } ∷ latest n (numbered 1 past))))
 
--- A reached fit board with a question of that k and that rule in slot 0.
+-- A reached fit board with a question of that k and that rule in slot 0, and nothing in the others.
 record Stage (n : ℕ) (past : List Values) (k : ℕ) (rule : Rule) (b : Board) : Type 0 where
   reached : Reached n past b
   fit : fitBoard b ≡ true
   stood : Stands (heldReports (b .window)) (slotAt b 0)
   at-k : slotAt b 0 .k ≡ k
   at-rule : slotAt b 0 .rule ≡ rule
+  alone : (slot : ℕ) → slot < 32 → 1 ≤ slot → slotAt b slot ≡ emptySlot
 
--- What the next entry answers of slot 0.
+-- What the next entry answers of slot 0, and that it searches no other.
 record Says (n : ℕ) (past : List Values) (v : Values) (k : ℕ) (rule : Rule) (r : Entered) : Type 0 where
   taken : r .refusal ≡ 0
-  searched-is : getD (r .searched) 0 false ≡ named n past v k rule
+  searched-is : r .searched ≡ named n past v k rule ∷ replicate 31 false
   steps-are : named n past v k rule ≡ true → getD (r .steps) 0 0 ≡ steps (searchOf rule) k (latest n (numbered 1 (past ++ (v ∷ []))))
   list-is : lines (slotAt (r .board) 0) ≡ top rule k (latest n (numbered 1 (past ++ (v ∷ []))))
 
@@ -98,8 +99,19 @@ module _ {n : ℕ} {past : List Values} {k : ℕ} {rule : Rule} (b : Board) (g :
   its-rule : s .rule ≡ rule
   its-rule = sym (ap (λ (q : Question). q .rule) (s .is)) ∙ g .at-rule
 
+  answers-of : (slot : ℕ) (h : slot < 32) → Answers (g .reached) (g .fit) v may-enter slot h (enterCall b v)
+  answers-of slot h = enter-answers (g .reached) (g .fit) v may-enter slot h
+
   answers : Answers (g .reached) (g .fit) v may-enter 0 (omega arith) (enterCall b v)
-  answers = enter-answers (g .reached) (g .fit) v may-enter 0 (omega arith)
+  answers = answers-of 0 (omega arith)
+
+  -- An empty slot has no search, and stays empty.
+  still : (slot : ℕ) → slot < 32 → 1 ≤ slot → turned (b .window) v (slotAt b slot) ≡ record { searched = false; steps = 0; question = emptySlot }
+  still slot h m = ap (turned (b .window) v) (g .alone slot h m) ∙ empty-stays (newReport (b .window) v) (outgoing (b .window)) (inRows (added (b .window) v))
+
+  for-each-slot : length (enterCall b v .searched) ≡ 32
+  unfolding enterCall enterWork
+  for-each-slot = ap (λ (r : Entered). length (r .searched)) (if-so _ _ (g .fit) ∙ zero-is _ _ may-enter) ∙ length-map (b .slots) (λ q. turned (b .window) v q .searched) ∙ kept (g .reached) .many
 
   next-window : enterCall b v .board .window ≡ added (b .window) v
   unfolding enterCall enterWork
@@ -165,13 +177,24 @@ module _ {n : ℕ} {past : List Values} {k : ℕ} {rule : Rule} (b : Board) (g :
         stood = subst (λ w. Stands (heldReports w) (slotAt (enterCall b v .board) 0)) (sym next-window) (subst (Stands (heldReports (added (b .window) v))) (sym (answers .left-as)) stands-next);
         at-k = ap (λ (q : Question). q .k) (answers .left-as) ∙ left-k .0;
         at-rule = ap (λ (q : Question). q .rule) (answers .left-as) ∙ left-k .1;
+        alone = λ slot h m. answers-of slot h .left-as ∙ ap (λ (r : Turned). r .question) (still slot h m);
       }
+
+  -- The set of questions searched: at most that in slot 0.
+  searched-all : enterCall b v .searched ≡ named n past v k rule ∷ replicate 31 false
+  searched-all = ext-getD false (enterCall b v .searched) (named n past v k rule ∷ replicate 31 false) for-each-slot each
+    where
+      each : (slot : ℕ) → slot < length (enterCall b v .searched) → getD (enterCall b v .searched) slot false ≡ getD (named n past v k rule ∷ replicate 31 false) slot false
+      each zero h = answers .set-of-searched ∙ turn-when (slotAt b 0) new (outgoing (b .window)) (inRows (added (b .window) v)) ∙ named-is
+      each (suc slot) h =
+          let within : suc slot < 32 = omega (arith, for-each-slot) in
+          answers-of (suc slot) within .set-of-searched ∙ ap (λ (r : Turned). r .searched) (still (suc slot) within (omega arith)) ∙ sym (getD-replicate 31 slot false false (omega arith))
 
   says : Says n past v k rule (enterCall b v)
   says =
       record {
         taken = answered;
-        searched-is = answers .set-of-searched ∙ turn-when (slotAt b 0) new (outgoing (b .window)) (inRows (added (b .window) v)) ∙ named-is;
+        searched-is = searched-all;
         steps-are = λ h. answers .steps-of ∙ ap (λ (r : Turned). r .steps) (searched-so (named-is ∙ h)) ∙ (λ i. steps (searchOf (p-rule i)) (p-k i) (next-held i));
         list-is =
             demand-2 reached-next 0 (omega arith) (stands-ended (enterCall b v .board .window) (reached-window reached-next) (slotAt (enterCall b v .board) 0) (stage-next .stood))
@@ -213,6 +236,7 @@ record Placed-so (r : Placed) : Type 0 where
   stood : Stands (heldReports (r .board .window)) (slotAt (r .board) 0)
   at-k : slotAt (r .board) 0 .k ≡ 1
   at-rule : slotAt (r .board) 0 .rule ≡ ones
+  alone : (slot : ℕ) → slot < 32 → 1 ≤ slot → slotAt (r .board) slot ≡ emptySlot
 
 placed-so : Placed-so (setCall (freshBoard 2 .board) 0 1 ones)
 unfolding searched
@@ -229,7 +253,11 @@ placed-so =
       stood = subst (Stands (heldReports (b .window))) (sym at) (set-stands (b .window) fit (slotAt b 0) 1 rule can-set);
       at-k = ap (λ (p : Question). p .k) is;
       at-rule = ap (λ (p : Question). p .rule) is;
+      alone = λ slot h m. getD-set-other (b .slots) 0 slot (seated .question) noQuestion (λ e. other m e) ∙ all-empty slot h;
     })
+  where
+    other : {slot : ℕ} → 1 ≤ slot → slot ≡ 0 → ⊥
+    other m e = omega arith
 
 stage-bench : Stage 2 [] 1 ones bench
 unfolding bench
@@ -240,6 +268,7 @@ stage-bench =
       stood = placed-so .stood;
       at-k = placed-so .at-k;
       at-rule = placed-so .at-rule;
+      alone = placed-so .alone;
     }
 
 third-says : (u v w : Values) → enterRefusal (countsAt 2 0) u ≡ 0 → enterRefusal (countsAt 2 1) v ≡ 0 → enterRefusal (countsAt 2 2) w ≡ 0 → Says 2 (u ∷ v ∷ []) w 1 ones (third u v w)
@@ -254,14 +283,14 @@ line number score = record { number = number; score = pos score }
 -- "N 2, k 1, weights 1, 1, set first": three entries, what the third answers, and the list after it.
 pub record Examples : Type 0 where
   -- "P9 (10, 10), (5, 5), (1, 1): third entry searches, 256 steps, list 2:10"
-  pub p9-searches : getD (third (pair 10 10) (pair 5 5) (pair 1 1) .searched) 0 false ≡ true
+  pub p9-searches : third (pair 10 10) (pair 5 5) (pair 1 1) .searched ≡ true ∷ replicate 31 false
   pub p9-steps : getD (third (pair 10 10) (pair 5 5) (pair 1 1) .steps) 0 0 ≡ 256
   pub p9-list : lines (slotAt (third (pair 10 10) (pair 5 5) (pair 1 1) .board) 0) ≡ line 2 10 ∷ []
   -- "P10 same, (1, 1), (5, 5), (1, 2): no search, list 2:10"
-  pub p10-searches : getD (third (pair 1 1) (pair 5 5) (pair 1 2) .searched) 0 false ≡ false
+  pub p10-searches : third (pair 1 1) (pair 5 5) (pair 1 2) .searched ≡ replicate 32 false
   pub p10-list : lines (slotAt (third (pair 1 1) (pair 5 5) (pair 1 2) .board) 0) ≡ line 2 10 ∷ []
   -- "P11 same, (9, 9), (1, 1), (9, 9): no search, list 3:18"
-  pub p11-searches : getD (third (pair 9 9) (pair 1 1) (pair 9 9) .searched) 0 false ≡ false
+  pub p11-searches : third (pair 9 9) (pair 1 1) (pair 9 9) .searched ≡ replicate 32 false
   pub p11-list : lines (slotAt (third (pair 9 9) (pair 1 1) (pair 9 9) .board) 0) ≡ line 3 18 ∷ []
 
 pub examples : Examples

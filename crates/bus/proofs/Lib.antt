@@ -2,4 +2,5 @@
 pub mod Places
 pub mod Placed
 pub mod Rooms
+pub mod Runs
 pub mod Outcomes

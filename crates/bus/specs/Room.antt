@@ -3,9 +3,10 @@ use Prim.Native.Nat.{ℕ, zero, suc, _+_, _*_}
 use mathlib.Core.List.{List, [], _∷_, _++_}
 use lib.ListN.{getD, take, drop}
 use Rattle.joining.specs.declared.Session.{Session}
+use Rattle.joining.specs.declared.Answer.{Answer}
 use Rattle.joining.specs.Frame.{Frame}
 use Rattle.report.specs.Payload.{largest}
-use Rattle.joining.specs.Run.{senders, sessionsAfter}
+use Rattle.joining.specs.Run.{senders, sessionsAfter, answerTo}
 
 -- The bytes of a session's place, and of all places.
 abbrev pub placeBytes : ℕ
@@ -44,3 +45,8 @@ roomOf (s ∷ ss) = sessionBytes s ++ roomOf ss
 unfoldable pub roomAt : List ℕ → List Frame → List ℕ
 roomAt room [] = room
 roomAt room (f ∷ fs) = roomAt (roomOf (sessionsAfter (sessionsIn room) f)) fs
+
+-- And what each of them is answered.
+unfoldable pub answersIn : List ℕ → List Frame → List Answer
+answersIn room [] = []
+answersIn room (f ∷ fs) = answerTo (sessionsIn room) f ∷ answersIn (roomOf (sessionsAfter (sessionsIn room) f)) fs

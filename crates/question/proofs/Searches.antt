@@ -27,12 +27,13 @@ use Rattle.ranking.proofs.Entries.{above-strict, entries-in, top-of, length-top
 use Rattle.ranking.proofs.Scan.{place-at, at-place, cell-at, left-none}
 use Rattle.ranking.proofs.Standing.{steps-bounded, local, Alike, Numbered, demand-3, Exact}
 use Rattle.window.specs.declared.Window.{Window}
-use Rattle.window.specs.Rows.{heldReports, fitWindow}
+use Rattle.window.specs.Rows.{standing, heldReports, fitWindow}
 use Rattle.window.proofs.Fitness as window
 use Rattle.window.proofs.Reports.{length-held, held-distinct, held-latest}
 use Rattle.window.proofs.Standing.{held-permitted}
 use Rattle.question.specs.declared.Question.{Question}
-use Rattle.question.specs.Lines.{lines, asked, stepsTaken, marked, isMarked, finished, begun, inCell, taken, stepped, takes, searched, searchedIn, inRows, searchedOn}
+use Rattle.question.specs.declared.Searched.{Searched}
+use Rattle.question.specs.Lines.{lines, asked, stepsTaken, marked, isMarked, finished, begun, inCell, taken, stepped, takes, searched, searchedIn, inRows, searchedOn, searchedFirst}
 use Rattle.question.specs.Calls.{fitQuestion, stepCall}
 use Rattle.question.proofs.Stored.{lines-asked}
 use Rattle.question.proofs.Marking.{steps-left, steps-all}
@@ -189,6 +190,27 @@ module _ (q : Question) (small : q .k ≤ 16) (hs : List Held) where
 
       before : (n : ℕ) → n ≤ 256 → n < steps (searchOf w) (q .k) hs → finished (takes n (begun q) hs) ≡ false
       before n h l = ap finished (takes-reached n h) ∙ reached-end (q .k) small w hs n h ∙ goes-on (searchOf w) (q .k) hs n l
+
+-- ---- in one pass
+
+-- What a search that is begun comes to by single steps: the first of the questions after 0, 1, 2 and more of them whose search has ended, and how many they are.
+pub record BySteps (q : Question) (hs : List Held) (r : Searched) : Type 0 where
+  pub stepped-to : r .question ≡ takes (r .steps) (begun q) hs
+  pub has-ended : finished (r .question) ≡ true
+  pub not-before : (n : ℕ) → n < r .steps → finished (takes n (begun q) hs) ≡ false
+
+-- `Question::searched` and `searched_in` hand back what single steps lead to, whatever the rows hold.
+module _ (q : Question) (small : q .k ≤ 16) (w : Window) where
+  pub rows-by-steps : (n : ℕ) → BySteps q (standing w n) (searchedFirst q w n)
+  unfolding searchedFirst
+  rows-by-steps n =
+      let whole = whole-search q small (standing w n) in
+      subst (BySteps q (standing w n)) (sym (if-so (searchedIn q (standing w n)) (record { steps = 0; question = q }) (le-leb (q .k) 16 small)))
+      (record { stepped-to = whole .by-steps; has-ended = whole .has-ended; not-before = whole .not-before })
+
+  pub searched-by-steps : BySteps q (inRows w) (searchedOn q w)
+  unfolding searchedFirst searchedOn inRows
+  searched-by-steps = rows-by-steps 1024
 
 -- ---- of a fit window
 

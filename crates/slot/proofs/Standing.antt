@@ -198,21 +198,27 @@ module _ (w : Window) (fit : fitWindow w ≡ true) where
   unfolding fitQuestion rangesFit
   empty-unfit = refl
 
+  -- A step of a search under way is answered, and comes to one step more.
+  pub step-further : (q : Question) (s : Searches w q) → stepCall w q ≡ record { refusal = 0; question = reached (s .k) (s .rule) (heldReports w) (suc (s .n)) }
+  step-further q s =
+      step-goes w q fit (searches-fit w fit q s) (searches-on w fit q s)
+      ∙ ap (λ p. record { refusal = 0; question = p })
+      (step-held w q fit (searches-fit w fit q s) (searches-on w fit q s)
+      ∙ ap (λ p. stepped p (heldReports w)) (s .is)
+      ∙ reached-more (s .k) (s .asks .small) (s .rule) (heldReports w) (s .n) (omega (arith, s .before-end, steps-bounded (s .rule) (s .k) (heldReports w))))
+
+  -- An empty slot is unfit for it, and a question whose search has ended is refused.
+  pub step-none : stepCall w emptySlot ≡ record { refusal = 24; question = emptySlot }
+  step-none = step-unfit w emptySlot (ap (λ b. fitWindow w && b) empty-unfit ∙ and-false (fitWindow w))
+
+  pub step-no-more : (q : Question) → Stands (heldReports w) q → stepCall w q ≡ record { refusal = 25; question = q }
+  step-no-more q s = step-ended w q fit (stands-fit w fit q s) (stands-ended w fit q s)
+
   pub step-slot : (q : Question) → Slot w q → Slot w (stepCall w q .question)
-  step-slot q (empty e) = empty (ap (λ p. stepCall w p .question) e ∙ ap (λ r. r .question) (step-unfit w emptySlot (ap (λ b. fitWindow w && b) empty-unfit ∙ and-false (fitWindow w))))
-  step-slot q (stands s) = subst (Slot w) (sym (ap (λ r. r .question) (step-ended w q fit (stands-fit w fit q s) (stands-ended w fit q s)))) (stands s)
-  step-slot q (searches s) = subst (Slot w) (sym same) (go (lt-or-eq (s .before-end)))
+  step-slot q (empty e) = empty (ap (λ p. stepCall w p .question) e ∙ ap (λ r. r .question) step-none)
+  step-slot q (stands s) = subst (Slot w) (sym (ap (λ r. r .question) (step-no-more q s))) (stands s)
+  step-slot q (searches s) = subst (Slot w) (sym (ap (λ r. r .question) (step-further q s))) (go (lt-or-eq (s .before-end)))
     where
-      few : s .n < 256
-      few = omega (arith, s .before-end, steps-bounded (s .rule) (s .k) (heldReports w))
-
-      same : stepCall w q .question ≡ reached (s .k) (s .rule) (heldReports w) (suc (s .n))
-      same =
-          ap (λ r. r .question) (step-goes w q fit (searches-fit w fit q s) (searches-on w fit q s))
-          ∙ step-held w q fit (searches-fit w fit q s) (searches-on w fit q s)
-          ∙ ap (λ p. stepped p (heldReports w)) (s .is)
-          ∙ reached-more (s .k) (s .asks .small) (s .rule) (heldReports w) (s .n) few
-
       go : (suc (s .n) < steps (searchOf (s .rule)) (s .k) (heldReports w)) ⊎ (suc (s .n) ≡ steps (searchOf (s .rule)) (s .k) (heldReports w)) → Slot w (reached (s .k) (s .rule) (heldReports w) (suc (s .n)))
       go (inl l) = searches (record { k = s .k; rule = s .rule; n = suc (s .n); asks = s .asks; before-end = l; is = refl })
       go (inr e) =
