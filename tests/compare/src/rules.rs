@@ -173,7 +173,7 @@ impl Question {
         steps
     }
 
-    /// Whether a report that enters is put on the list (rule 8.1).
+    /// Puts a report that enters on the list, where it has a place there (rule 8.1).
     pub fn offer(&mut self, r: &Report, wrong: Wrong) {
         let new = self.entry(r, wrong);
         let room = self.list.len() < self.k;
