@@ -1,5 +1,5 @@
 /* A session machine as a CAN stack's broadcast receiver has it: one session a sender, filled in place. It reads a log of frames (one
-   window item, then frame items), checks what document 01 asks of frames and payloads, and prints the same R lines as `cart`. */
+   window item, then frame items), checks what the rules (docs/RULES.md) ask of frames and payloads, and prints the same R lines as `cart`. */
 #include <stdint.h>
 #include <stdio.h>
 #include <string.h>

@@ -1,4 +1,4 @@
-"""The rules of document 01 on windows and questions, for the scripts beside this one; nothing here comes from the crates.
+"""The rules (docs/RULES.md) on windows and questions, for the scripts beside this one; nothing here comes from the crates.
 
 A window and a question are kept as they are stored; a call reads what that means, works on the meaning and stores it again. Stored
 are, for the window, N, the last number, how many are held, and 1,024 rows of which report m has the row (m - 1) mod N; for a question

@@ -1,4 +1,4 @@
--- The bench example of a report as frames: the definitions compute to what document 01 lists.
+-- The worked example of a report as frames: the definitions compute to what docs/RULES.md lists (section 13).
 -- Assumes nothing.
 use mathlib.Core.Path.{_≡_, refl}
 use mathlib.Core.Option.{none}
@@ -9,8 +9,8 @@ use Rattle.joining.proofs.Examples.{packs, sized, first, report}
 use Rattle.bench.specs.Bench.{frames, announcement, packetData, packetsFrom}
 
 pub record Examples : Type 0 where
-  -- "Sender 5, (100, 200), number 7: identifiers 1CECFF05 and 1CEBFF05; announcement 20 11 00 03 FF 14 FF 00; packets 01 01 02 00 64 00 02 02,
-  -- 02 00 C8 00 03 04 00 07, 03 00 00 00 FF FF FF FF."
+  -- P1: sender 5, loss 100, shake 200, own number 7: an announcement from 1CECFF05, and three packets from 1CEBFF05,
+  -- with the bytes that stand there.
   pub p1 : frames 5 (payload (report 100 200 7) none)
       ≡ sized 0x11 0x00 0x03
       ∷ first

@@ -27,7 +27,7 @@ use Rattle.joining.proofs.Mixing.{mixing}
 use Rattle.bench.proofs.Sending.{length-data, length-announcement}
 use Rattle.bench.proofs.Joins.{padded, joins}
 
--- "The size is 17 without a note and 20 to 84 with one."
+-- Rule 4.3: a payload has 17 bytes without a note, and 20 to 84 with one.
 payload-carries : (note : Option (List ℕ)) → noteFits note ≡ true → carries (size note) ≡ true
 unfolding carries noteFits
 payload-carries none h = refl

@@ -1,4 +1,4 @@
--- What the bench sender writes (document 01, "Bench sender and log program").
+-- What the bench sender writes (docs/RULES.md, section 10).
 use Prim.Native.Nat.{ℕ, zero, suc, _+_, _-_, _*_}
 use mathlib.Core.Bool.{cond}
 use mathlib.Core.Option.{Option}
@@ -13,19 +13,19 @@ use Rattle.report.specs.Payload.{payload, size, fault}
 use Rattle.joining.specs.Frame.{Frame}
 use Rattle.joining.specs.Joining.{packets}
 
--- "Priority is 7" and "destination is 255": 7 in bits 26 to 28, the format in 16 to 23, 255 in 8 to 15, the sender in 0 to 7.
+-- Rules 2.2, 2.3 and 10.2: priority 7 in bits 26 to 28, the format in 16 to 23, everyone in 8 to 15, the sender in 0 to 7.
 abbrev pub identifier : ℕ → ℕ → ℕ
 identifier format sender = 67108864 * 7 + 65536 * format + 256 * 255 + sender
 
--- An announcement's data: 32, size, count, 255 for "byte 4 is not read", and group 65300.
+-- Rules 2.4 and 10.3: an announcement's data: 32, size, count, 255 in the byte that nobody reads, and our group.
 unfoldable pub announcement : ℕ → List ℕ
 announcement size = 32 ∷ (bytes 2 size ++ (packets size ∷ (255 ∷ bytes 3 65300)))
 
--- A data packet's data: its sequence number, then 7 bytes; "bytes past the size: the writer puts 255".
+-- Rules 2.5 and 10.3: a data packet's data: its sequence number, then 7 bytes of the payload, and 255 past its end.
 unfoldable pub packetData : List ℕ → ℕ → List ℕ
 packetData p i = i ∷ take 7 (drop (7 * (i - 1)) p ++ replicate 7 255)
 
--- "Format 236 is an announcement, 235 a data packet": the frame that announces a payload, and the one that carries its packet i.
+-- The frame that announces a payload, and the one that carries its packet i.
 abbrev pub opening : ℕ → List ℕ → Frame
 opening sender p = record { identifier = identifier 236 sender; data-bytes = announcement (length p) }
 
@@ -41,7 +41,7 @@ packetsFrom sender p i (suc n) = carrier sender p i ∷ packetsFrom sender p (i 
 unfoldable pub frames : ℕ → List ℕ → List Frame
 frames sender p = opening sender p ∷ packetsFrom sender p 1 (packets (length p))
 
--- "12 bytes a frame: identifier in 4, data in 8."
+-- Rule 10.2: a frame is its identifier in 4 bytes and its data in 8.
 unfoldable pub frameBytes : List Frame → List ℕ
 frameBytes [] = []
 frameBytes (f ∷ fs) = bytes 4 (f .identifier) ++ (f .data-bytes ++ frameBytes fs)
@@ -51,11 +51,11 @@ unfoldable pub framesIn : ℕ → List ℕ → List Frame
 framesIn zero bs = []
 framesIn (suc n) bs = record { identifier = number (take 4 bs); data-bytes = part 4 8 bs } ∷ framesIn n (drop 12 bs)
 
--- "Room needed is 12 x (1 + packets)."
+-- Rule 10.4: the room that a report's frames need.
 abbrev pub roomFor : Option (List ℕ) → ℕ
 roomFor note = 12 * (1 + packets (size note))
 
--- The sender's refusals, in their order: 3 "over 253", 12, 19, then 20 "writer's room too short"; 0 for none.
+-- The sender's refusals, in the order of rule 9.4: 3, 12, 19, then 20, too short a room; 0 for none.
 unfoldable pub sendRefusal : ℕ → ℕ → Report → Option (List ℕ) → ℕ
 sendRefusal room sender r note =
     cond (ltb 253 sender) 3 (cond (eqb (fault r note) 0) (cond (leb (roomFor note) room) 0 20) (fault r note))
@@ -65,7 +65,7 @@ unfoldable pub sendAnswer : ℕ → ℕ → Report → Option (List ℕ) → Wri
 sendAnswer room sender r note =
     cond (eqb (sendRefusal room sender r note) 0) (writing.Bytes (roomFor note)) (writing.Refused (sendRefusal room sender r note))
 
--- The room as it is left: the frames, and "bytes beyond stay as found"; a refusal changes no byte.
+-- Rule 10.4: the room as it is left: the frames, and the bytes behind them as they were; a refusal changes no byte.
 unfoldable pub sent : List ℕ → ℕ → Report → Option (List ℕ) → List ℕ
 sent room sender r note =
     cond (eqb (sendRefusal (length room) sender r note) 0) (frameBytes (frames sender (payload r note)) ++ drop (roomFor note) room) room

@@ -68,7 +68,7 @@ module _ {n : ℕ} {past : List Values} {b : Board} (reached : Reached n past b)
       go (stands s) = inr (stands-fit (b .window) reached-window (slotAt b slot) s)
       go (searches s) = inr (searches-fit (b .window) reached-window (slotAt b slot) s)
 
-  -- "A question whose search isn't finished is unfit for every call but a step": where there is none, the board is fit.
+  -- Only a question whose search hasn't ended makes a reached board unfit (rule 7.9): where there is none, the board is fit.
   pub reached-fit : ((slot : ℕ) → slot < 32 → (slotAt b slot ≡ emptySlot) ⊎ (finished (slotAt b slot) ≡ true)) → fitBoard b ≡ true
   unfolding fitBoard slotFit
   reached-fit rest = and-true reached-window (all-is (slotFit (b .window)) (b .slots) each)
@@ -132,7 +132,7 @@ module _ {n : ℕ} {past : List Values} {b : Board} (reached : Reached n past b)
       (subst (Exactly (b .window) k rule (seated .steps)) (sym (getD-set-same (b .slots) slot (seated .question) noQuestion (omega (arith, many, may .there))))
       (one.set-exact (b .window) (reached-window reached) (slotAt b slot) k rule (may .taken)))
 
-  -- "A removed slot equals a fresh one."
+  -- Rule 6.6: a removed slot is a fresh one.
   pub remove-fresh : (slot : ℕ) → removeCall b slot .refusal ≡ 0 → slotAt (removeCall b slot .board) slot ≡ emptySlot
   remove-fresh slot t =
       let known = remove-known b fit slot in

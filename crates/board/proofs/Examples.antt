@@ -209,7 +209,7 @@ pair loss shake = record { loss = loss; shake = shake }
 abbrev ones : Rule
 ones = ruleOf (record { loss = pos 1; shake = pos 1 })
 
--- "N 2, k 1, weights 1, 1, set first"
+-- N 2, and a question set first: k 1, weights 1 and 1
 unfoldable pub bench : Board
 bench = setCall (freshBoard 2 .board) 0 1 ones .board
 
@@ -280,16 +280,16 @@ third-says u v w a b c =
 abbrev line : ℕ → ℕ → Entry
 line number score = record { number = number; score = pos score }
 
--- "N 2, k 1, weights 1, 1, set first": three entries, what the third answers, and the list after it.
+-- N 2, and a question set first, k 1, weights 1 and 1: three entries, what the third answers, and the list after it.
 pub record Examples : Type 0 where
-  -- "P9 (10, 10), (5, 5), (1, 1): third entry searches, 256 steps, list 2:10"
+  -- P9: the third searches, 256 steps, and the list is 2:10
   pub p9-searches : third (pair 10 10) (pair 5 5) (pair 1 1) .searched ≡ true ∷ replicate 31 false
   pub p9-steps : getD (third (pair 10 10) (pair 5 5) (pair 1 1) .steps) 0 0 ≡ 256
   pub p9-list : lines (slotAt (third (pair 10 10) (pair 5 5) (pair 1 1) .board) 0) ≡ line 2 10 ∷ []
-  -- "P10 same, (1, 1), (5, 5), (1, 2): no search, list 2:10"
+  -- P10: no search, and the list is 2:10
   pub p10-searches : third (pair 1 1) (pair 5 5) (pair 1 2) .searched ≡ replicate 32 false
   pub p10-list : lines (slotAt (third (pair 1 1) (pair 5 5) (pair 1 2) .board) 0) ≡ line 2 10 ∷ []
-  -- "P11 same, (9, 9), (1, 1), (9, 9): no search, list 3:18"
+  -- P11: no search, and the list is 3:18
   pub p11-searches : third (pair 9 9) (pair 1 1) (pair 9 9) .searched ≡ replicate 32 false
   pub p11-list : lines (slotAt (third (pair 9 9) (pair 1 1) (pair 9 9) .board) 0) ≡ line 3 18 ∷ []
 

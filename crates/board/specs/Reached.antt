@@ -1,4 +1,4 @@
--- Which boards are reached (document 01, "Refusal numbers").
+-- Which boards are reached (docs/RULES.md, rule 9.8).
 use Prim.Native.Nat.{ℕ, _<_}
 use mathlib.Core.Path.{_≡_}
 use mathlib.Core.Bool.{cond}
@@ -16,7 +16,7 @@ use Rattle.board.specs.declared.Board.{Board}
 abbrev pub pastAfter : List Values → Values → ℕ → List Values
 pastAfter past v refusal = cond (eqb refusal 0) (past ++ (v ∷ [])) past
 
--- "States reached from fresh ones: one window with its 32 slots, each call handed them as the call before left them, a stepped question standing in its slot." `past` is what was entered, in that order.
+-- Rule 9.8: a fresh board, and what a call leaves of a reached one, a stepped or begun question put back in its slot. `past` is what was entered, in that order.
 pub data Reached (n : ℕ) : List Values → Board → Type 0 where
   fresh : freshBoard n .refusal ≡ 0 → Reached n [] (freshBoard n .board)
   set : {past : List Values} {b : Board} → Reached n past b → (slot k : ℕ) (rule : Rule) → Reached n past (setCall b slot k rule .board)

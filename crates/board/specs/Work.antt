@@ -1,4 +1,4 @@
--- What setting, removing, reading and entering do to a board, whatever it holds (document 01, "Window and questions" and "Entering a report").
+-- What setting, removing, reading and entering do to a board, whatever it holds (docs/RULES.md, sections 6 and 8).
 use Prim.Native.Nat.{ℕ, _+_, _-_}
 use mathlib.Core.Bool.{false, cond}
 use mathlib.Core.List.{map}
@@ -25,7 +25,7 @@ use Rattle.board.specs.declared.Removed.{Removed}
 use Rattle.board.specs.declared.Entered.{Entered}
 use Rattle.board.specs.declared.Arrival.{Arrival}
 
--- "A question has a slot 0 to 31."
+-- Rule 6.1: what a slot holds.
 abbrev pub slotAt : Board → ℕ → Question
 slotAt b slot = getD (b .slots) slot noQuestion
 
@@ -33,11 +33,11 @@ slotAt b slot = getD (b .slots) slot noQuestion
 abbrev pub withSlot : Board → ℕ → Question → Board
 withSlot b slot q = record { window = b .window; slots = set (b .slots) slot q }
 
--- A fresh window with 32 empty slots; "18: N out of range: no window".
+-- A fresh window with 32 empty slots; refusal 18, where no window has that size.
 unfoldable pub freshBoard : ℕ → NewBoard
 freshBoard n = record { refusal = freshWindow n .refusal; board = record { window = freshWindow n .window; slots = replicate slotCount emptySlot } }
 
--- "13: slot over 31", then what setting answers in that slot.
+-- Refusal 13, where there is no such slot; then what setting answers in that slot.
 unfoldable pub setWork : Board → ℕ → ℕ → Rule → Placed
 setWork b slot k rule =
     cond (ltb slot slotCount)
@@ -45,18 +45,18 @@ setWork b slot k rule =
     record { refusal = seated .refusal; steps = seated .steps; board = withSlot b slot (seated .question) })
     (record { refusal = 13; steps = 0; board = b })
 
--- "13: slot over 31. 17: slot empty (remove, read)"; then that slot is emptied.
+-- Refusal 13, where there is no such slot, 17, where it is empty; then that slot is emptied.
 unfoldable pub removeWork : Board → ℕ → Removed
 removeWork b slot =
     cond (ltb slot slotCount)
     (record { refusal = emptyRefusal (slotAt b slot .k); board = withSlot b slot (emptied (slotAt b slot)) })
     (record { refusal = 13; board = b })
 
--- "13: slot over 31", then what reading answers in that slot.
+-- Refusal 13, where there is no such slot; then what reading answers in that slot.
 unfoldable pub readWork : Board → ℕ → Shown
 readWork b slot = cond (ltb slot slotCount) (readIn (slotAt b slot)) (notShown 13)
 
--- "If more than N are held, the oldest leaves": its number, where one report is added; 0 for none.
+-- Rule 8.2: the number of the report that leaves, where one is added; 0 for none.
 unfoldable pub leaving : Counts → ℕ
 leaving c = cond (ltb (c .held) (c .size)) 0 (c .entered + 1 - c .size)
 
@@ -72,12 +72,12 @@ outgoing w = leaving (w .counts)
 abbrev pub turned : Window → Values → Question → Turned
 turned w v q = turn q (newReport w v) (outgoing w) (inRows (added w v))
 
--- "A refusal answers its number, every other field 0."
+-- Rule 9.1: the refusal's number, and 0 for all else.
 abbrev pub notEntered : Board → ℕ → Entered
 notEntered b refusal =
     record { refusal = refusal; number = 0; searched = replicate slotCount false; steps = replicate slotCount 0; board = b }
 
--- "12: loss or shake over 4095. 11: 1,000,000 already entered."
+-- Refusal 12, values out of their range, then 11, no report more can enter (rule 9.4).
 unfoldable pub enterRefusal : Counts → Values → ℕ
 enterRefusal c v = cond (inRange v) (cond (ltb (c .entered) reportLimit) 0 11) 12
 
@@ -88,7 +88,7 @@ arrival c v =
     (record { refusal = 0; number = c .entered + 1; oldest = leaving c })
     (record { refusal = enterRefusal c v; number = 0; oldest = 0 })
 
--- "The answer is the report number, the set of questions searched, and the steps of each."
+-- Rule 8.3: the report's number, which questions were searched, and the steps of each.
 unfoldable pub enterWork : Board → Values → Entered
 enterWork b v =
     cond (eqb (enterRefusal (b .window .counts) v) 0)

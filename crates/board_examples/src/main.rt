@@ -1,5 +1,5 @@
-// The window with its 32 slots, of document 01, tried through the public calls. Each line of `stdin` is a case: it is printed, and with
-// it what is answered. `stdout` has what document 01 asks for, as tests/expected/board_examples works it out.
+// The window with its 32 slots, tried through the public calls. Each line of `stdin` is a case: it is printed, and with
+// it what is answered. `stdout` has what the rules (docs/RULES.md) ask for, as tests/expected/board_examples works it out.
 //
 // new N                          a fresh board: the refusal's number, its size, and whether it is fit
 // set SLOT K A B                 a call each: the refusal's number, what else is answered, and whether the board that comes back is

@@ -32,7 +32,7 @@ unfoldable pub sessionsOf : ℕ → List ℕ → List Session
 sessionsOf zero room = []
 sessionsOf (suc n) room = sessionAt room ∷ sessionsOf n (drop placeBytes room)
 
--- "Each sender 0 to 253 has a session of its own."
+-- Rule 3.1: the sessions of all senders.
 abbrev pub sessionsIn : List ℕ → List Session
 sessionsIn room = sessionsOf senders room
 

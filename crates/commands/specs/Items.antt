@@ -1,4 +1,4 @@
--- The log items of a line (document 01, "Bench sender and log program").
+-- The log items of a line (docs/RULES.md, section 11).
 use Prim.Native.Nat.{ℕ}
 use mathlib.Core.List.{List, [], _∷_, map}
 use mathlib.Core.Bool.{cond}
@@ -15,7 +15,7 @@ use Rattle.commands.specs.declared.Command.the-variants as command
 use Rattle.commands.specs.declared.Answer.{Answer}
 use Rattle.commands.specs.declared.Answer.the-variants as answer
 
--- "18 length 12, a frame as above": an item for each frame.
+-- An item for each frame.
 abbrev pub frameItem : Frame → Meant
 frameItem f = record { item = item.Frame (f .identifier); data-bytes = f .data-bytes }
 

@@ -1,5 +1,5 @@
--- The log's items (document 01, "Bench sender and log program"): "16 length 2, N; 17 length 6, slot, k, a, b (a and b signed 16-bit);
--- 18 length 12, a frame; 19 length 1, remove slot; 20 length 1, show slot".
+-- The log's items (docs/RULES.md, rule 11.1): a window, a question that is set, a frame, a question that is removed, a list that is
+-- shown, each with its tag, its length and its value.
 use Prim.Native.Nat.{ℕ, _-_}
 use mathlib.Core.List.{List, [], _∷_, _++_}
 use mathlib.Core.Bool.{Bool, cond, _&&_}
@@ -11,7 +11,7 @@ use Rattle.items.specs.declared.Setting.{Setting}
 use Rattle.items.specs.declared.Item.{Item}
 use Rattle.items.specs.declared.Item.the-variants.{Window, Set, Frame, Remove, Show, Unknown}
 
--- "Signed 16-bit": the number that two bytes then stand for, and the other way.
+-- A number with a sign in two bytes: what they stand for, and the other way.
 unfoldable pub signed16 : ℕ → ℤ
 signed16 n = cond (ltb n 32768) (pos n) (negsuc (65535 - n))
 
@@ -21,7 +21,7 @@ unsigned16 (negsuc n) = 65535 - n
 
 -- ---- writing
 
--- "Slot, k, a, b (a and b signed 16-bit)."
+-- Rule 11.1: slot, k and both weights, these with a sign in two bytes each.
 unfoldable pub settingBytes : Setting → List ℕ
 settingBytes s = s .slot ∷ (s .k ∷ (bytes 2 (unsigned16 (s .loss)) ++ bytes 2 (unsigned16 (s .shake))))
 
@@ -34,7 +34,7 @@ tagOf (Remove slot) = 19
 tagOf (Show slot) = 20
 tagOf Unknown = 0
 
--- Its value. A frame's data bytes stand beside the item: "identifier in 4, data in 8".
+-- Its value. A frame's data bytes stand beside the item; in the log they follow the identifier (rule 10.2).
 abbrev pub valueOf : Item → List ℕ → List ℕ
 valueOf (Window n) ds = bytes 2 n
 valueOf (Set s) ds = settingBytes s

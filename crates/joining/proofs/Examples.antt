@@ -1,4 +1,4 @@
--- The bench examples on one session: the definitions compute to what document 01 lists.
+-- The worked examples on one session: the definitions compute to what docs/RULES.md lists (section 13).
 -- Assumes nothing.
 use mathlib.Core.Path.{_≡_, refl}
 use mathlib.Core.Bool.{true}
@@ -35,16 +35,16 @@ report loss shake own = record { values = record { loss = loss; shake = shake };
 
 -- A session stands for any fit one: what is answered doesn't depend on what was under way.
 pub record Examples : Type 0 where
-  -- "Size 17, count 2: refusal 5."
+  -- P2: too few packets for the size, refusal 5.
   pub p2 : (s : Session) → fit s ≡ true → soloStep s (sized 17 0 2) ≡ refused 5 (closed s)
-  -- "Size 18, count 3: refusal 7."
+  -- P3: a size that no payload of ours has, refusal 7.
   pub p3 : (s : Session) → fit s ≡ true → soloStep s (sized 18 0 3) ≡ refused 7 (closed s)
-  -- "Sequence 1 sent twice: refusal 9."
+  -- P4: the same packet twice, refusal 9.
   pub p4 : (s : Session) → fit s ≡ true → soloAnswers s (sized 17 0 3 ∷ first ∷ first ∷ []) ≡ Kept ∷ Kept ∷ Refused 9 ∷ []
-  -- "Size 84, count 12 opens; 85, count 13 is refused 7."
+  -- The edges of the size: 84 opens the session, 85 is refused 7.
   pub size84 : (s : Session) → fit s ≡ true → soloStep s (sized 84 0 12) ≡ record { answer = Kept; session = opened 84 }
   pub size85 : (s : Session) → fit s ≡ true → soloStep s (sized 85 0 13) ≡ refused 7 (closed s)
-  -- "Loss 4095 is accepted, 4096 refused."
+  -- The edges of the loss: 4095 is accepted, 4096 isn't.
   pub loss4095 : readPayload (payload (report 4095 0 0) none) ≡ reading.Accepted (report 4095 0 0)
   pub loss4096 : readPayload (payload (report 4096 0 0) none) ≡ reading.Refused 10
 

@@ -28,7 +28,7 @@ module _ (ss : List Session) (f : Frame) where
       go true = stored
       go false = same
 
-  -- "A frame call judges and changes its sender's session only."
+  -- Rule 3.1: a frame changes its sender's session and no other.
   pub others-stay : (k : ℕ) → (senderOf (f .identifier) ≡ k → ⊥) → sessionOf k (sessionsAfter ss f) ≡ sessionOf k ss
   unfolding sender
   others-stay k h =

@@ -1,4 +1,4 @@
--- A frame and what its identifier says (document 01, "Frames and sessions").
+-- A frame and what its identifier says (docs/RULES.md, section 2).
 use Prim.Native.Nat.{ℕ, _/_, _%_}
 use mathlib.Core.Bool.{Bool, cond, not, _||_}
 use mathlib.Core.List.{List}
@@ -7,12 +7,12 @@ use lib.Dec.{leb, ltb, eqb}
 use Rattle.joining.specs.declared.Sender.{Sender}
 use Rattle.joining.specs.declared.Sender.the-variants.{Of, Refused}
 
--- "A frame is a 29-bit identifier and 8 data bytes."
+-- Rule 2.1: an identifier and data bytes; `malformed` says which are no frame.
 pub record Frame : Type 0 where
   pub identifier : ℕ
   pub data-bytes : List ℕ
 
--- "Identifier bits: 26 to 28 priority (any), 25 and 24 zero, 16 to 23 format, 8 to 15 destination, 0 to 7 sender."
+-- Rule 2.2: the identifier's bits. Those above, 26 to 28, are the priority, and nobody reads them.
 abbrev pub senderOf : ℕ → ℕ
 senderOf id = id % 256
 
@@ -25,22 +25,22 @@ formatOf id = id / 65536 % 256
 abbrev pub zeroBitsOf : ℕ → ℕ
 zeroBitsOf id = id / 16777216 % 4
 
--- "Format 236 is an announcement, 235 a data packet."
+-- Rule 2.3: the format tells an announcement from a data packet.
 abbrev pub isAnnouncement : ℕ → Bool
 isAnnouncement id = eqb (formatOf id) 236
 
 abbrev pub isPacket : ℕ → Bool
 isPacket id = eqb (formatOf id) 235
 
--- Refusal 1: "identifier 2^29 or more, or data not 8 bytes".
+-- Refusal 1: an identifier of more than 29 bits, or another number of data bytes than 8.
 unfoldable pub malformed : ℕ → List ℕ → Bool
 malformed id data-bytes = leb 536870912 id || not (eqb (length data-bytes) 8)
 
--- Refusal 2: "bit 24 or 25 set, format not 235 or 236, or destination not 255".
+-- Refusal 2: bits 24 and 25 aren't 0, it is of another format, or it isn't for everyone.
 unfoldable pub foreign : ℕ → Bool
 foreign id = not (eqb (zeroBitsOf id) 0) || not (isAnnouncement id || isPacket id) || not (eqb (destinationOf id) 255)
 
--- What is refused before any session is looked at: 1, 2, then 3 "sender 254 or 255"; 0 for none.
+-- What is refused before any session is looked at (rule 9.4): 1, 2, then 3, a sender that has no session; 0 for none.
 unfoldable pub frameRefusal : ℕ → List ℕ → ℕ
 frameRefusal id data-bytes = cond (malformed id data-bytes) 1 (cond (foreign id) 2 (cond (ltb 253 (senderOf id)) 3 0))
 

@@ -1,4 +1,4 @@
--- One sender's session, and what a frame does to it (document 01, "Frames and sessions").
+-- One sender's session, and what a frame does to it (docs/RULES.md, section 3).
 use Prim.Native.Nat.{ℕ, _+_, _-_, _*_, _/_}
 use mathlib.Core.Bool.{Bool, cond, not, _&&_, _||_}
 use mathlib.Core.List.{List}
@@ -15,7 +15,7 @@ use Rattle.joining.specs.declared.Answer.the-variants.{Refused, Kept, Co
 use Rattle.joining.specs.declared.Taken.{Taken}
 use Rattle.joining.specs.Frame.{frameRefusal, isAnnouncement}
 
--- "Packet count, which is size / 7 rounded up."
+-- Rule 2.4: the packets that a payload of this size takes, 7 bytes in each.
 abbrev pub packets : ℕ → ℕ
 packets size = (size + 6) / 7
 
@@ -23,15 +23,15 @@ packets size = (size + 6) / 7
 unfoldable pub carries : ℕ → Bool
 carries size = eqb size 17 || leb 20 size && leb size largest
 
--- "Fresh, a session has size, count and next packet 0"; "fresh [payload bytes] are 255".
+-- Rule 3.3: a fresh session is closed, and its payload bytes are 255.
 abbrev pub freshSession : Session
 freshSession = record { bytes = replicate largest 255; size = 0; count = 0; next = 0 }
 
--- "Closed, a session has size, count and next packet 0; closing keeps the payload bytes."
+-- Rule 3.3: closing sets size, count and next packet to 0, and leaves the payload bytes alone.
 abbrev pub closed : Session → Session
 closed s = record { bytes = s .bytes; size = 0; count = 0; next = 0 }
 
--- "Opening sets all the session's payload bytes to 255."
+-- Rule 3.4: opened for a payload of this size: packet 1 is next, and all payload bytes are 255.
 abbrev pub opened : ℕ → Session
 opened size = record { bytes = replicate largest 255; size = size; count = packets size; next = 1 }
 
@@ -41,7 +41,7 @@ isClosed s = eqb (s .size) 0 && eqb (s .count) 0 && eqb (s .next) 0
 unfoldable pub isOpen : Session → Bool
 isOpen s = carries (s .size) && eqb (s .count) (packets (s .size)) && ltb 0 (s .next) && leb (s .next) (s .count)
 
--- Unfit, refusal 24: "any stored number is outside its range, an open session's expected packet is past its count".
+-- Rules 9.5 and 9.6: a session is fit that is closed, or open with numbers that an announcement and packets can have left; else refusal 24.
 unfoldable pub fit : Session → Bool
 fit s = isClosed s || isOpen s
 
@@ -49,20 +49,20 @@ fit s = isClosed s || isOpen s
 abbrev pub place : Session → ℕ
 place s = 7 * (s .next - 1)
 
--- "An expected packet stores its bytes"; "bytes past the size are not read".
+-- Rules 3.5 and 2.5: the expected packet's bytes in their place, up to the payload's size.
 abbrev pub stored : Session → List ℕ → List ℕ
 stored s d = sets (s .bytes) (place s) (take (s .size - place s) (drop 1 d))
 
--- "The next expected packet is kept."
+-- Rule 3.5: and then the next packet is expected.
 abbrev pub advanced : Session → List ℕ → Session
 advanced s d = record { bytes = stored s d; size = s .size; count = s .count; next = s .next + 1 }
 
--- The reader's answer as the frame's: "yields a report or refusal 10".
+-- The reader's answer as the frame's: a report, or refusal 10.
 abbrev pub yields : Reading → Answer
 yields (reading.Accepted r) = Complete r
 yields (reading.Refused n) = Refused n
 
--- "The last one closes it and yields a report or refusal 10", with the payload's bytes as they then stand.
+-- Rule 3.6: the last packet closes the session, and its payload is read from the bytes as they then stand.
 abbrev pub finishes : List ℕ → ℕ → Taken
 finishes bs size =
     record {
@@ -73,11 +73,11 @@ finishes bs size =
 abbrev pub refused : ℕ → Session → Taken
 refused n s = record { answer = Refused n; session = s }
 
--- "Byte 0 is 32; bytes 1 and 2 size, 9 to 1,785; byte 3 packet count; byte 4 is not read; bytes 5 to 7 the group number. Ours is 65300."
+-- Rule 2.4: the size that an announcement's data say.
 abbrev pub sizeIn : List ℕ → ℕ
 sizeIn d = number (part 1 2 d)
 
--- Refusal 5: "size not 9 to 1,785, or wrong count".
+-- Not refusal 5: the size is one that can be announced, and the count belongs to it.
 unfoldable pub sound : List ℕ → Bool
 sound d = leb 9 (sizeIn d) && leb (sizeIn d) 1785 && eqb (getD d 3 0) (packets (sizeIn d))
 
@@ -89,13 +89,13 @@ announcementRefusal d =
     (cond (not (eqb (number (part 5 3 d)) 65300)) 6
     (cond (not (carries (sizeIn d))) 7 0)))
 
--- An announcement: "a good announcement opens it, replacing an open one"; refusal 4 changes nothing, the others leave "that session closed".
+-- Rule 3.4: an announcement that isn't refused opens the session, also one that was open; refusal 4 changes nothing, the others close the session.
 unfoldable pub announce : Session → List ℕ → Taken
 announce s d =
     cond (eqb (announcementRefusal d) 0) (record { answer = Kept; session = opened (sizeIn d) })
     (refused (announcementRefusal d) (cond (eqb (announcementRefusal d) 4) s (closed s)))
 
--- A data packet: refusals 8 "no open session" and 9 "sequence not the next", or the packet is kept, or the last one ends the session.
+-- A data packet: refusal 8 where the session is closed, 9 where another packet is next; or the packet is kept, or the last one ends the session.
 unfoldable pub packet : Session → List ℕ → Taken
 packet s d =
     cond (eqb (s .size) 0) (refused 8 s)
@@ -103,7 +103,7 @@ packet s d =
     (cond (ltb (s .next) (s .count)) (record { answer = Kept; session = advanced s d })
     (finishes (stored s d) (s .size))))
 
--- A frame: "frames 1, 2, 3, 24, then 4 to 7 or 8 to 10".
+-- A frame, with its refusals in the order of rule 9.4: 1, 2, 3, 24, then those of announcements or of data packets.
 unfoldable pub take-frame : Session → ℕ → List ℕ → Taken
 take-frame s id d =
     cond (not (eqb (frameRefusal id d) 0)) (refused (frameRefusal id d) s)
@@ -118,7 +118,7 @@ sizeHeld bs = cond (eqb (getD bs 17 0) 4) (20 + number (part 18 2 bs)) 17
 unfoldable pub payloadHeld : List ℕ → List ℕ
 payloadHeld bs = take (sizeHeld bs) bs
 
--- Document 01's number for each answer, 0 for none.
+-- The refusal number of each answer (rule 9.1), 0 for none.
 abbrev pub answerNumber : Answer → ℕ
 answerNumber (Refused n) = n
 answerNumber Kept = 0

@@ -1,4 +1,4 @@
--- What a run of frames does to all sessions (document 01: "Each sender 0 to 253 has a session of its own").
+-- What a run of frames does to all sessions (docs/RULES.md, rule 3.1).
 use Prim.Native.Nat.{ℕ, suc}
 use mathlib.Core.Path.{_≡_}
 use mathlib.Core.Bool.{Bool, true, cond, not, _&&_, _||_}
@@ -15,7 +15,7 @@ use Rattle.joining.specs.declared.Taken.{Taken}
 use Rattle.joining.specs.Frame.{Frame, senderOf, frameRefusal, isAnnouncement, isPacket}
 use Rattle.joining.specs.Joining.{packets, fit, freshSession, opened, sizeIn, take-frame}
 
--- "Each sender 0 to 253 has a session of its own": how many there are, and all of them, fresh.
+-- Rule 3.1: a session for each sender from 0 to 253: how many there are, and all of them, fresh.
 abbrev pub senders : ℕ
 senders = 254
 
@@ -30,7 +30,7 @@ nobody = record { bytes = []; size = 0; count = 0; next = 0 }
 abbrev pub sessionOf : ℕ → List Session → Session
 sessionOf k ss = getD ss k nobody
 
--- The sessions that a frame leaves: "a frame call judges and changes its sender's session only".
+-- Rule 3.1: the sessions that a frame leaves; it changes its sender's and no other.
 abbrev pub sessionsAfter : List Session → Frame → List Session
 sessionsAfter ss f =
     cond (ltb (senderOf (f .identifier)) senders)
@@ -53,7 +53,7 @@ unfoldable pub answersAt : List Session → List Frame → List Answer
 answersAt ss [] = []
 answersAt ss (f ∷ fs) = answerTo ss f ∷ answersAt (sessionsAfter ss f) fs
 
--- A frame of a session's own sender: "the driver advances it where it stands".
+-- Rule 3.8: a frame of a session's own sender, taken by it.
 abbrev pub soloStep : Session → Frame → Taken
 soloStep s f = take-frame s (f .identifier) (f .data-bytes)
 
@@ -66,7 +66,7 @@ unfoldable pub soloAnswers : Session → List Frame → List Answer
 soloAnswers s [] = []
 soloAnswers s (f ∷ fs) = soloStep s f .answer ∷ soloAnswers (soloStep s f .session) fs
 
--- The frames whose identifier's bits "0 to 7 sender" are k, in their order.
+-- The frames that name k as their sender, in their order.
 unfoldable pub ownFrames : ℕ → List Frame → List Frame
 ownFrames k [] = []
 ownFrames k (f ∷ fs) = cond (eqb (senderOf (f .identifier)) k) (f ∷ ownFrames k fs) (ownFrames k fs)
@@ -82,7 +82,7 @@ abbrev pub OfSender : ℕ → List Frame → Type 0
 OfSender k [] = Unit
 OfSender k (f ∷ fs) = (senderOf (f .identifier) ≡ k) × OfSender k fs
 
--- Refusals 1 to 4, given whatever the session is: "everything lent or handed in comes back unchanged".
+-- Refusals 1 to 4, which are given whatever the session is, and change nothing.
 unfoldable pub passes : Frame → Bool
 passes f =
     not (eqb (frameRefusal (f .identifier) (f .data-bytes)) 0)
@@ -93,13 +93,13 @@ unfoldable pub heard : List Frame → List Frame
 heard [] = []
 heard (f ∷ fs) = cond (passes f) (heard fs) (f ∷ heard fs)
 
--- "A good announcement opens it, replacing an open one", with this size.
+-- Rule 3.4: an announcement that opens every fit session, open or closed, for this size.
 pub record Announces (size : ℕ) (f : Frame) : Type 0 where
   pub announcement : isAnnouncement (f .identifier) ≡ true
   pub says : sizeIn (f .data-bytes) ≡ size
   pub opens : (s : Session) → fit s ≡ true → soloStep s f ≡ record { answer = Kept; session = opened size }
 
--- "Data packet: byte 0 sequence from 1, then 7 bytes."
+-- Rule 2.5: a data packet of this sequence number.
 pub record Numbered (i : ℕ) (f : Frame) : Type 0 where
   pub frame : frameRefusal (f .identifier) (f .data-bytes) ≡ 0
   pub packet : isPacket (f .identifier) ≡ true

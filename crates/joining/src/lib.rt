@@ -159,7 +159,7 @@ impl Session {
         numbers_fit(self.size, self.count, self.next)
     }
 
-    // Takes a frame of this session's sender. The order of refusals is 1, 2, 3, 24, then 4 to 7 or 8 to 10.
+    // Takes a frame of this session's sender. The order of refusals is that of rule 9.4: 1, 2, 3, 24, then those of its format.
     pub fn frame(self, id: u32, data: &[u8]) -> Taken
         ensures { λ r. ⌜ r ≡ take-frame self id (now («data» .entry)) ⌝ }
     {

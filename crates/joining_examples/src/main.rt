@@ -1,5 +1,5 @@
-// Frames, sessions, the sessions of a bus and the bench sender, of document 01, tried at their edges. Each line of `stdin` is a case:
-// it is printed, and with it what is answered. `stdout` has what document 01 asks for, as tests/expected/joining_examples works it out.
+// Frames, sessions, the sessions of a bus and the bench sender, tried at their edges. Each line of `stdin` is a case:
+// it is printed, and with it what is answered. `stdout` has what the rules (docs/RULES.md) ask for, as tests/expected/joining_examples works it out.
 //
 // session SIZE COUNT NEXT USED   a session with these numbers and the first bytes of P1's payload, and whether it is fit
 // frame ID DATA..                that session takes a frame: the answer, and the session left

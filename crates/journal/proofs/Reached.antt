@@ -78,7 +78,7 @@ module _ {log : Log} (reached : Reached log) where
 
   -- ---- refusal 24
 
-  -- "24: unfit state handed in": no item is refused that.
+  -- Refusal 24: no item is refused that.
   pub no-24 : (tag : ℕ) (v : List ℕ) (n : ℕ) → itemDone log tag v .text ≡ rLine n 24 → ⊥
   no-24 tag v n e = never-24 (item-does (framesOf reached) log (own reached) tag v .prints) n e
 

@@ -1,4 +1,4 @@
--- The text that a whole log fixes, item by item (document 01, "Bench sender and log program").
+-- The text that a whole log fixes, item by item (docs/RULES.md, section 11).
 use Prim.Native.Nat.{ℕ, zero, suc, _+_, _-_, _^_, min}
 use mathlib.Core.Path.{_≡_}
 use mathlib.Core.Bool.{Bool, cond}
@@ -43,7 +43,7 @@ pub record Stores (done : Outcome) (room : List ℕ) (at : ℕ) (log : Log) (nex
   pub place : next ≡ behind at (done .text)
   pub stored : left ≡ sets room at (done .text)
 
--- "Items count from 1": the next item's number; where a `u64` is too small for it, the largest one.
+-- Rule 11.1: the next item's number; where a `u64` is too small for it, the largest one.
 unfoldable pub nextItem : ℕ → ℕ
 nextItem items = min (items + 1) (2 ^ 64 - 1)
 
@@ -61,7 +61,7 @@ withSessions log ss = record { items = log .items; board = log .board; sessions 
 abbrev pub quiet : Log → Outcome
 quiet log = record { text = []; log = log }
 
--- "`R item code`"; a refusal leaves everything unchanged.
+-- Rules 11.4 and 9.2: a refusal prints its line, and changes nothing.
 abbrev pub refused : Log → ℕ → Outcome
 refused log code = record { text = rLine (log .items) code; log = log }
 
@@ -69,11 +69,11 @@ refused log code = record { text = rLine (log .items) code; log = log }
 unfoldable pub unless : Log → ℕ → Outcome → Outcome
 unless log refusal done = cond (eqb refusal 0) done (refused log refusal)
 
--- "23: known tag but 16 with no window yet, or 16 with one." A window has rows; 0 for no refusal.
+-- Refusal 23, of an item that needs a window, where there is none. A window has rows; 0 for no refusal.
 abbrev pub early : Log → ℕ
 early log = cond (eqb (log .board .window .counts .size) 0) 23 0
 
--- "22: unknown tag or wrong length", before 23.
+-- Refusal 22, of an item that no log knows, before 23.
 unfoldable pub itemRefusal : Log → Item → ℕ
 itemRefusal log Unknown = 22
 itemRefusal log (Window n) = cond (eqb (log .board .window .counts .size) 0) 0 23
@@ -82,7 +82,7 @@ itemRefusal log (item.Frame id) = early log
 itemRefusal log (Remove slot) = early log
 itemRefusal log (Show slot) = early log
 
--- "16, N."
+-- Rule 11.1, tag 16: the window is made.
 unfoldable pub windowItem : Log → ℕ → Outcome
 windowItem log n =
     let made = freshBoard n in
@@ -98,31 +98,31 @@ settingRule s = ruleOf (weightsOf s)
 abbrev pub ruleIn : List ℕ → Rule
 ruleIn v = settingRule (settingIn v)
 
--- "17, slot, k, a, b"; "`S item slot steps` for each search", and setting searches.
+-- Tag 17: a question is set, and so searched; the S line of that search (rule 11.2).
 unfoldable pub setItem : Log → Setting → Outcome
 setItem log s =
     let placed = setWork (log .board) (s .slot) (s .k) (settingRule s) in
     unless log (placed .refusal) (record { text = sLine (log .items) (s .slot) (placed .steps); log = withBoard log (placed .board) })
 
--- "19, remove slot."
+-- Tag 19: a question is removed.
 unfoldable pub removeItem : Log → ℕ → Outcome
 removeItem log slot =
     let removed = removeWork (log .board) slot in
     unless log (removed .refusal) (quiet (withBoard log (removed .board)))
 
--- "20, show slot": "`Q slot n` followed by n times ` number:score`".
+-- Tag 20: the Q line of a question's list (rule 11.3).
 unfoldable pub showItem : Log → ℕ → Outcome
 showItem log slot =
     let shown = readWork (log .board) slot in
     unless log (shown .refusal) (record { text = qLine slot (take (shown .len) (listed (shown .numbers) (shown .scores))); log = log })
 
--- "`S item slot steps` for each search, slots rising", from this slot on.
+-- Rule 11.2: the S lines of the searches that an item ran, from this slot on.
 unfoldable pub sLines : ℕ → ℕ → List Bool → List ℕ → List ℕ
 sLines item slot [] steps = []
 sLines item slot (b ∷ bs) [] = []
 sLines item slot (b ∷ bs) (n ∷ ns) = cond b (sLine item slot n) [] ++ sLines item (slot + 1) bs ns
 
--- "The program enters a report when its last packet is read."
+-- Rule 5.3: a report is entered with its last packet.
 unfoldable pub enterItem : Log → Values → Outcome
 enterItem log v =
     let entered = enterWork (log .board) v in
@@ -135,11 +135,11 @@ answered log (Refused n) = refused log n
 answered log Kept = quiet log
 answered log (Complete r) = enterItem log (r .values)
 
--- A frame in an item's value: "identifier in 4, data in 8".
+-- A frame in an item's value (rule 10.2).
 abbrev pub frameIn : List ℕ → Frame
 frameIn v = record { identifier = number (part 0 4 v); data-bytes = dataIn v }
 
--- "18, a frame as above": its sender's session takes it.
+-- Tag 18: the frame's sender's session takes it.
 unfoldable pub frameItem : Log → Frame → Outcome
 frameItem log f = answered (withSessions log (sessionsAfter (log .sessions) f)) (answerTo (log .sessions) f)
 
@@ -152,7 +152,7 @@ byItem log (Remove slot) ds = removeItem log slot
 byItem log (Show slot) ds = showItem log slot
 byItem log Unknown ds = quiet log
 
--- An item counts, also where it is skipped; "log items 21, 22, 23, then the call's own".
+-- Rules 11.1 and 9.4: an item counts, also where it is skipped; 22, 23, then the refusals of its call. (21 is `ending`.)
 unfoldable pub itemDone : Log → ℕ → List ℕ → Outcome
 itemDone log tag v =
     let i = itemIn tag v in
@@ -179,7 +179,7 @@ first log bs others (Whole tag start size) =
     after (done .text) (others (done .log) (drop (start + size) bs))
 first log bs others Cut = none log bs
 
--- "Standard input as tagged fields": at most n of the whole items that the bytes start with.
+-- Rule 11.1: items are tagged fields: at most n of the whole ones that the bytes start with.
 unfoldable pub items : ℕ → Log → List ℕ → Consumed
 items zero log bs = none log bs
 items (suc n) log bs = first log bs (λ l r. items n l r) (fieldAt bs 0)
@@ -188,7 +188,7 @@ items (suc n) log bs = first log bs (λ l r. items n l r) (fieldAt bs 0)
 unfoldable pub consumed : Log → List ℕ → Consumed
 consumed log bs = items (length bs) log bs
 
--- "21: log ends inside an item: its R line printed"; between items it just ends.
+-- Refusal 21, where the log ends inside an item; between items it just ends.
 unfoldable pub ending : Log → List ℕ → List ℕ
 ending log [] = []
 ending log (b ∷ bs) = rLine (nextItem (log .items)) 21

@@ -1,4 +1,4 @@
--- Which logs are reached (document 01, "Refusal numbers": "states reached from fresh ones"), by which frames, and what these entered.
+-- Which logs are reached (docs/RULES.md, rule 9.8), by which frames, and what these entered.
 use Prim.Native.Nat.{ℕ}
 use mathlib.Core.Bool.{cond}
 use mathlib.Core.List.{List, [], _∷_, _++_, map}
@@ -48,7 +48,7 @@ completed (Refused n ∷ l) = completed l
 completed (Kept ∷ l) = completed l
 completed (Complete r ∷ l) = r .values ∷ completed l
 
--- "The program enters a report when its last packet is read"; "at most 1,000,000".
+-- Rules 5.2 and 5.3: every report that a frame completes is entered, as long as any can.
 unfoldable pub enteredBy : List Frame → List Values
 enteredBy fs = take reportLimit (completed (answersAt freshSessions fs))
 

@@ -203,7 +203,7 @@ column f (suc n) zero [] = refl
 column f (suc n) (suc p) [] = ap (λ r. f blank ∷ r) (column f n p [])
 column f (suc n) p (y ∷ l) = ap (λ r. f y ∷ r) (column f n p l)
 
--- the lines as they are stored: "unused places are 0"
+-- the lines as they are stored: unused places are 0
 abbrev padded : List Entry → List Entry
 padded l = take 16 (l ++ replicate 16 blank)
 

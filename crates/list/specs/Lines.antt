@@ -1,4 +1,4 @@
--- A list in its two columns: its lines, and how they are stored (document 01, "Window and questions").
+-- A list in its two columns: its lines, and how they are stored (docs/RULES.md, rules 6.4 and 9.6).
 use Prim.Native.Nat.{ℕ}
 use mathlib.Core.Bool.{Bool, true, _&&_}
 use mathlib.Core.List.{List, [], _∷_, _++_, map}
@@ -19,7 +19,7 @@ linesOf [] ss = []
 linesOf (n ∷ ns) [] = []
 linesOf (n ∷ ns) (s ∷ ss) = record { number = n; score = s } ∷ linesOf ns ss
 
--- A list as it is stored, and its columns: "unused places are 0".
+-- A list as it is stored, and its columns: unused places are 0 (rule 9.6).
 abbrev pub numbersOf : List Entry → List ℕ
 numbersOf l = take room (map (λ e. e .number) l ++ replicate room 0)
 
@@ -42,12 +42,12 @@ abbrev pub allOf : {A : Type 0} → (A → Bool) → List A → Bool
 allOf p [] = true
 allOf p (x ∷ xs) = p x && allOf p xs
 
--- "strictly falling in rank"
+-- Rule 9.5: each line ranks above the next.
 abbrev pub falls : (Entry → Entry → Bool) → List Entry → Bool
 falls above [] = true
 falls above (x ∷ []) = true
 falls above (x ∷ y ∷ l) = above x y && falls above (y ∷ l)
 
--- An unused place is 0.
+-- Rule 9.6: an unused place is 0.
 abbrev pub blank : Entry → Bool
 blank e = eqb (e .number) 0 && equal (e .score) (pos 0)

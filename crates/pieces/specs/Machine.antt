@@ -79,6 +79,6 @@ pub record Feeds (log : Log) (w : Waiting) (piece room : List ℕ) (r : Fed) (le
   pub roomy : (j : ℕ) → j < r .taken → hasRoom (length room) (behind 0 (ran log w piece j .text)) ≡ true
   pub full : r .taken < length piece → hasRoom (length room) (r .written) ≡ false
 
--- "21: log ends inside an item: its R line printed."
+-- Refusal 21: the line of a log that ends inside an item.
 unfoldable pub endLine : Log → Waiting → List ℕ
 endLine log w = cond (eqb (w .have) 0) [] (rLine (nextItem (log .items)) 21)

@@ -57,7 +57,7 @@ module _ (w : Window) (fit : fitWindow w ≡ true) (rule : Rule) where
       let row = window.row-holds (due (w .counts) r) (getD (w .numbers) r 0) (valuesIn w r) (facts .rows r (row-within h)) in
       ap (score rule) (low-same (valuesIn w r) (row .permitted))
 
-  -- "names a report held, with its score"
+  -- rule 9.5: a line names a held report, with its score
   pub listed : (e : Entry) → heldAs w rule e ≡ true ↔ e ∈ entries rule (heldReports w)
   unfolding heldAs
   listed e = (to, from)

@@ -69,7 +69,7 @@ steps-at q n h e = ⊎-elim some none (lt-or-eq h)
     none : n ≡ 256 → stepsTaken q ≡ n
     none l = steps-all q (le-of-eq (sym (e ∙ getD-past 256 (visiting (q .rule)) n (left-none (q .rule) n (le-of-eq (sym l)))))) ∙ sym l
 
--- Step, for every question with a cell left: "the next cell is marked, and the list becomes the best k of its old entries and that cell's held reports, each once".
+-- Rule 7.7, for every question with a cell left: the next cell is marked, and the list is the best k of the lines it had and of that cell's reports.
 pub record Step (q : Question) (hs : List Held) : Type 0 where
   pub list : lines (stepped q hs) ≡ taken q hs
   pub each-once : Falling (above (q .rule)) (lines (stepped q hs))
@@ -113,7 +113,7 @@ one-step q hs small left =
         ∙ take-suc (visiting w) n 256 (rw (length-visiting w) (place .0))
         ∙ ap₂ (λ m c. take m (visiting w) ++ (c ∷ [])) (sym (steps-left q left)) (place .1)
 
--- "Beginning a search anew: empty list, no marks, no steps taken."
+-- Rule 7.8: a search begun has no line, no mark, and no step taken.
 pub record Beginning (q : Question) : Type 0 where
   pub no-lines : lines (begun q) ≡ []
   pub no-marks : marked (begun q) ≡ []
@@ -127,7 +127,7 @@ beginning q =
 
 -- ---- n steps
 
--- "After n steps the list is the best k of the reports in the first n cells, and those n cells are marked."
+-- Rule 7.5: what the list and the marks are after n steps.
 pub record After (q : Question) (hs : List Held) (n : ℕ) (p : Question) : Type 0 where
   pub list : lines p ≡ listAfter (searchOf (q .rule)) (q .k) hs n
   pub marks-are : marked p ≡ take n (visiting (q .rule))

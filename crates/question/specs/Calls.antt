@@ -1,4 +1,4 @@
--- Which questions are fit, and what a step and a beginning answer (document 01, "Refusal numbers").
+-- Which questions are fit, and what a step and a beginning answer (docs/RULES.md, section 9).
 use Prim.Native.Nat.{ℕ, _+_, min}
 use mathlib.Core.Bool.{Bool, cond, _&&_}
 use lib.ListN.{drop}
@@ -16,7 +16,7 @@ use Rattle.question.specs.Lines.{lines, finished, begun, stepped}
 use Rattle.question.specs.declared.Question.{Question}
 use Rattle.question.specs.declared.Stepped.{Stepped}
 
--- A window of these counts holds the report of number m: "reports are numbered 1, 2, 3", and the held ones are the latest.
+-- A window of these counts holds the report of number m: numbers start at 1 (rule 5.2), and the held ones are the latest.
 unfoldable pub holdsNumber : Counts → ℕ → Bool
 holdsNumber c m = sized (c .size) && leb 1 m && leb m (c .entered) && ltb (c .entered) (m + c .held)
 
@@ -25,12 +25,12 @@ unfoldable pub heldAs : Window → Rule → Entry → Bool
 heldAs w rule e =
     holdsNumber (w .counts) (e .number) && equal (e .score) (entry rule (reportIn w (rowOf (w .counts .size) (e .number))) .score)
 
--- "any stored number is outside its range", "a list is longer than min(k, held)"
+-- Rule 9.5: every number is in its range, and the list has at most k lines, and no more than reports are held.
 unfoldable pub rangesFit : Question → ℕ → Bool
 rangesFit q held =
     leb 1 (q .k) && leb (q .k) room && fitRule (q .rule) && leb (q .next) cellCount && leb (q .len) (min (q .k) held)
 
--- "names a report not held or with another score, or isn't strictly falling in rank"; places past the list's end are 0.
+-- Rules 9.5 and 9.6: each line names a held report with its score, the lines fall in rank, and places past the list's end are 0.
 unfoldable pub fitQuestion : Window → Question → Bool
 fitQuestion w q =
     rangesFit q (w .counts .held)
@@ -38,14 +38,14 @@ fitQuestion w q =
     && falls (above (q .rule)) (lines q)
     && allOf blank (drop (q .len) (linesOf (q .numbers) (q .scores)))
 
--- "A step 24, 25"; a refusal hands the question back.
+-- Rules 7.7 and 9.4: a step, refused 24, then 25; a refusal hands the question back.
 unfoldable pub stepCall : Window → Question → Stepped
 stepCall w q =
     cond (fitWindow w && fitQuestion w q)
     (cond (finished q) (record { refusal = 25; question = q }) (record { refusal = 0; question = stepped q (heldReports w) }))
     (record { refusal = 24; question = q })
 
--- "Beginning a search 24"; "a question whose search isn't finished is unfit for every call but a step".
+-- Rules 7.8 and 9.4: a beginning, refused 24; by rule 7.9 also where the search hasn't ended.
 unfoldable pub beginCall : Window → Question → Stepped
 beginCall w q =
     cond (fitWindow w && fitQuestion w q && finished q)

@@ -1,4 +1,4 @@
--- A question as it is stored, and what its search does to it (document 01, "Window and questions").
+-- A question as it is stored, and what its search does to it (docs/RULES.md, sections 6 and 7).
 use Prim.Native.Nat.{ℕ, zero, suc, _+_}
 use mathlib.Core.Bool.{Bool, cond, not, _&&_, _||_}
 use mathlib.Core.List.{List, [], _++_, map}
@@ -41,7 +41,7 @@ abbrev pub asked : ℕ → Rule → List Entry → ℕ → Question
 asked k rule l next =
     record { k = k; rule = rule; numbers = numbersOf l; scores = scoresOf l; len = length l; next = next }
 
--- "An empty slot is k = 0 and everything else 0."
+-- Rules 6.6 and 9.6: an empty slot has k 0, and all else in it is 0.
 abbrev pub emptySlot : Question
 emptySlot = asked 0 noRule [] 0
 
@@ -49,7 +49,7 @@ emptySlot = asked 0 noRule [] 0
 unfoldable pub stepsTaken : Question → ℕ
 stepsTaken q = cond (ltb (q .next) cellCount) (placeOf (q .rule) (q .next)) cellCount
 
--- "Those n cells are marked."
+-- Rule 7.5: the cells that the search has taken are the marked ones.
 unfoldable pub marked : Question → List ℕ
 marked q = take (stepsTaken q) (visiting (q .rule))
 
@@ -61,20 +61,20 @@ isMarked q c = has c (marked q)
 unfoldable pub marksOf : Question → List Bool
 marksOf q = map (isMarked q) cells
 
--- One entry put in its rank among the lines, "each once"; a list has room for 16.
+-- One entry put in its rank among the lines, which have each report once; a list has room for 16.
 abbrev pub withEntry : Question → Entry → Question
 withEntry q e = withList q (take room (place (above (q .rule)) e (lines q)))
 
--- "The list is cut to k."
+-- Rule 8.1: the list cut to k.
 abbrev pub cutToK : Question → Question
 cutToK q = withList q (take (q .k) (lines q))
 
--- "It ends when no cell is left, or when the list has k entries and the next cell's best possible score is below the last entry's score."
+-- Rule 7.6: the search has ended: no cell is left, or the list has k lines and the next cell doesn't reach the last of them.
 unfoldable pub finished : Question → Bool
 finished q =
     leb cellCount (q .next) || eqb (q .len) (q .k) && onLast (λ e. not (reaches (q .rule) (q .next) e)) (lines q)
 
--- "Beginning a search anew: empty list, no marks, no steps taken."
+-- Rule 7.8: a search begun: no line, no mark, no step taken.
 abbrev pub begun : Question → Question
 begun q = asked (q .k) (q .rule) [] (cellAt (q .rule) 0)
 
@@ -82,12 +82,12 @@ begun q = asked (q .k) (q .rule) [] (cellAt (q .rule) 0)
 abbrev pub inCell : ℕ → Held → Bool
 inCell c h = eqb (cell (h .values)) c
 
--- "the best k of its old entries and that cell's held reports, each once"
+-- Rule 7.7: the list after a step: the best k of the lines it had and of the next cell's reports.
 abbrev pub taken : Question → List Held → List Entry
 taken q hs =
     best (above (q .rule)) (q .k) (lines q ++ entries (q .rule) (only (inCell (q .next)) hs))
 
--- "The next cell is marked, and the list becomes the best k of its old entries and that cell's held reports, each once."
+-- Rule 7.7: a step: that list, and one cell more is marked.
 unfoldable pub stepped : Question → List Held → Question
 stepped q hs =
     asked (q .k) (q .rule) (taken q hs) (cellAt (q .rule) (placeOf (q .rule) (q .next) + 1))

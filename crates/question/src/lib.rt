@@ -135,8 +135,8 @@ impl Question {
         self.within(self.k as usize, number, score)
     }
 
-    // The search has ended: no cell is left, or k lines are there and the next cell's best possible score is below the last
-    // one's.
+    // The search has ended (rule 7.6): no cell is left, or k lines are there and the cell that comes next can't reach the
+    // last of them.
     pub fn finished(self) -> bool
         ensures { λ r. ⌜ r ≡ finished self ⌝ }
     {

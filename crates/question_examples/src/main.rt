@@ -1,5 +1,5 @@
-// Searches of document 01 through the public calls, on a window and one question. Each line of `stdin` is a case: it is printed, and
-// with it what is answered. `stdout` has what document 01 asks for, as tests/expected/question_examples works it out.
+// Searches through the public calls, on a window and one question. Each line of `stdin` is a case: it is printed, and
+// with it what is answered. `stdout` has what the rules (docs/RULES.md) ask for, as tests/expected/question_examples works it out.
 //
 // new N                        a fresh window: the refusal's number, its size, and whether it is fit
 // enter LOSS SHAKE             the window with a report more

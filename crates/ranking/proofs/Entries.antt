@@ -125,7 +125,7 @@ module _ (rule : Rule) where
   pub top-of : (k : ℕ) (hs : List Held) {e : Entry} → e ∈ top rule k hs → (h : Held) × (h ∈ hs) × (entry rule h ≡ e)
   top-of k hs {e} m = entries-of hs (best-of (above rule) above-strict k (entries rule hs) e m)
 
-  -- "the first min(k, reports held)"
+  -- rule 6.4: k of them, or as many as there are
   pub length-top : (k : ℕ) (hs : List Held) → Pairwise (λ (g h : Held). g .number ≡ h .number → ⊥) hs → length (top rule k hs) ≡ min k (length hs)
   unfolding entries
   length-top k hs d = length-best (above rule) above-strict k (entries rule hs) (entries-distinct hs d) ∙ ap (min k) (length-map hs (entry rule))

@@ -38,14 +38,14 @@ every-cell k hs = all-steps (searchOf noRule) (above-strict noRule) k hs reached
         ap (λ z. not (ltZ z (e .score))) high ∙ ap (λ z. not (ltZ (pos 0) z)) its
 
 pub record Examples : Type 0 where
-  -- "P5 k 1, weights 1, 2, only report (3840, 3840): 4 steps, cells 255, 254, 239, 253"
+  -- P5: 4 steps, cells 255, 254, 239, 253
   pub p5-steps : steps (searchOf (weighing (pos 1) (pos 2))) 1 (report 1 3840 3840 ∷ []) ≡ 4
   pub p5-cells : marks (searchOf (weighing (pos 1) (pos 2))) 1 (report 1 3840 3840 ∷ []) ≡ 255 ∷ 254 ∷ 239 ∷ 253 ∷ []
-  -- "P6 weights -1, 0, k 1, only report (255, 7): 16 steps"
+  -- P6: 16 steps
   pub p6 : steps (searchOf (weighing (negsuc 0) (pos 0))) 1 (report 1 255 7 ∷ []) ≡ 16
-  -- "P7 with (256, 7): 32"
+  -- P7: 32 steps, for a cell that equals the last score is still taken
   pub p7 : steps (searchOf (weighing (negsuc 0) (pos 0))) 1 (report 1 256 7 ∷ []) ≡ 32
-  -- "P8 weights 0, 0: 256 steps for any window"
+  -- P8: weights 0 and 0, 256 steps whatever the window holds
   pub p8 : (k : ℕ) (hs : List Held) → steps (searchOf noRule) k hs ≡ 256
 
 pub examples : Examples

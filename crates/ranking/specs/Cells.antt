@@ -38,7 +38,7 @@ noRule = record { weights = record { loss = pos 0; shake = pos 0 } }
 unfoldable pub isNone : Rule → Bool
 isNone rule = equal (rule .weights .loss) (pos 0) && equal (rule .weights .shake) (pos 0)
 
--- "weights a for loss, b for shake, each -1,000 to 1,000"
+-- Rule 6.1: a weight is from -1,000 to 1,000.
 abbrev pub weightFits : ℤ → Bool
 weightFits weight = leZ (negsuc 999) weight && leZ weight (pos 1000)
 
@@ -46,17 +46,17 @@ weightFits weight = leZ (negsuc 999) weight && leZ weight (pos 1000)
 unfoldable pub fitRule : Rule → Bool
 fitRule rule = weightFits (rule .weights .loss) && weightFits (rule .weights .shake)
 
--- "Score = a x loss + b x shake"
+-- Rule 6.2: a report's score.
 unfoldable pub score : Rule → Values → ℤ
 score rule v = rule .weights .loss *ℤ pos (v .loss) +ℤ rule .weights .shake *ℤ pos (v .shake)
 
 -- ---- the grid
 
--- "Column = loss / 256, row = shake / 256, both rounded down; cell = 16 x row + column"
+-- Rule 7.2: the cell in which a report lies.
 unfoldable pub cell : Values → ℕ
 cell v = columns * (v .shake / side) + v .loss / side
 
--- "for each weight, the highest whole value inside the cell when the weight is positive, otherwise the lowest. That highest value is 256 x index + 255"
+-- Rule 7.3: for a weight above 0 the largest value in a cell, for any other the smallest.
 abbrev pub corner : ℤ → ℕ → ℕ
 corner weight index = elim (ltZ (pos 0) weight) [ true ↦ side * index + 255 | false ↦ side * index ]
 
@@ -64,7 +64,7 @@ corner weight index = elim (ltZ (pos 0) weight) [ true ↦ side * index + 255 | 
 abbrev pub cornerOf : Rule → ℕ → Values
 cornerOf rule c = record { loss = corner (rule .weights .loss) (c % columns); shake = corner (rule .weights .shake) (c / columns) }
 
--- a cell's best possible score
+-- Rule 7.3: a cell's best possible score.
 unfoldable pub bestScore : Rule → ℕ → ℤ
 bestScore rule c = score rule (cornerOf rule c)
 
@@ -74,7 +74,7 @@ bestScore rule c = score rule (cornerOf rule c)
 abbrev pub greater : ℤ → ℤ → Bool → Bool
 greater a b tie = elim (ltZ b a) [ true ↦ true | false ↦ elim (ltZ a b) [ true ↦ false | false ↦ tie ] ]
 
--- "Cells are taken by falling best possible score, equal ones by rising cell number"
+-- Rule 7.4: from the greatest best possible score down; of equal ones the lower cell number first.
 unfoldable pub before : Rule → ℕ → ℕ → Bool
 before rule c d = greater (bestScore rule c) (bestScore rule d) (ltb c d)
 

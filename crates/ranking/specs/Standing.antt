@@ -26,11 +26,11 @@ pub record Entry : Type 0 where
 
 -- ---- the rank order
 
--- Of two reports of equal scores the one of number m goes before the one of number n: "with the greater report number".
+-- Rule 6.3: of two reports of equal scores the one of number m goes before the one of number n: the greater number does.
 unfoldable pub goesFirst : Rule → (m n : ℕ) → Bool
 goesFirst rule m n = ltb n m
 
--- "One report ranks above another when its score is greater, or equal with the greater report number"
+-- Rule 6.3: a greater score ranks above, and of equal ones the one that goes first.
 unfoldable pub above : Rule → Entry → Entry → Bool
 above rule e f = greater (e .score) (f .score) (goesFirst rule (e .number) (f .number))
 
@@ -42,17 +42,17 @@ entry rule h = record { number = h .number; score = score rule (h .values) }
 unfoldable pub entries : Rule → List Held → List Entry
 entries rule hs = map (entry rule) hs
 
--- "The list is the first min(k, reports held) in that ranking."
+-- Rule 6.4: the list of some reports.
 abbrev pub top : Rule → ℕ → List Held → List Entry
 top rule k hs = best (above rule) k (entries rule hs)
 
 -- ---- entering
 
--- A report that enters with the score s, after all others, ranks above one of that other score: "at least the last entry's".
+-- Rule 8.1: a report that enters with the score s, after all others, ranks above one of that other score.
 unfoldable pub passes : Rule → (s other : ℤ) → Bool
 passes rule s other = leZ other s
 
--- "The list has fewer than k entries or its score is at least the last entry's": a list l of which len are counted.
+-- Rule 8.1: a list has a place for that score if it has fewer than k entries, or the score passes its last: a list l of which len are counted.
 unfoldable pub hasPlace : Rule → (k len : ℕ) → List Entry → ℤ → Bool
 hasPlace rule k len l s = ltb len k || onLast (λ e. passes rule s (e .score)) l
 
@@ -78,7 +78,7 @@ searchOf rule =
 
 -- ---- demand 3
 
--- "Loss and shake are 0 to 4095"
+-- Rule 4.2: values that a report can have.
 abbrev pub Permitted : Held → Type 0
 Permitted h = inRange (h .values) ≡ true
 
@@ -86,7 +86,7 @@ Permitted h = inRange (h .values) ≡ true
 unfoldable pub foremost : Rule → ℕ → ℕ
 foremost rule entered = entered + 1
 
--- demand 3: some permitted pair of values of the cell c, added to the window as that report, stands on the best-k list of that larger window
+-- Rule 12.3, demand 3: some permitted pair of values of the cell c, added to the window as that report, stands on the best-k list of that larger window.
 pub record Wanted (rule : Rule) (k : ℕ) (hs : List Held) (entered c : ℕ) : Type 0 where
   pub pair : Held
   pub numbered : pair .number ≡ foremost rule entered

@@ -83,7 +83,7 @@ impl Rule {
         part(weights.loss, values.loss) + part(weights.shake, values.shake)
     }
 
-    // A report ranks above another: its score is greater, or equal with the greater number.
+    // A report ranks above another (rule 6.3): by its score, and of equal ones by its number.
     pub fn above(self, number: u32, score: i32, other_number: u32, other_score: i32) -> bool
         ensures { λ r. ⌜
             r ≡ above self (record { number = number; score = score }) (record { number = «other_number»; score = «other_score» })

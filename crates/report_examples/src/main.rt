@@ -1,5 +1,5 @@
-// The payload of document 01 tried at its edges. Each line of `stdin` is a case: it is printed, and with it what is answered. `stdout`
-// has what document 01 asks for, as tests/expected/report_examples works it out.
+// The payload tried at its edges. Each line of `stdin` is a case: it is printed, and with it what is answered. `stdout`
+// has what the rules (docs/RULES.md) ask for, as tests/expected/report_examples works it out.
 //
 // write ROOM LOSS SHAKE OWN NOTED LENGTH   the writer, with a note of that length: its answer, and the room of 255s that it leaves
 // huge                                     the writer, with a note of 65,536 bytes, in a room of 96 zeros

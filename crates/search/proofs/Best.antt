@@ -320,7 +320,7 @@ module _ {E : Type 0} (above : E → E → Bool) where
     length-rank (x ∷ xs) w =
         place-length x (rank above xs) (λ m. w .0 x (rank-of xs x m) refl) ∙ ap suc (length-rank xs (w .1))
 
-    -- "the first min(k, reports held)"
+    -- rule 6.4: k of them, or as many as there are
     pub length-best : (k : ℕ) (l : List E) → Distinct l → length (best above k l) ≡ min k (length l)
     length-best k l w = length-take k (rank above l) ∙ ap (min k) (length-rank l w)
 

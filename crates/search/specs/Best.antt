@@ -1,11 +1,11 @@
--- The best k of some things, over any carrier and any test `above x y`: "x ranks above y".
+-- The best k of some things, over any carrier and any test `above x y`: x ranks above y.
 use mathlib.Core.Bool.{Bool, true, false}
 use mathlib.Core.List.{List, [], _∷_}
 use Prim.Native.Nat.{ℕ}
 use lib.ListN.{take}
 
 module _ {E : Type 0} (above : E → E → Bool) where
-  -- x put in its rank into a ranked list, and not put where it already stands: "each once"
+  -- x put in its rank into a ranked list, and not put where it already stands: each stands there once
   abbrev pub place : E → List E → List E
   place x [] = x ∷ []
   place x (y ∷ ys) =
@@ -19,6 +19,6 @@ module _ {E : Type 0} (above : E → E → Bool) where
   rank [] = []
   rank (x ∷ xs) = place x (rank xs)
 
-  -- "The list is the first min(k, reports held) in that ranking"
+  -- rule 6.4: the first k of that ranking, or all of them
   abbrev pub best : ℕ → List E → List E
   best k xs = take k (rank xs)

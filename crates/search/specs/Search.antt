@@ -38,11 +38,11 @@ module _ {E I : Type 0} (s : Search E I) where
   abbrev pub heldIn : List ℕ → List I → List I
   heldIn cs hs = only (λ i. has (s .cellOf i) cs) hs
 
-  -- "After n steps the list is the best k of the reports in the first n cells"
+  -- rule 7.5: after n steps, the best k of what the first n cells hold
   abbrev pub listAfter : ℕ → List I → ℕ → List E
   listAfter k hs n = best (s .above) k (entries (heldIn (take n (s .order)) hs))
 
-  -- "It ends when no cell is left, or when the list has k entries and the next cell's best possible score is below the last entry's score"
+  -- rule 7.6: the search ends where no cell is left, or the list has k entries and the next cell doesn't reach the last of them
   abbrev pub stops : ℕ → List E → List ℕ → Bool
   stops k l [] = true
   stops k l (c ∷ left) = eqb (length l) k && onLast (λ e. not (s .reaches c e)) l
@@ -58,7 +58,7 @@ module _ {E I : Type 0} (s : Search E I) where
   abbrev pub found : ℕ → List I → List E
   found k hs = listAfter k hs (steps k hs)
 
-  -- "those n cells are marked"
+  -- rule 7.5: the cells that a search has taken
   abbrev pub marks : ℕ → List I → List ℕ
   marks k hs = take (steps k hs) (s .order)
 

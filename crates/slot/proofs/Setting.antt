@@ -62,7 +62,7 @@ module _ (q : Question) (k : ℕ) (rule : Rule) (reports : List Held) where
         let ks = and-both (leb 1 k) (leb k 16) (r2 .0) in
         (record { some = leb-true 1 k (ks .0); small = leb-true k 16 (ks .1); rule-fits = r3 .0 }, eqb-true (q .k) 0 (no-refusal (eqb (q .k) 0) 0 15 (r3 .1) .0))
 
-    -- "A question is searched when it is set."
+    -- Rule 6.5: a question that is set is searched.
     pub set-searched : setIn q k rule reports ≡ record { refusal = 0; steps = searchedAmong (asked k rule [] 0) reports .steps; question = searchedAmong (asked k rule [] 0) reports .question }
     set-searched = set-taken (eq-eqb (askRefusal (q .k) k rule) 0 (sym set-refusal ∙ free))
 
@@ -84,7 +84,7 @@ module _ (q : Question) where
       go (passed t) m = if-so _ _ t
       go (failed t) m = absurd (m (if-not _ _ t))
 
-  -- "A removed slot equals a fresh one."
+  -- Rule 6.6: a removed slot is a fresh one.
   pub emptied-fresh : emptyRefusal (q .k) ≡ 0 → emptied q ≡ emptySlot
   unfolding emptied
   emptied-fresh e = go (tested (eqb (q .k) 0))

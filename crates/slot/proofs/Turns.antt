@@ -152,7 +152,7 @@ module _ (q : Question) (h : Held) (gone : ℕ) (reports : List Held) where
     pub no-steps : turn q h gone reports .steps ≡ 0
     no-steps = ap (λ (r : Turned). r .steps) left-kept
 
-    -- "Between searches marks stay as the last search left them."
+    -- Rule 8.4: between searches no mark changes.
     pub marks-stay : marked (turn q h gone reports .question) ≡ marked q
     unfolding marked stepsTaken
     marks-stay =

@@ -1,4 +1,4 @@
--- What setting, removing and reading do to one slot, whatever it holds (document 01, "Window and questions" and "Refusal numbers").
+-- What setting, removing and reading do to one slot, whatever it holds (docs/RULES.md, sections 6 and 9).
 use Prim.Native.Nat.{ℕ}
 use mathlib.Core.Bool.{cond, _&&_}
 use mathlib.Core.List.{List, []}
@@ -19,11 +19,11 @@ use Rattle.slot.specs.declared.Shown.{Shown}
 abbrev pub searchedAmong : Question → List Held → Searched
 searchedAmong q reports = cond (leb (q .k) room) (searchedIn q reports) (record { steps = 0; question = q })
 
--- "14: k not 1 to 16. 15: weight out of range. 16: slot in use", of a slot that holds a question with that k, or 0.
+-- Refusals 14, 15 and 16, in their order, of a slot that holds a question with that k, or 0.
 abbrev pub askRefusal : (held k : ℕ) → Rule → ℕ
 askRefusal held k rule = cond (leb 1 k && leb k room) (cond (fitRule rule) (cond (eqb held 0) 0 16) 15) 14
 
--- "A question is searched when it is set"; "setting answers the steps".
+-- Rule 6.5: a question that is set is searched to the end, and the steps are answered.
 unfoldable pub setIn : Question → ℕ → Rule → List Held → Seated
 setIn q k rule reports =
     cond (eqb (askRefusal (q .k) k rule) 0)
@@ -31,15 +31,15 @@ setIn q k rule reports =
     record { refusal = 0; steps = found .steps; question = found .question })
     (record { refusal = askRefusal (q .k) k rule; steps = 0; question = q })
 
--- "17: slot empty (remove, read)", of a slot that holds a question with that k, or 0.
+-- Refusal 17, of a slot that holds a question with that k, or 0.
 abbrev pub emptyRefusal : ℕ → ℕ
 emptyRefusal held = cond (eqb held 0) 17 0
 
--- "A removed slot equals a fresh one"; one that is empty stays.
+-- Rule 6.6: a removed slot is a fresh one; one that is empty stays.
 unfoldable pub emptied : Question → Question
 emptied q = cond (eqb (q .k) 0) q emptySlot
 
--- "A refusal answers its number, every other field 0."
+-- Rule 9.1: the refusal's number, and 0 for all else.
 abbrev pub notShown : ℕ → Shown
 notShown refusal = record { refusal = refusal; len = 0; numbers = replicate room 0; scores = replicate room (pos 0) }
 

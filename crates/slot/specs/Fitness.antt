@@ -1,4 +1,4 @@
--- Which slots are fit (document 01, "Refusal numbers").
+-- Which slots are fit (docs/RULES.md, section 9).
 use mathlib.Core.Bool.{Bool, _&&_, _||_}
 use lib.Dec.{eqb}
 use Rattle.ranking.specs.Cells.{isNone}
@@ -8,7 +8,7 @@ use Rattle.list.specs.Lines.{linesOf, allOf, blank}
 use Rattle.question.specs.Lines.{finished}
 use Rattle.question.specs.Calls.{fitQuestion}
 
--- "An empty slot is k = 0 and everything else 0."
+-- Rule 9.6: an empty slot has k 0, and all else in it is 0.
 unfoldable pub isEmpty : Question → Bool
 isEmpty q =
     eqb (q .k) 0
@@ -17,6 +17,6 @@ isEmpty q =
     && eqb (q .next) 0
     && allOf blank (linesOf (q .numbers) (q .scores))
 
--- A slot is empty, or holds a fit question: "a question whose search isn't finished is unfit for every call but a step".
+-- A slot is empty, or holds a fit question whose search has ended (rule 7.9).
 unfoldable pub slotFit : Window → Question → Bool
 slotFit w q = isEmpty q || fitQuestion w q && finished q

@@ -41,7 +41,7 @@ isQuiet g gone v = not (passes (g .rule) (score (g .rule) v) (g .least)) && ltb 
 abbrev pub noQuestion : Question
 noQuestion = record { k = 0; rule = noRule; numbers = []; scores = []; len = 0; next = 0 }
 
--- "A question has a slot 0 to 31."
+-- Rule 6.1: there are so many slots.
 abbrev pub slotCount : ℕ
 slotCount = 32
 

@@ -1,4 +1,4 @@
--- What a report's entry does to one question (document 01, "Entering a report").
+-- What a report's entry does to one question (docs/RULES.md, section 8).
 use Prim.Native.Nat.{ℕ}
 use mathlib.Core.Bool.{Bool, true, false, not, cond, _&&_}
 use mathlib.Core.List.{List}
@@ -17,11 +17,11 @@ use Rattle.slot.specs.Asking.{searchedAmong}
 abbrev pub placeOn : Question → ℤ → Bool
 placeOn q s = hasPlace (q .rule) (q .k) (q .len) (lines q) s
 
--- "Each question with a mark on its cell", whose list has a place for these values.
+-- Rule 8.1: the question has a mark on the cell of these values, and its list has a place for them.
 unfoldable pub takes : Question → Values → Bool
 takes q v = isMarked q (cell v) && placeOn q (score (q .rule) v)
 
--- "It is put on the list if" the question takes it; "the list is cut to k."
+-- Rule 8.1: the report is put on the list if the question takes it, and the list is cut to k.
 unfoldable pub listed : Question → Held → Question
 listed q h = cond (takes q (h .values)) (cutToK (withEntry q (entry (q .rule) h))) q
 
@@ -33,8 +33,8 @@ later gone e = ltb gone (e .number)
 unfoldable pub lists : Question → ℕ → Bool
 lists q gone = not (allOf (later gone) (lines q))
 
--- One question's turn, in this order: the new report is added; those of a number up to `gone` leave, and a question that lists one of them "is searched afresh, and its marks are
--- replaced", over the reports that are left.
+-- Rules 8.1 and 8.2: one question's turn, in this order: the new report is added; those of a number up to `gone` leave, and a question that lists one of them is searched from the
+-- beginning, over the reports that are left, and has the marks of that search.
 unfoldable pub turn : Question → Held → ℕ → List Held → Turned
 turn q h gone reports =
     let p = listed q h in

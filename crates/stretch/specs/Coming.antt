@@ -16,7 +16,7 @@ sizeAt bytes i = number (part (i + 1) 2 bytes)
 unfoldable pub itemComes : List ℕ → (i tag size : ℕ) → Bool
 itemComes bytes i tag size = leb (i + (3 + size)) (length bytes) && eqb (getD bytes i 0) tag && eqb (sizeAt bytes i) size
 
--- "17 length 6", "19 length 1" or "20 length 1", for a slot 0 to 31.
+-- An item that sets, removes or shows a question (rule 11.1), in a slot that there is.
 unfoldable pub slotComes : List ℕ → ℕ → Bool
 slotComes bytes i = (itemComes bytes i 20 1 || itemComes bytes i 19 1 || itemComes bytes i 17 6) && ltb (getD bytes (i + 3) 0) slotCount
 

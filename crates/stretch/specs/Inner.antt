@@ -39,7 +39,7 @@ pub record Stored (losses₀ shakes₀ numbers₀ : List ℕ) (rows row : ℕ) (
 unfoldable pub shownText : (item slot : ℕ) → Question → List ℕ
 shownText item slot q = cond (eqb (q .k) 0) (rLine item 17) (qLine slot (take (q .len) (text.listed (q .numbers) (q .scores))))
 
--- What setting a question prints: "`S item slot steps` for each search", or the refusal.
+-- What setting a question prints: the S line of its search, or the refusal's line.
 unfoldable pub seatedText : (item slot refusal steps : ℕ) → List ℕ
 seatedText item slot refusal steps = cond (eqb refusal 0) (sLine item slot steps) (rLine item refusal)
 
@@ -48,7 +48,7 @@ pub record Served : Type 0 where
   pub text : List ℕ
   pub question : Question
 
--- "20 length 1, show slot"; "19 length 1, remove slot"; "17 length 6, slot, k, a, b", over these reports.
+-- Rule 11.1: a slot is shown (20), emptied (19) or set (17), over these reports.
 unfoldable pub served : (tag item : ℕ) → List ℕ → Question → List Held → Served
 served tag item v q reports =
     cond (eqb tag 20) (record { text = shownText item (getD v 0 0) q; question = q })

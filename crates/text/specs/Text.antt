@@ -1,4 +1,4 @@
--- The lines that the log program prints (document 01, "Bench sender and log program").
+-- The lines that the log program prints (docs/RULES.md, section 11).
 use Prim.Native.Nat.{ℕ, zero, suc, _+_, _-_, _*_, _/_, _%_, _^_, min}
 use mathlib.Core.List.{List, [], _∷_, _++_}
 use mathlib.Core.Bool.{cond}
@@ -11,11 +11,11 @@ unfoldable pub spelled : ℕ → ℕ → List ℕ
 spelled zero n = (48 + n) ∷ []
 spelled (suc k) n = cond (ltb n 10) ((48 + n) ∷ []) (spelled k (n / 10) ++ (48 + n % 10) ∷ [])
 
--- "Numbers are decimal without leading zeros": no number n has more than n digits before its last.
+-- Rule 11.5: decimal, with no zero in front: no number n has more than n digits before its last.
 unfoldable pub decimal : ℕ → List ℕ
 decimal n = spelled n n
 
--- "A minus before a negative one."
+-- Rule 11.5: with a minus where it is below 0.
 unfoldable pub signed : ℤ → List ℕ
 signed (pos n) = decimal n
 signed (negsuc n) = 45 ∷ decimal (suc n)
@@ -24,11 +24,11 @@ signed (negsuc n) = 45 ∷ decimal (suc n)
 unfoldable pub word : ℕ → List ℕ
 word n = 32 ∷ decimal n
 
--- "`S item slot steps`"; "each line ends in byte 10".
+-- Rule 11.2: the line of a search; by 11.5 a line ends in byte 10.
 unfoldable pub sLine : ℕ → ℕ → ℕ → List ℕ
 sLine item slot steps = 83 ∷ [] ++ word item ++ word slot ++ word steps ++ 10 ∷ []
 
--- "`R item code`."
+-- Rule 11.4: the line of a refusal.
 unfoldable pub rLine : ℕ → ℕ → List ℕ
 rLine item code = 82 ∷ [] ++ word item ++ word code ++ 10 ∷ []
 
@@ -37,7 +37,7 @@ pub record Entry : Type 0 where
   pub number : ℕ
   pub score : ℤ
 
--- "` number:score`."
+-- Rule 11.3: an entry in the line of a list.
 unfoldable pub entry : Entry → List ℕ
 entry e = word (e .number) ++ 58 ∷ [] ++ signed (e .score)
 
@@ -46,7 +46,7 @@ unfoldable pub entries : List Entry → List ℕ
 entries [] = []
 entries (e ∷ es) = entry e ++ entries es
 
--- "`Q slot n` followed by n times ` number:score`."
+-- Rule 11.3: the line of a list.
 unfoldable pub qLine : ℕ → List Entry → List ℕ
 qLine slot es = 81 ∷ [] ++ word slot ++ word (length es) ++ entries es ++ 10 ∷ []
 

@@ -1,5 +1,5 @@
 // The log program's lines tried at the edges of their numbers and of the room. The file `stdout` has the lines that
-// document 01 asks for.
+// the rules (docs/RULES.md) ask for.
 use libc::STDOUT_FILENO;
 use text::Text;
 
@@ -64,7 +64,7 @@ fn score(z: i32) {
     end();
 }
 
-// Document 01's line, the shortest and the longest.
+// The worked example's line, the shortest and the longest.
 fn searches() {
     search(2, 0, 256);
     search(1, 0, 0);
@@ -78,7 +78,7 @@ fn search(item: u64, slot: u8, steps: u16) {
     show(room, behind);
 }
 
-// Document 01's line, the shortest and the longest.
+// The worked example's line, the shortest and the longest.
 fn refusals() {
     refusal(12, 17);
     refusal(1, 1);
@@ -92,7 +92,7 @@ fn refusal(item: u64, code: u8) {
     show(room, behind);
 }
 
-// Document 01's line, none of its entries, one and all of sixteen, and the longest line.
+// The worked example's line, none of its entries, one and all of sixteen, and the longest line.
 fn lists() {
     let mut numbers = [0u32; Text::ENTRIES];
     let mut scores = [0i32; Text::ENTRIES];

@@ -1,4 +1,4 @@
--- Everything that was entered into a window, and what it then holds (document 01, "Window and questions").
+-- Everything that was entered into a window, and what it then holds (docs/RULES.md, section 5).
 use Prim.Native.Nat.{ℕ, _+_, _-_}
 use mathlib.Core.List.{List, [], _∷_}
 use lib.ListN.{length, drop}
@@ -7,7 +7,7 @@ use Rattle.ranking.specs.Standing.{Held}
 use Rattle.window.specs.Rows.{added}
 use Rattle.window.specs.declared.Window.{Window}
 
--- "Reports are numbered 1, 2, 3 in the order they enter": here from n on.
+-- Rule 5.2: reports in the order in which they enter, numbered from n on.
 abbrev pub numbered : ℕ → List Values → List Held
 numbered n [] = []
 numbered n (v ∷ vs) = record { number = n; values = v } ∷ numbered (n + 1) vs

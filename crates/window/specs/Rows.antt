@@ -1,4 +1,4 @@
--- A window of the latest reports, stored as a ring of rows (document 01, "Window and questions").
+-- A window of the latest reports, stored as a ring of rows (docs/RULES.md, section 5).
 use Prim.Native.Nat.{ℕ, zero, suc, _+_, _-_, _%_, min}
 use mathlib.Core.Bool.{Bool, true, cond, _&&_}
 use mathlib.Core.List.{List, [], _∷_}
@@ -16,11 +16,11 @@ use Rattle.window.specs.declared.Place.{Place}
 abbrev pub rowCount : ℕ
 rowCount = 1024
 
--- "at most 1,000,000" reports are entered.
+-- Rule 5.2: so many reports can enter.
 abbrev pub reportLimit : ℕ
 reportLimit = 1000000
 
--- "A window has a size N, 1 to 1,024."
+-- Rule 5.1: a size that a window can have.
 abbrev pub sized : ℕ → Bool
 sized size = leb 1 size && leb size rowCount
 
@@ -34,7 +34,7 @@ empty size =
       counts = record { size = size; entered = 0; held = 0 };
     }
 
--- "18: N out of range: no window"; "a refusal answers its number, every other field 0".
+-- Refusal 18, where N is no such size: no window, and the answer's other fields are 0 (rule 9.1).
 unfoldable pub freshWindow : ℕ → Fresh
 freshWindow size = cond (sized size) (record { refusal = 0; window = empty size }) (record { refusal = 18; window = empty 0 })
 
@@ -57,7 +57,7 @@ abbrev pub reportsFrom : Window → ℕ → ℕ → List Held
 reportsFrom w m zero = []
 reportsFrom w m (suc n) = reportOf w m ∷ reportsFrom w (m + 1) n
 
--- The oldest number that is held: "the held numbers are the latest ones without a gap".
+-- The oldest number that is held: the held ones are the latest, without a gap (rule 9.5).
 abbrev pub oldest : Counts → ℕ
 oldest c = c .entered - c .held + 1
 
@@ -92,11 +92,11 @@ unfoldable pub rowsFit : Window → ℕ → Bool
 rowsFit w zero = true
 rowsFit w (suc n) = rowsFit w n && rowFit w n
 
--- The counts are in their ranges: N, "at most 1,000,000", and no more held than there are rows or were entered.
+-- The counts are in their ranges (rules 5.1 and 5.2), and no more are held than there are rows or were entered.
 abbrev pub countsFit : Counts → Bool
 countsFit c = sized (c .size) && leb (c .entered) reportLimit && leb (c .held) (c .size) && leb (c .held) (c .entered)
 
--- Fit: every stored number is in its range, and "the held numbers are the latest ones without a gap".
+-- Rules 9.5 and 9.6: every stored number is in its range, the held numbers are the latest ones without a gap, and a row that holds nothing is 0.
 unfoldable pub fitWindow : Window → Bool
 fitWindow w = countsFit (w .counts) && rowsFit w rowCount
 
@@ -120,7 +120,7 @@ grown w v =
       counts = counted (w .counts);
     }
 
--- The window with one report more, "at most 1,000,000"; one that can take none stays.
+-- The window with one report more; one that can take none (rules 5.1 and 5.2) stays.
 unfoldable pub added : Window → Values → Window
 added w v = cond (sized (w .counts .size) && ltb (w .counts .entered) reportLimit) (grown w v) w
 

@@ -1,4 +1,4 @@
--- Numbers of more than one byte, and tagged fields (document 01).
+-- Numbers of more than one byte, and tagged fields (docs/RULES.md, section 1).
 use Prim.Native.Nat.{ℕ, zero, suc, _+_, _*_, _/_, _%_}
 use mathlib.Core.List.{List, [], _∷_, _++_}
 use mathlib.Core.Bool.{Bool, true, false, cond, _&&_}
@@ -7,7 +7,7 @@ use lib.Dec.{leb, eqb}
 use Rattle.wire.specs.declared.Field.{Field}
 use Rattle.wire.specs.declared.Field.the-variants.{Whole, Cut}
 
--- "All numbers of more than one byte are little-endian": the number that bytes stand for.
+-- Rule 1.1: the number that bytes stand for, the lowest byte first.
 unfoldable pub number : List ℕ → ℕ
 number [] = 0
 number (b ∷ bs) = b + 256 * number bs
@@ -25,7 +25,7 @@ part at n s = take n (drop at s)
 unfoldable pub head : ℕ → ℕ → List ℕ
 head tag size = tag ∷ bytes 2 size
 
--- "Tagged fields: one-byte tag, two-byte length, value."
+-- Rule 1.2: a tag, the length in two bytes, the value.
 unfoldable pub field : ℕ → List ℕ → List ℕ
 field tag value = head tag (length value) ++ value
 

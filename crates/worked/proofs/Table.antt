@@ -1,4 +1,4 @@
--- Document 01's bench examples marked P, under a single claim: each row is a theorem of the definitions, where they stand.
+-- The worked examples P1 to P11 (docs/RULES.md, section 13), under a single claim: each row is a theorem of the definitions, where they stand.
 -- Assumes nothing.
 use Rattle.bench.proofs.Examples as sender
 use Rattle.joining.proofs.Examples as frames

@@ -1,5 +1,5 @@
 //! Sessions that no log reaches, data of any length, payloads of any size, and the bench sender: what the proved calls answer and leave,
-//! compared with document 01.
+//! compared with the rules (docs/RULES.md).
 
 use crate::logs::{carry, identifier, payload, Rng};
 use crate::rules::le;
@@ -63,7 +63,7 @@ impl Session {
         told(code, 0, 0, 0)
     }
 
-    /// A frame of this session's sender, by document 01.
+    /// A frame of this session's sender, by the rules.
     fn frame(&mut self, id: u32, data: &[u8]) -> u64 {
         let format = id >> 16 & 255;
         if id >= 1 << 29 || data.len() != 8 {

@@ -1,4 +1,4 @@
-//! Makes states, fit and unfit, and compares what the proved calls answer and leave with an independent reading of document 01.
+//! Makes states, fit and unfit, and compares what the proved calls answer and leave with an independent reading of the rules (docs/RULES.md).
 //! calls STATES SEED: so many states from a seed on; then each rule got wrong on purpose has to be noticed.
 
 mod frames;

@@ -1,4 +1,4 @@
-//! A window and one question as they are stored, fit or not, and document 01's calls on them.
+//! A window and one question as they are stored, fit or not, and the calls on them by the rules (docs/RULES.md).
 //!
 //! Report m stands in row (m - 1) mod N; rows that hold nothing are 0. The cells before `next` in the visiting order are the marked ones,
 //! all of them where it is 256. Places past the list's end are 0, and so is everything of an empty slot.

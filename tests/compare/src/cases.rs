@@ -1,4 +1,4 @@
-//! Logs with the text that document 01 asks for: its examples, and every refusal number that a log can reach.
+//! Logs with the text that the rules (docs/RULES.md) ask for: their examples, and every refusal number that a log can reach.
 //! 11 takes 1,000,000 reports (see `long`). A log can't reach 12 (such a payload is refused 10), 19, 20 (the writer's), 24, 25.
 
 use crate::logs::*;
@@ -72,7 +72,7 @@ fn examples(all: &mut Vec<Case>) {
     case(all, "scores at the edges", &negative, "S 2 0 256\nQ 0 3 2:4095000 3:0 1:-4095000\n");
 }
 
-/// P1's frames from the hexadecimal digits of document 01, and the list they make.
+/// P1's frames from their hexadecimal digits, and the list they make.
 fn printed_frames() -> Vec<Item> {
     let (announced, data) = (0x1CEC_FF05, 0x1CEB_FF05);
     vec![

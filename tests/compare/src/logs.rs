@@ -87,7 +87,7 @@ pub fn packet(sender: u8, sequence: u8, bytes: &[u8]) -> Item {
     frame(identifier(7, 235, sender), &data)
 }
 
-/// The frames that carry a payload of any bytes: document 01's writer where the payload is a good one.
+/// The frames that carry a payload of any bytes: the bench sender's frames where the payload is a good one.
 pub fn carry(sender: u8, payload: &[u8]) -> Vec<Item> {
     let count = (payload.len() + 6) / 7;
     let mut out = vec![announcement(sender, payload.len(), count, 65300)];

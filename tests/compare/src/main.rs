@@ -1,4 +1,4 @@
-//! Compares what `cart` prints with what an independent implementation of document 01 prints. See tests/compare/run.
+//! Compares what `cart` prints with what an independent implementation of the rules (docs/RULES.md) prints. See tests/compare/run.
 
 mod cases;
 mod logs;

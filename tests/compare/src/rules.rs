@@ -1,4 +1,4 @@
-//! Document 01's rules as a second program, written from its sentences and from nothing else. Plain, not fast: a search sorts all 256
+//! The rules (docs/RULES.md) as a second program, written from them and from nothing else. Plain, not fast: a search sorts all 256
 //! cells and takes them one by one, and every step looks at the whole window.
 
 use std::cmp::Ordering;
@@ -124,14 +124,14 @@ impl Question {
         Entry { number: r.number, score: if wrong == Wrong::ScoreWithoutSign { score.abs() } else { score } }
     }
 
-    /// "For each weight, the highest whole value inside the cell when the weight is positive, otherwise the lowest."
+    /// A cell's best possible score, that of its best corner (rule 7.3).
     pub fn best(&self, cell: usize, wrong: Wrong) -> i32 {
         let high = if wrong == Wrong::CellEdge { 256 } else { 255 };
         let corner = |weight: i32, index: i32| weight * (256 * index + if weight > 0 { high } else { 0 });
         corner(self.a, cell as i32 % 16) + corner(self.b, cell as i32 / 16)
     }
 
-    /// The cells "by falling best possible score, equal ones by rising cell number".
+    /// The cells in the order in which a search takes them (rule 7.4).
     pub fn order(&self, wrong: Wrong) -> Vec<usize> {
         let mut cells: Vec<usize> = (0..256).collect();
         cells.sort_by(|&c, &d| self.best(d, wrong).cmp(&self.best(c, wrong)).then(c.cmp(&d)));
@@ -173,7 +173,7 @@ impl Question {
         steps
     }
 
-    /// "It is put on the list if the list has fewer than k entries or its score is at least the last entry's."
+    /// Puts a report that enters on the list, where it has a place there (rule 8.1).
     pub fn offer(&mut self, r: &Report, wrong: Wrong) {
         let new = self.entry(r, wrong);
         let room = self.list.len() < self.k;
@@ -186,7 +186,7 @@ impl Question {
     }
 }
 
-/// "Its score is greater, or equal with the greater report number."
+/// The order of two reports in rank (rule 6.3).
 pub fn above(x: &Entry, y: &Entry, wrong: Wrong) -> Ordering {
     let newer = if wrong == Wrong::TieToOlder { x.number.cmp(&y.number) } else { y.number.cmp(&x.number) };
     y.score.cmp(&x.score).then(newer)
@@ -512,7 +512,7 @@ impl Cart {
         }
     }
 
-    /// "Each question listing it is searched afresh."
+    /// Questions that list the report that leaves are searched from the beginning (rule 8.2).
     fn leave(&mut self, number: u32) {
         let wrong = self.wrong;
         let mut slots: Vec<usize> = (0..32).collect();
