@@ -66,15 +66,17 @@ pub record HandsBack (q : Question) (counts list : List ℕ) (scores : List ℤ)
   pub listed : list₁ ≡ sets list 0 (q .numbers)
   pub scored : scores₁ ≡ sets scores 0 (q .scores)
 
--- Answers as one number: 2^56 times the refusal, 2^44 times the loss, 2^32 times the shake, or the steps of a search.
+-- An answer in one number: 2^56 times the refusal or another code, 2^44 times the loss, 2^32 times the shake, and the sender's own number.
+abbrev pub told : (code loss shake own : ℕ) → ℕ
+told code loss shake own = code * 72057594037927936 + loss % 4096 * 17592186044416 + shake % 4096 * 4294967296 + own
+
+-- An entry's has the steps of the search in slot `at` in the place of a shake, and the report's number.
+abbrev pub enteredNumber : Entered → ℕ → ℕ
+enteredNumber e at = told (e .refusal) 0 (getD (e .steps) at 0) (e .number)
+
+-- The refusal of a setting and its steps, of a reading and the list's length.
 abbrev pub placedNumber : Placed → ℕ
 placedNumber p = p .refusal * 65536 + p .steps
 
 abbrev pub shownNumber : Shown → ℕ
 shownNumber s = s .refusal * 256 + s .len
-
-abbrev pub told : (code loss shake own : ℕ) → ℕ
-told code loss shake own = code * 72057594037927936 + loss % 4096 * 17592186044416 + shake % 4096 * 4294967296 + own
-
-abbrev pub enteredNumber : Entered → ℕ → ℕ
-enteredNumber e at = told (e .refusal) 0 (getD (e .steps) at 0) (e .number)

@@ -3,9 +3,11 @@ ghost use mathlib.Core.Path.{_≡_};
 ghost use lib.ListN.{length};
 ghost use lib.Seq.{sets};
 ghost use Rattle.report.specs.Payload.{given, readPayload, hasNote, noteOf};
+ghost use Rattle.report.specs.Answers.{readingFields, writtenFields};
 ghost use Rattle.joining.specs.Joining.{take-frame};
+ghost use Rattle.joining.specs.Answers.{answerFields};
 ghost use Rattle.bench.specs.Bench.{sendAnswer, sent};
-ghost use Rattle.calls.specs.Frames.{sessionOf, countsOf, answerNumber, readingNumber, writtenNumber};
+ghost use Rattle.calls.specs.Frames.{sessionOf, countsOf, reportNumber, bytesNumber};
 use crate::count;
 use crate::put;
 use crate::told;
@@ -26,7 +28,7 @@ pub extern "C" fn calls_frame(
     id: u32,
     carried: &[u8],
 ) -> u64
-    ensures { λ r. ⌜ r ≡ answerNumber (take-frame (sessionOf (now (counts .entry)) (now (payload .entry))) id (now (carried .entry)) .answer) ⌝ }
+    ensures { λ r. ⌜ r ≡ reportNumber 255 (answerFields (take-frame (sessionOf (now (counts .entry)) (now (payload .entry))) id (now (carried .entry)) .answer)) ⌝ }
     ensures { λ _. ⌜ now (counts .exit) ≡ countsOf (now (counts .entry)) (take-frame (sessionOf (now (counts .entry)) (now (payload .entry))) id (now (carried .entry)) .session) ⌝ }
     ensures { λ _. ⌜ now (payload .exit) ≡ sets (now (payload .entry)) 0 (take-frame (sessionOf (now (counts .entry)) (now (payload .entry))) id (now (carried .entry)) .session .bytes) ⌝ }
 {
@@ -44,7 +46,7 @@ pub extern "C" fn calls_frame(
 // A payload of any size handed to its reader.
 #[no_mangle]
 pub extern "C" fn calls_payload(payload: &[u8]) -> u64
-    ensures { λ r. ⌜ r ≡ readingNumber (readPayload (now (payload .entry))) ⌝ }
+    ensures { λ r. ⌜ r ≡ reportNumber 0 (readingFields (readPayload (now (payload .entry)))) ⌝ }
 {
     match Payload::read(payload) {
         Reading::Accepted(r) => told(0, r.values.loss, r.values.shake, r.own),
@@ -73,7 +75,7 @@ pub extern "C" fn calls_send(
     noted: bool,
     note: &[u8],
 ) -> u64
-    ensures { λ r. ⌜ r ≡ writtenNumber (sendAnswer (length (now (room .entry))) sender (record { values = record { loss = loss; shake = shake }; own = own }) (given noted (now (note .entry)))) ⌝ }
+    ensures { λ r. ⌜ r ≡ bytesNumber (writtenFields (sendAnswer (length (now (room .entry))) sender (record { values = record { loss = loss; shake = shake }; own = own }) (given noted (now (note .entry))))) ⌝ }
     ensures { λ _. ⌜ now (room .exit) ≡ sent (now (room .entry)) sender (record { values = record { loss = loss; shake = shake }; own = own }) (given noted (now (note .entry))) ⌝ }
 {
     let report = Report {
@@ -104,7 +106,7 @@ fn session_of(counts: &[u32], payload: &[u8]) -> Session
 }
 
 fn answer_number(answer: Answer) -> u64
-    ensures { λ r. ⌜ r ≡ answerNumber answer ⌝ }
+    ensures { λ r. ⌜ r ≡ reportNumber 255 (answerFields answer) ⌝ }
 {
     match answer {
         Answer::Refused(n) => told(n, 0, 0, 0),

@@ -3,6 +3,7 @@ pub mod Fitness
 pub mod Frames
 pub mod Steps
 pub mod Cases
+pub mod Answers
 pub mod Mixing
 pub mod Reached
 pub mod MadeUp

@@ -117,9 +117,3 @@ sizeHeld bs = cond (eqb (getD bs 17 0) 4) (20 + number (part 18 2 bs)) 17
 -- That payload, as a part of the session's bytes.
 unfoldable pub payloadHeld : List ℕ → List ℕ
 payloadHeld bs = take (sizeHeld bs) bs
-
--- The refusal number of each answer (rule 9.1), 0 for none.
-abbrev pub answerNumber : Answer → ℕ
-answerNumber (Refused n) = n
-answerNumber Kept = 0
-answerNumber (Complete r) = 0

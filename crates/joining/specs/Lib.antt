@@ -2,3 +2,4 @@
 pub mod Frame
 pub mod Joining
 pub mod Run
+pub mod Answers

@@ -3,4 +3,5 @@ pub mod Places
 pub mod Reader
 pub mod Writer
 pub mod RoundTrip
+pub mod Answers
 pub mod Outcomes

@@ -1,2 +1,3 @@
 -- A report and its payload: what the functions of `report` are held to.
 pub mod Payload
+pub mod Answers

@@ -1,6 +1,9 @@
 -- `calls::frames::answer_number` meets its contract, by the three answers.
 -- Assumes nothing.
-use mathlib.Core.Path.{_∙_}
+use mathlib.Core.Path.{_∙_, ap, sym}
+use Rattle.joining.specs.declared.Answer.{Answer}
+use Rattle.joining.specs.Answers.{answerFields}
+use Rattle.calls.specs.Frames.{reportNumber}
 use borrow.Author.Needs.{needs}
 use Rattle.calls.proofs.frames.answer_number.Statement.{statement}
 use Rattle.calls.proofs.frames.answer_number.Tie as tie
@@ -24,13 +27,13 @@ told-requires-3 : tie.Need-told-requires-3
 told-requires-3 c κs = search needs
 
 returns : tie.Need-returns
-returns c = c .told .ensures ∙ rw (c .before .before .answer .given .1)
+returns c = c .told .ensures ∙ sym (ap (λ (a : Answer). reportNumber 255 (answerFields a)) (c .before .before .answer .given .1))
 
 returns-2 : tie.Need-returns-2
-returns-2 c = search needs
+returns-2 c = c .told2 .ensures ∙ sym (ap (λ (a : Answer). reportNumber 255 (answerFields a)) (c .before .enum-told .given .1))
 
 returns-3 : tie.Need-returns-3
-returns-3 c = c .told3 .ensures ∙ rw (c .before .before .answer2 .given .1)
+returns-3 c = c .told3 .ensures ∙ sym (ap (λ (a : Answer). reportNumber 255 (answerFields a)) (c .before .before .answer2 .given .1))
 
 pub answer-number-spec : {M : Type 1} → statement M
 answer-number-spec =

@@ -9,7 +9,8 @@ use lib.Seq.{sets}
 use Rattle.joining.specs.declared.Session.{Session}
 use Rattle.joining.specs.declared.Taken.{Taken}
 use Rattle.joining.specs.Joining.{take-frame}
-use Rattle.calls.specs.Frames.{countsOf, answerNumber}
+use Rattle.joining.specs.Answers.{answerFields}
+use Rattle.calls.specs.Frames.{countsOf, reportNumber}
 use borrow.Author.Needs.{needs}
 use Rattle.calls.proofs.frames.calls_frame.Statement.{statement}
 use Rattle.calls.proofs.frames.calls_frame.Tie as tie
@@ -61,7 +62,7 @@ returns c =
     let stored =
     c .before .before .before .put3 .ensures
     ∙ ap (λ (l : List ℕ). set l 2 (left .next)) (c .before .before .before .before .before .before .before .before .put2 .ensures ∙ ap (λ (l : List ℕ). set l 1 (left .count)) (c .before .before .before .before .before .before .before .before .before .before .before .before .before .put .ensures)) in
-    (c .answer-number .ensures ∙ ap (λ (t : Taken). answerNumber (t .answer)) done, (stored ∙ ap (λ (t : Taken). countsOf (now (a .counts)) (t .session)) done, c .before .before .before .before .before .before .before .before .before .before .before .before .before .before .before .before .before .before .put-all .ensures ∙ ap (λ (t : Taken). sets (now (a .payload)) 0 (t .session .bytes)) done))
+    (c .answer-number .ensures ∙ ap (λ (t : Taken). reportNumber 255 (answerFields (t .answer))) done, (stored ∙ ap (λ (t : Taken). countsOf (now (a .counts)) (t .session)) done, c .before .before .before .before .before .before .before .before .before .before .before .before .before .before .before .before .before .before .put-all .ensures ∙ ap (λ (t : Taken). sets (now (a .payload)) 0 (t .session .bytes)) done))
 
 pub calls-frame-spec : {M : Type 1} → statement M
 calls-frame-spec =

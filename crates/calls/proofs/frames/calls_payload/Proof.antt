@@ -1,7 +1,9 @@
 -- `calls::frames::calls_payload` meets its contract, by what the reader answers.
 -- Assumes nothing.
 use mathlib.Core.Path.{_∙_, ap, sym}
-use Rattle.calls.specs.Frames.{readingNumber}
+use Rattle.report.specs.declared.Reading.{Reading}
+use Rattle.report.specs.Answers.{readingFields}
+use Rattle.calls.specs.Frames.{reportNumber}
 use borrow.Author.Needs.{needs}
 use Rattle.calls.proofs.frames.calls_payload.Statement.{statement}
 use Rattle.calls.proofs.frames.calls_payload.Tie as tie
@@ -22,10 +24,10 @@ told-requires-2 : tie.Need-told-requires-2
 told-requires-2 c κs = search needs
 
 returns : tie.Need-returns
-returns c = c .told .ensures ∙ sym (ap readingNumber (sym (c .before .before .before .before .read .ensures) ∙ c .before .before .r .given .1))
+returns c = c .told .ensures ∙ sym (ap (λ (r : Reading). reportNumber 0 (readingFields r)) (sym (c .before .before .before .before .read .ensures) ∙ c .before .before .r .given .1))
 
 returns-2 : tie.Need-returns-2
-returns-2 c = c .told2 .ensures ∙ sym (ap readingNumber (sym (c .before .before .before .before .read .ensures) ∙ c .before .before .n .given .1))
+returns-2 c = c .told2 .ensures ∙ sym (ap (λ (r : Reading). reportNumber 0 (readingFields r)) (sym (c .before .before .before .before .read .ensures) ∙ c .before .before .n .given .1))
 
 pub calls-payload-spec : {M : Type 1} → statement M
 calls-payload-spec =

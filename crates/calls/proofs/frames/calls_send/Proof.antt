@@ -1,7 +1,9 @@
 -- `calls::frames::calls_send` meets its contract, by what the bench sender answers.
 -- Assumes nothing.
 use mathlib.Core.Path.{_∙_, ap, sym}
-use Rattle.calls.specs.Frames.{writtenNumber}
+use Rattle.report.specs.declared.Written.{Written}
+use Rattle.report.specs.Answers.{writtenFields}
+use Rattle.calls.specs.Frames.{bytesNumber}
 use borrow.Author.Needs.{needs}
 use Rattle.calls.proofs.frames.calls_send.Statement.{statement}
 use Rattle.calls.proofs.frames.calls_send.Tie as tie
@@ -29,14 +31,14 @@ same-length c = search needs
 
 returns : tie.Need-returns
 returns c =
-    (c .told .ensures ∙ sym (ap writtenNumber (sym (c .before .before .before .before .before .before .send .ensures .0) ∙ c .before .before .n .given .1)), c .before .before .before .before .before .before .send .ensures .1)
+    (c .told .ensures ∙ sym (ap (λ (w : Written). bytesNumber (writtenFields w)) (sym (c .before .before .before .before .before .before .send .ensures .0) ∙ c .before .before .n .given .1)), c .before .before .before .before .before .before .send .ensures .1)
 
 same-length-2 : tie.Need-same-length-2
 same-length-2 c = search needs
 
 returns-2 : tie.Need-returns-2
 returns-2 c =
-    (c .told2 .ensures ∙ sym (ap writtenNumber (sym (c .before .before .before .before .before .before .send .ensures .0) ∙ c .before .before .n2 .given .1)), c .before .before .before .before .before .before .send .ensures .1)
+    (c .told2 .ensures ∙ sym (ap (λ (w : Written). bytesNumber (writtenFields w)) (sym (c .before .before .before .before .before .before .send .ensures .0) ∙ c .before .before .n2 .given .1)), c .before .before .before .before .before .before .send .ensures .1)
 
 pub calls-send-spec : {M : Type 1} → statement M
 calls-send-spec =
