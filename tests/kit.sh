@@ -1,17 +1,15 @@
 # What the scripts of tests/ and bench/ share; they read it in from the top of the repository.
 
-# Sets `run` to the words that run a program as rt does: under the kit's loader and C library, and under its emulator on another processor;
-# `home` to the kit's folder, `own` to the part of it that is for this machine, `tools` to its compiler and loader.
+. tests/loader.sh
+
+# Sets `run` to the words that run a program as rt does, what kit_find sets, and `emulated` to yes or no.
 kit_run() {
-    local guide word
-    guide=$(rt doc)
-    home=${RATTLE_HOME:-$(dirname "$(dirname "$guide")")}
-    own=$home/on/$(uname -m)
-    tools=$own/toolchain
-    run=("$tools/lib/ld-linux-x86-64.so.2" --library-path "$tools/lib")
+    local word
+    kit_find
+    run=("$loader" --library-path "$tools/lib")
     emulated=no
-    if [ -x "$tools/bin/qemu-x86_64" ]; then
-        run=("$tools/bin/qemu-x86_64" "${run[@]}")
+    if [ -n "$emulator" ]; then
+        run=("$emulator" "${run[@]}")
         emulated=yes
         for word in $(env | sed -n 's/^\(QEMU_[A-Za-z0-9_]*\)=.*/\1/p'); do unset "$word"; done
     fi

@@ -3,6 +3,7 @@
 use capture::Sort;
 use input::Input;
 use input::Next;
+use input::Source;
 use items::Item;
 use libc::STDERR_FILENO;
 use libc::STDOUT_FILENO;
@@ -24,8 +25,8 @@ struct Reader {
     going: bool,
 }
 
-// Takes line after line, to the end of the text or to a write that fails. A proved loop has to end, so it counts its turns down
-// from a number that no run uses up.
+// Takes line after line, to the end of the text, and then tells the counts; or to a read or a write that fails, which is said. A proved
+// loop has to end, so it counts its turns down from a number that no run uses up.
 fn main() {
     let mut reader = Reader::fresh();
     let mut input = Input::fresh();
@@ -34,7 +35,10 @@ fn main() {
     let mut turns = u64::MAX;
     while turns > 0 {
         turns -= 1;
-        let Next::Line(found) = input.next(&mut line, &mut space) else {
+        let next = input.next(&mut line, &mut space);
+        let Next::Line(found) = next else {
+            let counts = reader.counts;
+            stopped(next, counts);
             break;
         };
         input = found;
@@ -43,7 +47,14 @@ fn main() {
             break;
         }
     }
-    let counts = reader.counts;
+}
+
+// Why no line comes: the text has ended, with so many lines of each sort, or it can't be read.
+fn stopped(next: Next, counts: Counts) {
+    if let Next::Failed = next {
+        say(b"cart candump: the input can't be read\n");
+        return;
+    }
     summary(counts);
 }
 
@@ -70,6 +81,9 @@ impl Reader {
 
     // Writes a line's item, if it has one. A line that is too long is broken.
     fn take(self, found: Input, line: &[u8]) -> Reader {
+        if cut(found) {
+            return self;
+        }
         if !found.fits() {
             return self.count(found.number, Sort::Broken, true);
         }
@@ -77,7 +91,7 @@ impl Reader {
         let sort = capture::write(wire::front(line, found.size), &mut room);
         let mut going = true;
         if let Sort::Frame = sort {
-            going = io::write_all(STDOUT_FILENO, &room);
+            going = written(&room);
         }
         self.count(found.number, sort, going)
     }
@@ -88,6 +102,27 @@ impl Reader {
         let counts = counted(self.counts, sort);
         Reader { counts, going }
     }
+}
+
+// Whether a read failed inside the line: what has come of it stands for nothing.
+fn cut(found: Input) -> bool {
+    if found.whole {
+        return false;
+    }
+    let source = found.source;
+    let Source::Failed = source else {
+        return false;
+    };
+    true
+}
+
+// Whether an item could be written; where not, that is said.
+fn written(item: &[u8]) -> bool {
+    if io::write_all(STDOUT_FILENO, item) {
+        return true;
+    }
+    say(b"cart candump: the output can't be written\n");
+    false
 }
 
 fn say(text: &[u8]) {

@@ -6,11 +6,12 @@ use commands::Fault;
 use commands::Kind;
 use input::Input;
 use input::Next;
+use input::Source;
 use libc::STDERR_FILENO;
 use libc::STDOUT_FILENO;
 
-// Sends line after line, to the end of the text or to a write that fails. A proved loop has to end, so it counts its turns down
-// from a number that no run uses up.
+// Sends line after line, to the end of the text; or to a read or a write that fails, which is said. A proved loop has to end, so it
+// counts its turns down from a number that no run uses up.
 fn main() {
     let mut input = Input::fresh();
     let mut line = [0u8; Input::LONGEST];
@@ -18,7 +19,9 @@ fn main() {
     let mut turns = u64::MAX;
     while turns > 0 {
         turns -= 1;
-        let Next::Line(found) = input.next(&mut line, &mut space) else {
+        let next = input.next(&mut line, &mut space);
+        let Next::Line(found) = next else {
+            stopped(next);
             break;
         };
         input = found;
@@ -28,8 +31,18 @@ fn main() {
     }
 }
 
+// Why no line comes, where that isn't the end of the text.
+fn stopped(next: Next) {
+    if let Next::Failed = next {
+        say(b"cart send: the input can't be read\n");
+    }
+}
+
 // Writes a line's items, or what is wrong with it. False where its items could not be written.
 fn sent(found: Input, line: &[u8]) -> bool {
+    if cut(found) {
+        return true;
+    }
     let number = found.number;
     if !found.fits() {
         wrong(number);
@@ -39,7 +52,7 @@ fn sent(found: Input, line: &[u8]) -> bool {
     let mut room = [0u8; Command::LARGEST];
     let answer = commands::write(wire::front(line, found.size), &mut room);
     match answer {
-        Answer::Items(n) => io::write_all(STDOUT_FILENO, wire::front(&room, n)),
+        Answer::Items(n) => written(wire::front(&room, n)),
         Answer::Wrong(fault) => {
             wrong(number);
             faulty(fault);
@@ -51,6 +64,27 @@ fn sent(found: Input, line: &[u8]) -> bool {
             true
         }
     }
+}
+
+// Whether a read failed inside the line: what has come of it stands for nothing.
+fn cut(found: Input) -> bool {
+    if found.whole {
+        return false;
+    }
+    let source = found.source;
+    let Source::Failed = source else {
+        return false;
+    };
+    true
+}
+
+// Whether the items could be written; where not, that is said.
+fn written(items: &[u8]) -> bool {
+    if io::write_all(STDOUT_FILENO, items) {
+        return true;
+    }
+    say(b"cart send: the output can't be written\n");
+    false
 }
 
 fn say(text: &[u8]) {

@@ -37,8 +37,11 @@ slice-aggregate-next-2 c = search needs
 next-requires : tie.Need-next-requires Inv-loop μ-loop
 next-requires c κs = search needs
 
-enum-known-found : tie.Need-enum-known-found Inv-loop μ-loop
-enum-known-found c = search needs
+enum-known-next : tie.Need-enum-known-next Inv-loop μ-loop
+enum-known-next c = search needs
+
+stopped-requires : tie.Need-stopped-requires Inv-loop μ-loop
+stopped-requires c κs = search needs
 
 slice-aggregate-take : tie.Need-slice-aggregate-take Inv-loop μ-loop
 slice-aggregate-take c = search needs
@@ -54,11 +57,14 @@ loop-again c =
     let s = c .before .before .before .before .before .before .before in
     (s .before .line2 .given, s .space2 .given)
 
-summary-requires : tie.Need-summary-requires Inv-loop μ-loop
-summary-requires c κs = search needs
-
 returns : tie.Need-returns Inv-loop μ-loop
 returns c = search needs
+
+returns-2 : tie.Need-returns-2 Inv-loop μ-loop
+returns-2 c = search needs
+
+returns-3 : tie.Need-returns-3 Inv-loop μ-loop
+returns-3 c = search needs
 
 pub main-spec : {M : Type 1} → statement M
 main-spec =
@@ -74,10 +80,12 @@ main-spec =
     slice-aggregate-next
     slice-aggregate-next-2
     next-requires
-    enum-known-found
+    enum-known-next
+    stopped-requires
     slice-aggregate-take
     take-requires
     loop-less
     loop-again
-    summary-requires
-    returns)
+    returns
+    returns-2
+    returns-3)

@@ -9,11 +9,11 @@ use Rattle.cart.proofs.main.Statement.{statement}
 use Rattle.cart.proofs.main.Tie as tie
 
 abbrev Inv-loop : tie.InvT-loop
-Inv-loop log₀ waiting₀ space₀ room₀ n₀ at₀ turns₀ log waiting space room n at turns =
+Inv-loop log₀ waiting₀ space₀ room₀ n₀ at₀ ended₀ turns₀ log waiting space room n at ended turns =
     (at ≤ n) × (n ≤ 65536) × (length space ≡ 65536) × (length room ≡ 65536)
 
 abbrev μ-loop : tie.MeasureT-loop
-μ-loop log₀ waiting₀ space₀ room₀ n₀ at₀ turns₀ log waiting space room n at turns = turns
+μ-loop log₀ waiting₀ space₀ room₀ n₀ at₀ ended₀ turns₀ log waiting space room n at ended turns = turns
 
 fresh-requires : tie.Need-fresh-requires Inv-loop μ-loop
 fresh-requires c κs = search needs
@@ -54,8 +54,11 @@ read-so c =
     let long = c .before .before .space2 .given in
     (omega arith, omega (arith, c .count .ensures .0, long), long, c .before .before .before .before .before .before .before .loop .inv .3)
 
+is-end-requires : tie.Need-is-end-requires Inv-loop μ-loop
+is-end-requires c κs = search needs
+
 loop-again : tie.Need-loop-again Inv-loop μ-loop
-loop-again c = read-so (c .before)
+loop-again c = read-so (c .before .before)
 
 loop-less-2 : tie.Need-loop-less-2 Inv-loop μ-loop
 loop-less-2 c = omega arith
@@ -87,8 +90,8 @@ slice-aggregate-front c = search needs
 front-requires : tie.Need-front-requires Inv-loop μ-loop
 front-requires c κs = search needs
 
-write-all-requires : tie.Need-write-all-requires Inv-loop μ-loop
-write-all-requires c κs = search needs
+printed-requires : tie.Need-printed-requires Inv-loop μ-loop
+printed-requires c κs = search needs
 
 turns-left-requires : tie.Need-turns-left-requires Inv-loop μ-loop
 turns-left-requires c κs = search needs
@@ -113,11 +116,14 @@ slice-aggregate-front-2 c = search needs
 front-requires-2 : tie.Need-front-requires-2 Inv-loop μ-loop
 front-requires-2 c κs = search needs
 
-write-all-requires-2 : tie.Need-write-all-requires-2 Inv-loop μ-loop
-write-all-requires-2 c κs = search needs
+printed-requires-2 : tie.Need-printed-requires-2 Inv-loop μ-loop
+printed-requires-2 c κs = search needs
 
 returns : tie.Need-returns Inv-loop μ-loop
 returns c = search needs
+
+returns-2 : tie.Need-returns-2 Inv-loop μ-loop
+returns-2 c = search needs
 
 pub main-spec : {M : Type 1} → statement M
 main-spec =
@@ -135,6 +141,7 @@ main-spec =
     read-requires
     slice-aggregate-count
     count-requires
+    is-end-requires
     loop-less
     loop-again
     loop-less-2
@@ -147,7 +154,7 @@ main-spec =
     add-at
     slice-aggregate-front
     front-requires
-    write-all-requires
+    printed-requires
     turns-left-requires
     loop-less-3
     loop-again-3
@@ -155,5 +162,6 @@ main-spec =
     finish-requires
     slice-aggregate-front-2
     front-requires-2
-    write-all-requires-2
-    returns)
+    printed-requires-2
+    returns
+    returns-2)

@@ -34,8 +34,11 @@ slice-aggregate-next-2 c = search needs
 next-requires : tie.Need-next-requires Inv-loop μ-loop
 next-requires c κs = search needs
 
-enum-known-found : tie.Need-enum-known-found Inv-loop μ-loop
-enum-known-found c = search needs
+enum-known-next : tie.Need-enum-known-next Inv-loop μ-loop
+enum-known-next c = search needs
+
+stopped-requires : tie.Need-stopped-requires Inv-loop μ-loop
+stopped-requires c κs = search needs
 
 slice-aggregate-sent : tie.Need-slice-aggregate-sent Inv-loop μ-loop
 slice-aggregate-sent c = search needs
@@ -73,7 +76,8 @@ main-spec =
     slice-aggregate-next
     slice-aggregate-next-2
     next-requires
-    enum-known-found
+    enum-known-next
+    stopped-requires
     slice-aggregate-sent
     sent-requires
     loop-less
