@@ -133,10 +133,6 @@ size-bound r (some note) h = go (inRange (r .values)) (leb (length note) 64) ref
     go false true e h = absurd (omega arith)
     go false false e h = absurd (omega arith)
 
--- So `Bench::LARGEST` is room for any of them.
-pub room-bound : (r : Report) (note : Option (List ℕ)) → fault r note ≡ 0 → roomFor note ≤ 156
-room-bound r note h = omega (arith, size-bound r note h)
-
 -- A payload written over 84 bytes is their front.
 pub written-front : (r : Report) (note : Option (List ℕ)) {w : List ℕ} {n : ℕ} → fault r note ≡ 0 → w ≡ written (replicate 84 255) r note → n ≡ size note
     → take n w ≡ payload r note

@@ -1,5 +1,5 @@
 -- All sessions in one array of bytes that a caller lends: 87 bytes for each sender, in their order.
-use Prim.Native.Nat.{ℕ, zero, suc, _+_, _*_}
+use Prim.Native.Nat.{ℕ, zero, suc, _+_}
 use mathlib.Core.List.{List, [], _∷_, _++_}
 use lib.ListN.{getD, take, drop}
 use Rattle.joining.specs.declared.Session.{Session}
@@ -22,10 +22,6 @@ sessionBytes s = s .bytes ++ (s .size ∷ s .count ∷ s .next ∷ [])
 -- The session that stands at the front of bytes.
 abbrev pub sessionAt : List ℕ → Session
 sessionAt p = record { bytes = take largest p; size = getD p largest 0; count = getD p (largest + 1) 0; next = getD p (largest + 2) 0 }
-
--- The session of sender k: the 87 bytes from 87 k on.
-abbrev pub sessionIn : List ℕ → ℕ → Session
-sessionIn room k = sessionAt (drop (placeBytes * k) room)
 
 -- The sessions of the first n senders.
 unfoldable pub sessionsOf : ℕ → List ℕ → List Session

@@ -1,9 +1,9 @@
--- However a log is cut into pieces, the texts of the pieces, one after the other, are the text of the whole: a whole item stays the same
--- whatever bytes come behind it, and bytes that end inside an item wait.
+-- Bytes of a log that come in two parts are done as if they came at once: a whole item stays the same whatever bytes come behind it, and
+-- bytes that end inside an item wait.
 -- Assumes nothing.
 use mathlib.Core.Path.{_≡_, refl, sym, ap, ap₂, _∙_}
 use mathlib.Core.Logic.{_⊎_, inl, inr, ⊎-elim}
-use mathlib.Core.List.{List, [], _∷_, _++_, append-assoc, append-nil}
+use mathlib.Core.List.{List, [], _∷_, _++_, append-assoc}
 use Prim.Native.Nat.{ℕ, zero, suc, _+_, _-_, _≤_, _<_}
 use native.Mathlib.Omega.{arith}
 use lib.Dec.{ltb}
@@ -14,7 +14,7 @@ use Rattle.wire.specs.declared.Field.the-variants.{Cut}
 use Rattle.wire.proofs.Fields.{whole, cut-short, cut-over}
 use Rattle.text.proofs.Decimal.{below-or}
 use Rattle.journal.specs.declared.Log.{Log}
-use Rattle.journal.specs.Log.{Outcome, Consumed, itemDone, after, none, first, items, consumed, ending, textFrom, freshLog, logText, inPieces}
+use Rattle.journal.specs.Log.{Outcome, Consumed, itemDone, after, none, first, items, consumed}
 
 -- The length that the first field's head says.
 abbrev pub size : List ℕ → ℕ
@@ -122,26 +122,3 @@ cut-at (suc m) log xs ys h =
 -- Bytes that come in two parts.
 pub consumed-append : (log : Log) (xs ys : List ℕ) → consumed log (xs ++ ys) ≡ more (consumed log xs) ys
 consumed-append log xs ys = cut-at (length xs) log xs ys (omega arith)
-
-pub text-append : (log : Log) (xs ys : List ℕ) → textFrom log (xs ++ ys) ≡ consumed log xs .text ++ textFrom (consumed log xs .log) (consumed log xs .rest ++ ys)
-unfolding textFrom
-text-append log xs ys =
-    ap (λ (c : Consumed). c .text ++ ending (c .log) (c .rest)) (consumed-append log xs ys) ∙ append-assoc (consumed log xs .text) _ _
-
--- All pieces, one after the other.
-abbrev pub concatenated : List (List ℕ) → List ℕ
-concatenated [] = []
-concatenated (p ∷ ps) = p ++ concatenated ps
-
-pub pieces : (ps : List (List ℕ)) (log : Log) (rest : List ℕ) → inPieces log rest ps ≡ textFrom log (rest ++ concatenated ps)
-unfolding inPieces
-pieces [] log rest = ap (textFrom log) (sym (append-nil rest))
-pieces (p ∷ ps) log rest =
-    let c = consumed log (rest ++ p) in
-    ap (λ (t : List ℕ). c .text ++ t) (pieces ps (c .log) (c .rest)) ∙ sym (text-append log (rest ++ p) (concatenated ps))
-    ∙ ap (textFrom log) (append-assoc rest p (concatenated ps))
-
--- The claim: in pieces of any size, the log's text.
-pub pieces-whole : (ps : List (List ℕ)) → inPieces freshLog [] ps ≡ logText (concatenated ps)
-unfolding logText
-pieces-whole ps = pieces ps freshLog []

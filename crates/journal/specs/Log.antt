@@ -202,10 +202,3 @@ textFrom log bs =
 -- The text of a whole log.
 unfoldable pub logText : List ℕ → List ℕ
 logText bs = textFrom freshLog bs
-
--- The text of a log that comes in pieces: the whole items of each are printed when it has come, and the rest waits for the next piece.
-unfoldable pub inPieces : Log → List ℕ → List (List ℕ) → List ℕ
-inPieces log rest [] = textFrom log rest
-inPieces log rest (p ∷ ps) =
-    let c = consumed log (rest ++ p) in
-    c .text ++ inPieces (c .log) (c .rest) ps

@@ -1,5 +1,5 @@
 // A stretch of a log's whole items, done where the log stands: frames, and items for a slot that there is. The window, the slots and
-// the sessions are locals of one function and nowhere handed on, so that an item changes them in place.
+// the sessions are locals of one function for the whole stretch, so that a frame changes them in place and copies none of them.
 ghost use mathlib.Core.Path.{_≡_};
 ghost use mathlib.Core.Bool.{true, cond, _&&_};
 ghost use mathlib.Core.List.{[]};
@@ -113,7 +113,7 @@ pub fn has_room(room: usize, at: usize) -> bool
     at <= room - Stretch::MOST
 }
 
-// The same with the sessions in bytes. The window and the slots are locals here and nowhere handed on, so that an item
+// The same with the sessions in bytes. The window and the slots are locals here, and their rows are lent, so that a frame
 // changes them where they stand; beside each slot stands its gauge.
 fn run(from: Standing, bus: &mut [u8; Bus::ROOM], bytes: &[u8], out: &mut [u8]) -> Standing
     requires { ⌜ length (now bus) ≡ roomBytes ⌝ }

@@ -35,7 +35,7 @@ decimal-longest (suc k) n h =
     rw (length-more n l) (omega (arith, decimal-longest k (n / 10) q)))
     (below-or n 10 (ltb n 10) refl)
 
--- `Text::NUMBER` and `Text::SHORT_NUMBER`.
+-- `Text::NUMBER`, and a number of 32 bits.
 pub decimal64-longest : (n : ℕ) → n < 2 ^ 64 → length (decimal n) ≤ 20
 decimal64-longest n h = decimal-longest 19 n (omega arith)
 

@@ -13,10 +13,8 @@ ghost use Rattle.text.specs.Text.{decimal, signed, word, sLine, rLine, e
 pub struct Text {}
 
 impl Text {
-    // A number of 64 bits, and one of 32.
+    // A number of 64 bits.
     pub const NUMBER: usize = 20;
-
-    pub const SHORT_NUMBER: usize = 10;
 
     // A score, with its minus.
     pub const SCORE: usize = 11;
