@@ -3,7 +3,6 @@
 use capture::Sort;
 use input::Input;
 use input::Next;
-use input::Source;
 use items::Item;
 use libc::STDERR_FILENO;
 use libc::STDOUT_FILENO;
@@ -81,7 +80,7 @@ impl Reader {
 
     // Writes a line's item, if it has one. A line that is too long is broken.
     fn take(self, found: Input, line: &[u8]) -> Reader {
-        if cut(found) {
+        if found.cut() {
             return self;
         }
         if !found.fits() {
@@ -102,18 +101,6 @@ impl Reader {
         let counts = counted(self.counts, sort);
         Reader { counts, going }
     }
-}
-
-// Whether a read failed inside the line: what has come of it stands for nothing.
-fn cut(found: Input) -> bool {
-    if found.whole {
-        return false;
-    }
-    let source = found.source;
-    let Source::Failed = source else {
-        return false;
-    };
-    true
 }
 
 // Whether an item could be written; where not, that is said.

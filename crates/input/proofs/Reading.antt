@@ -19,7 +19,7 @@ use Rattle.input.specs.declared.Next.the-variants.{Line}
 use Rattle.input.specs.declared.Source.{Source}
 use Rattle.input.specs.declared.Source.the-variants.{Open, Ended, Failed}
 use Rattle.input.specs.Lines.{lineSize, firstLine, ended, behindLine, nextLine, unread, lineTaken}
-use Rattle.input.specs.Reading.{SameLine, Turned, Whole, Part, Handed, Comes, without, answerOf}
+use Rattle.input.specs.Reading.{SameLine, Turned, Whole, Part, Handed, Comes, without, answerOf, failed, isCut}
 use Rattle.input.proofs.Cutting.{first-open, ended-open, behind-open, whole-open, none-behind, first-whole, ended-whole, behind-whole, left-behind}
 
 length-first : (u : List ℕ) → length (firstLine u) ≡ lineSize u
@@ -134,6 +134,10 @@ line-back {line = line} {r = r} h s =
 pub no-line : (i : Input) → i .whole ≡ false → ltb 0 (i .size) ≡ false → without (i .source) ≡ answerOf i
 unfolding answerOf
 no-line i w s = rw (w, s)
+
+pub open-line : (i : Input) → i .whole ≡ false → failed (i .source) ≡ isCut i
+unfolding isCut
+open-line i w = rw w
 
 pub comes : (from : Input) (line space line′ space′ : List ℕ) (i : Input) {s : Input} → s ≡ nextLine from
     → Handed (unread s space) line i line′ (unread i space′) → i .number ≡ s .number → Comes from line space (answerOf i) line′ space′

@@ -3,7 +3,7 @@
 use Prim.Native.Nat.{ℕ, _+_, _%_, _^_, min}
 use mathlib.Core.Path.{_≡_}
 use mathlib.Core.List.{List, _++_}
-use mathlib.Core.Bool.{true, false, cond}
+use mathlib.Core.Bool.{Bool, true, false, cond}
 use lib.ListN.{length}
 use lib.Seq.{sets}
 use lib.Dec.{ltb}
@@ -65,3 +65,13 @@ without source.Failed = Failed
 -- A line, perhaps the last one and without an end; or why there is none.
 unfoldable pub answerOf : Input → Next
 answerOf i = cond (i .whole) (Line i) (cond (ltb 0 (i .size)) (Line i) (without (i .source)))
+
+-- Whether a read failed.
+abbrev pub failed : Source → Bool
+failed source.Open = false
+failed source.Ended = false
+failed source.Failed = true
+
+-- A read failed before the line's end came.
+unfoldable pub isCut : Input → Bool
+isCut i = cond (i .whole) false (failed (i .source))

@@ -6,7 +6,7 @@ ghost use lib.ListN.{length, drop};
 ghost use lib.Dec.{leb};
 ghost use lib.Seq.{sets};
 ghost use Rattle.input.specs.Lines.{longest, freshInput, nextLine, firstLine, unread, lineTaken};
-ghost use Rattle.input.specs.Reading.{Turned, Comes, answerOf, SameLine};
+ghost use Rattle.input.specs.Reading.{Turned, Comes, answerOf, SameLine, isCut};
 use libc::STDIN_FILENO;
 use lines::Run;
 
@@ -114,6 +114,21 @@ impl Input {
         ensures { λ r. ⌜ r ≡ leb (self .size) longest ⌝ }
     {
         self.size <= Input::LONGEST
+    }
+
+    // Whether a read failed inside the line: what has come of it stands for nothing.
+    pub fn cut(self) -> bool
+        ensures { λ r. ⌜ r ≡ isCut self ⌝ }
+    {
+        let source = self.source;
+        if self.whole {
+            return false;
+        }
+        match source {
+            Source::Open => false,
+            Source::Ended => false,
+            Source::Failed => true,
+        }
     }
 
     // Takes the line's next bytes from those that were read: up to the line's end, or all of them.

@@ -6,7 +6,6 @@ use commands::Fault;
 use commands::Kind;
 use input::Input;
 use input::Next;
-use input::Source;
 use libc::STDERR_FILENO;
 use libc::STDOUT_FILENO;
 
@@ -40,7 +39,7 @@ fn stopped(next: Next) {
 
 // Writes a line's items, or what is wrong with it. False where its items could not be written.
 fn sent(found: Input, line: &[u8]) -> bool {
-    if cut(found) {
+    if found.cut() {
         return true;
     }
     let number = found.number;
@@ -64,18 +63,6 @@ fn sent(found: Input, line: &[u8]) -> bool {
             true
         }
     }
-}
-
-// Whether a read failed inside the line: what has come of it stands for nothing.
-fn cut(found: Input) -> bool {
-    if found.whole {
-        return false;
-    }
-    let source = found.source;
-    let Source::Failed = source else {
-        return false;
-    };
-    true
 }
 
 // Whether the items could be written; where not, that is said.
