@@ -12,7 +12,7 @@ use Rattle.report.specs.Answers.{readingFields}
 use Rattle.joining.specs.declared.Sender.the-variants as sender
 use Rattle.joining.specs.Frame.{senderOf, frameRefusal, senderIn}
 use Rattle.joining.specs.Joining.{yields}
-use Rattle.joining.specs.Answers.{SenderFields, answerFields, senderFields}
+use Rattle.joining.specs.Answers.{answerFields, senderFields}
 
 -- `Frame::sender` has the number of `frameRefusal`, and where that isn't 0 the sender is 0.
 pub sender-fields : (id : ℕ) (d : List ℕ)

@@ -2,7 +2,7 @@
 -- Assumes nothing.
 use mathlib.Core.Path.{_≡_, sym, ap, _∙_}
 use mathlib.Core.Bool.{Bool}
-use mathlib.Core.List.{List, [], _∷_}
+use mathlib.Core.List.{List, []}
 use Prim.Native.Nat.{ℕ, _+_, _≤_, _<_}
 use native.Mathlib.Omega.{arith}
 use lib.IntN.{ℤ}
@@ -11,7 +11,7 @@ use lib.Seq.{take-nil}
 use Rattle.search.specs.Best.{best, place}
 use Rattle.ranking.specs.Standing.{Entry}
 use Rattle.laws.proofs.Orders.{StrictTotal}
-use Rattle.search.proofs.Best.{best-cons, best-snoc, length-best-le}
+use Rattle.search.proofs.Best.{best-snoc, length-best-le}
 use Rattle.list.specs.declared.Lines.{Lines}
 use Rattle.list.specs.Lines.{linesOf, linesIn, stored}
 use Rattle.list.proofs.Stored.{Roomy, lineAt, take-line, lines-back}
@@ -23,10 +23,6 @@ module _ (above : Entry → Entry → Bool) (strict : StrictTotal above) where
   -- what the best k of some are, read back
   pub best-back : (k : ℕ) → k ≤ 16 → (l : List Entry) → linesIn (stored (best above k l)) ≡ best above k l
   best-back k small l = lines-back (best above k l) (omega (arith, length-best-le above strict k l))
-
-  -- the best k of some entries become the best k of one more
-  pub best-placed : (k : ℕ) → k ≤ 16 → (e : Entry) (l : List Entry) → stored (take k (place above e (linesIn (stored (best above k l))))) ≡ stored (best above k (e ∷ l))
-  best-placed k small e l = ap (λ m. stored (take k (place above e m))) (best-back k small l) ∙ ap stored (sym (best-cons above strict k e l))
 
   -- one line more
   module _ (ns : List ℕ) (ss : List ℤ) (r : Roomy ns ss) (n : ℕ) (h : n ≤ 16) (i : ℕ) (g : i < n) where

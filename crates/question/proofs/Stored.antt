@@ -29,9 +29,6 @@ module _ (q : Question) (r : Roomy (q .numbers) (q .scores)) where
   pub shown-lines : (n : ℕ) → n ≡ shown q → take n (linesOf (q .numbers) (q .scores)) ≡ lines q
   shown-lines = list.front-lines (listOf q) r
 
-  pub length-lines : length (lines q) ≡ shown q
-  length-lines = list.length-shown (q .numbers) (q .scores) r (q .len) (shown q) refl
-
   pub all-lines : (n : ℕ) → n ≡ shown q → (m : ℕ) → m ≡ n → take m (take n (linesOf (q .numbers) (q .scores))) ≡ lines q
   all-lines = list.all-lines (listOf q) r
 

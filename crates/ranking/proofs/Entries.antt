@@ -1,11 +1,11 @@
 -- Laws of a question's rule that those above cite: its rank order is strict and total, what its entries and its best k are, and what it means that a
 -- report which enters after all others has a place.
 -- Assumes nothing.
-use mathlib.Core.Path.{_≡_, refl, sym, ap, ap₂, _∙_, subst}
+use mathlib.Core.Path.{_≡_, refl, sym, ap, _∙_, subst}
 use mathlib.Core.Bool.{Bool, true, false, not, cond, _||_}
 use mathlib.Core.List.{List, [], _∷_, _++_, Memᴰ·map, Memᴰ·of-map}
 use mathlib.Core.Logic.{_⊎_, inl, inr}
-use Prim.Native.Nat.{ℕ, min, _+_, _≤_, _<_}
+use Prim.Native.Nat.{ℕ, min, _≤_, _<_}
 use native.Mathlib.Omega.{arith}
 use borrow.Author.Tests.{lt-ltb, eq-eqb, ne-eqb}
 use lib.Dec.{ltb}
@@ -13,11 +13,10 @@ use lib.ListN.{length, take, length-map}
 use lib.IntN.{ℤ, pos}
 use lib.Signed.{ltZ}
 use Rattle.laws.specs.Lists.{_∈_, onLast}
-use Rattle.laws.specs.Whole.{equal as same}
-use Rattle.laws.proofs.Tests.{and-both, and-true}
+use Rattle.laws.proofs.Tests.{and-true}
 use Rattle.laws.proofs.Lists.{Same, Pairwise, Distinct, same-map, map-append, last-same}
 use Rattle.laws.proofs.Orders.{StrictTotal, one-way, ltb-strict}
-use Rattle.laws.proofs.Whole.{ltZ-strict, le-is, equal-is, equal-refl}
+use Rattle.laws.proofs.Whole.{ltZ-strict, le-is, equal-refl}
 use Rattle.search.specs.Best.{place}
 use Rattle.search.proofs.Best.{best-same, best-of, best-rule, best-cons, length-best}
 use Rattle.ranking.specs.Cells.{noRule, isNone, score, greater}
@@ -112,10 +111,6 @@ module _ (rule : Rule) where
     entries-distinct hs (d .1),
   )
 
-  pub length-entries : (hs : List Held) → length (entries rule hs) ≤ length hs
-  unfolding entries
-  length-entries hs = omega (arith, length-map hs (entry rule))
-
   -- ---- the best k
 
   pub top-same : (k : ℕ) (l m : List Held) → Same l m → top rule k l ≡ top rule k m
@@ -201,12 +196,6 @@ module _ (rule : Rule) where
     no-place l full low = rw (full, low)
 
 -- ---- the rule of an empty slot
-
-pub none-is : (rule : Rule) → isNone rule ≡ true → rule ≡ noRule
-unfolding isNone
-none-is rule h =
-    let both = and-both (same (rule .weights .loss) (pos 0)) (same (rule .weights .shake) (pos 0)) h in
-    ap₂ (λ a b. record { weights = record { loss = a; shake = b } }) (equal-is _ _ (both .0)) (equal-is _ _ (both .1))
 
 pub is-none : isNone noRule ≡ true
 unfolding isNone

@@ -17,7 +17,7 @@ use Rattle.ranking.specs.Cells.{before, count, cells, visiting, placeOf,
 use Rattle.ranking.specs.Scan.{leads, nearer, placeAfter}
 use Rattle.ranking.specs.declared.Rule.{Rule}
 use Rattle.laws.proofs.Tests.{Tested, passed, failed, tested, clash, and-both, and-true}
-use Rattle.laws.proofs.Lists.{Pairwise, here, drop-⊆, lt-or-eq, pairwise-at, pairwise-drop, pairwise-only, only-in, only-of, index-of, getD-in, getD-left, getD-past, only-append, placed, inside, take-more, Other}
+use Rattle.laws.proofs.Lists.{Pairwise, here, drop-⊆, lt-or-eq, pairwise-at, pairwise-drop, pairwise-only, only-in, only-of, index-of, getD-in, getD-left, getD-past, only-append, Other}
 use Rattle.laws.proofs.Orders.{opposite, differs, ltb-strict}
 use Rattle.search.proofs.Best.{falling-place, length-same}
 use Rattle.ranking.proofs.Cells.{before-strict, visiting-in, visiting-of, visiting-same, visiting-falling, visiting-distinct, length-visiting, cells-distinct}
@@ -256,24 +256,7 @@ module _ (rule : Rule) where
   pub left-none : (m : ℕ) → 256 ≤ m → drop m (visiting rule) ≡ []
   left-none m h = drop-of-length-le (visiting rule) {i = m} (subst (λ n. n ≤ m) (sym (length-visiting rule)) h)
 
-  -- a cell is among the first m exactly where its place is below m
-  pub taken-place : (m c : ℕ) → c < 256 → c ∈ take m (visiting rule) ↔ placeOf rule c < m
-  unfolding n
-  taken-place m c h = (to, from)
-    where
-      to : c ∈ take m (visiting rule) → placeOf rule c < m
-      to t =
-          let r = placed m (visiting rule) t in
-          let e = getD-left 256 (visiting rule) (r .0) (r .3) in
-          let below = subst (λ z. r .0 < z) (length-visiting rule) (inside (r .0) (visiting rule) (r .3)) in
-          subst (λ z. z < m) (sym (ap (placeOf rule) (sym e) ∙ place-at (r .0) below)) (r .1)
-
-      from : placeOf rule c < m → c ∈ take m (visiting rule)
-      from l =
-          take-more (visiting rule) l c
-          (subst (λ s. c ∈ s) (sym (up-to c h)) (Memᴰ·append-right (take (placeOf rule c) (visiting rule)) here))
-
-  -- and, while cells are left, exactly where it stands before the next one
+  -- while cells are left, a cell is among the first m exactly where it stands before the next one
   pub taken-before : (m c : ℕ) → m < 256 → c < 256 → c ∈ take m (visiting rule) ↔ before rule c (cellAt rule m) ≡ true
   taken-before m c h g = (to, from)
     where

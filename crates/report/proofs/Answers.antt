@@ -11,7 +11,7 @@ use Rattle.report.specs.declared.Report.{Report}
 use Rattle.report.specs.declared.Reading.the-variants as reading
 use Rattle.report.specs.declared.Written.the-variants as writing
 use Rattle.report.specs.Payload.{reportIn, isPayload, readPayload, size, writeRefusal, writeAnswer}
-use Rattle.report.specs.Answers.{ReportFields, BytesFields, noReport, readingFields, writtenFields}
+use Rattle.report.specs.Answers.{noReport, readingFields, writtenFields}
 
 -- The reader refuses 10 exactly where the bytes are no payload, and then every other field is 0.
 pub reader-fields : (p : List ℕ) → readingFields (readPayload p) ≡ record { refusal = cond (isPayload p) 0 10; complete = isPayload p; report = cond (isPayload p) (reportIn p) noReport }

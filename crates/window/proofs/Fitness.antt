@@ -15,7 +15,7 @@ use Rattle.laws.proofs.Lists.{lt-or-eq}
 use Rattle.values.specs.declared.Values.{Values}
 use Rattle.values.specs.Range.{inRange}
 use Rattle.values.proofs.Facts.{range-is}
-use Rattle.window.specs.Rows.{sized, empty, freshWindow, rowOf, age, due, noValues, holds, rowFit, rowsFit, countsFit, fitWindow, grown, added}
+use Rattle.window.specs.Rows.{sized, empty, rowOf, age, due, noValues, holds, rowFit, rowsFit, countsFit, fitWindow, grown, added}
 use Rattle.window.specs.declared.Counts.{Counts}
 use Rattle.window.specs.declared.Window.{Window}
 use Rattle.window.proofs.Ring.{Ring, counting, next-ring, due-new, due-later}
@@ -114,10 +114,6 @@ module _ (w : Window) where
     pub numbers-whole : length (w .numbers) ≡ 1024
 
 -- ---- a fresh window
-
-pub fresh-taken : (n : ℕ) → sized n ≡ true → freshWindow n ≡ record { refusal = 0; window = empty n }
-unfolding freshWindow
-fresh-taken n h = rw h
 
 pub empty-whole : (n : ℕ) → Whole (empty n)
 empty-whole n =

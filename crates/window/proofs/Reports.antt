@@ -108,12 +108,6 @@ module _ (w : Window) (ranges : Ranges (w .counts)) where
       let numbered : x .number ≡ r .0 = ap (λ (z : Held). z .number) (r .3) in
       (omega arith, omega arith)
 
-  -- A held report is the one that lies in its number's row.
-  pub held-report : (x : Held) → x ∈ heldReports w → x ≡ reportOf w (x .number)
-  held-report x k =
-      let r = held-of k in
-      r .3 ∙ ap (reportOf w) (sym (ap (λ (z : Held). z .number) (r .3)))
-
 -- The oldest stands first: the one that leaves a full window.
 pub oldest-first : (w : Window) → 1 ≤ w .counts .held → heldReports w ≡ reportOf w (oldest (w .counts)) ∷ drop 1 (heldReports w)
 unfolding heldReports

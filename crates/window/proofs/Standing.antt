@@ -2,13 +2,13 @@
 -- Assumes nothing.
 use mathlib.Core.Path.{_≡_, sym, ap, _∙_, subst}
 use mathlib.Core.Logic.{_⊎_, inl, inr, ⊎-elim}
-use mathlib.Core.Bool.{true, false}
+use mathlib.Core.Bool.{true}
 use mathlib.Core.List.{List·Memᴰ·head, List·Memᴰ·not-nil, List·Memᴰ·cases-cons}
 use Prim.Native.Nat.{ℕ, zero, suc, _+_, _-_, _≤_, _<_}
 use native.Mathlib.Nat.{add-zero, add-suc, mod-lt, not-suc-le-zero, le-of-suc-le-suc}
 use native.Mathlib.Omega.{arith}
-use borrow.Author.Tests.{eq-eqb, eqb-true, eqb-false, le-ltb}
-use lib.Dec.{eqb, ltb}
+use borrow.Author.Tests.{eq-eqb, eqb-true, eqb-false}
+use lib.Dec.{eqb}
 use lib.ListN.{getD}
 use Rattle.laws.specs.Lists.{_∈_}
 use Rattle.values.proofs.Facts.{low-same}
@@ -74,21 +74,6 @@ module _ (w : Window) (fit : fitWindow w ≡ true) where
   in-ring : (m : ℕ) → rowOf (w .counts .size) m < 1024
   in-ring m = omega (arith, mod-lt (m - 1) (ranges .ring .some), ranges .within)
 
-  -- From row N on a fit window holds nothing.
-  pub standing-size : standing w (w .counts .size) ≡ standing w 1024
-  standing-size = standing-end w (w .counts .size) (1024 - w .counts .size) (λ r h l. empty r h (all r l)) ∙ ap (standing w) whole-ring
-    where
-      whole-ring : w .counts .size + (1024 - w .counts .size) ≡ 1024
-      whole-ring = omega (arith, ranges .within)
-
-      all : (r : ℕ) → r < w .counts .size + (1024 - w .counts .size) → r < 1024
-      all r l = omega (arith, ranges .within)
-
-      empty : (r : ℕ) → w .counts .size ≤ r → r < 1024 → getD (w .numbers) r 0 ≡ 0
-      empty r h l =
-          let past : ltb r (w .counts .size) ≡ false = le-ltb r (w .counts .size) h in
-          row r l .as-due ∙ rw (past, due)
-
   -- the values that stand in a row are whole
   whole : (r : ℕ) → r < 1024 → reportIn w r ≡ record { number = getD (w .numbers) r 0; values = valuesIn w r }
   whole r below = ap (λ v. record { number = getD (w .numbers) r 0; values = v }) (low-same (valuesIn w r) (row r below .permitted))
@@ -105,12 +90,6 @@ module _ (w : Window) (fit : fitWindow w ≡ true) where
   number-there m late entered =
       row (rowOf (w .counts .size) m) (in-ring m) .as-due
       ∙ due-held (ranges .ring) m late entered
-
-  pub there-held : (m : ℕ) → 1 ≤ m → getD (w .numbers) (rowOf (w .counts .size) m) 0 ≡ m → (w .counts .entered < m + w .counts .held) × (m ≤ w .counts .entered)
-  there-held m first there =
-      let is : due (w .counts) (rowOf (w .counts .size) m) ≡ m = sym (row (rowOf (w .counts .size) m) (in-ring m) .as-due) ∙ there in
-      let k = due-kept (ranges .ring) (rowOf (w .counts .size) m) (λ e. omega (arith, is)) in
-      subst (λ n. (w .counts .entered < n + w .counts .held) × (n ≤ w .counts .entered)) is (k .late, k .entered)
 
   stands : (m : ℕ) → w .counts .entered < m + w .counts .held → m ≤ w .counts .entered → reportOf w m ∈ standing w 1024
   stands m late entered = moved (whole r (in-ring m) ∙ rw number) (standing-in w 1024 r (in-ring m) used)
