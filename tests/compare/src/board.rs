@@ -244,7 +244,11 @@ impl Board {
 
     pub fn remove(&mut self, slot: usize) -> Result<(), u32> {
         self.used(slot)?;
+        let lines = self.slots[slot].lines;
         self.slots[slot] = Slot::fresh();
+        if self.wrong == Wrong::RemovingLeavesTheLines {
+            self.slots[slot].lines = lines;
+        }
         Ok(())
     }
 
@@ -280,19 +284,25 @@ impl Board {
             }
             slot.list(&q.list);
         }
+        if wrong == Wrong::SearchesFalling {
+            searches.reverse();
+        }
         Ok((new.number, searches))
     }
 
-    /// A slot that a step or a beginning can work on (rule 9.4): refusal 24.
-    fn workable(&self, slot: &Slot, empty: Wrong) -> bool {
-        self.window.fit(self.wrong) && (slot.fit(&self.window, self.wrong) || self.wrong == empty && slot.zeros())
+    /// The window and a slot that a step or a beginning can work on, whatever stands in other slots (rule 6.7).
+    fn workable(&self, slot: &Slot, empty: Wrong, all: Wrong) -> bool {
+        let others = |s: &Slot| s == slot || s.stands(&self.window, self.wrong);
+        self.window.fit(self.wrong)
+            && (slot.fit(&self.window, self.wrong) || self.wrong == empty && slot.zeros())
+            && (self.wrong != all || self.slots.iter().all(others))
     }
 
     pub fn begin(&mut self, slot: usize) -> Result<(), u32> {
         let wrong = self.wrong;
         let s = &self.slots[slot];
         let under_way = !s.ended(wrong) && wrong != Wrong::UnfinishedBegins && !s.zeros();
-        first(&[(!self.workable(s, Wrong::EmptySlotBegins) || under_way, 24)])?;
+        first(&[(!self.workable(s, Wrong::EmptySlotBegins, Wrong::BeginLooksAtAllSlots) || under_way, 24)])?;
         let s = &mut self.slots[slot];
         if wrong != Wrong::BeginKeepsTheList {
             s.list(&[]);
@@ -308,7 +318,7 @@ impl Board {
         let s = &self.slots[slot];
         let ended = s.ended(wrong) && wrong != Wrong::FinishedSteps;
         let early = wrong == Wrong::TwentyFiveFirst && ended;
-        first(&[(early, 25), (!self.workable(s, Wrong::EmptySlotSteps), 24), (ended, 25)])?;
+        first(&[(early, 25), (!self.workable(s, Wrong::EmptySlotSteps, Wrong::StepLooksAtAllSlots), 24), (ended, 25)])?;
         let (mut q, steps) = (s.question(wrong), s.steps(wrong));
         if wrong == Wrong::StepListNotCut {
             q.k = LINES;

@@ -273,8 +273,18 @@ pub fn question(s: &mut Script, rng: &mut Rng) {
         store(s, at, &slot);
     }
     let back = if rng.chance(65) { damage(s, rng, at) } else { Vec::new() };
-    let shown = if rng.chance(90) { at } else { rng.below(32) };
+    let used = used(s);
+    let shown = if used.is_empty() || rng.chance(85) { at } else { rng.pick(&used) };
     calls(s, rng, shown, back);
+    for slot in used.into_iter().filter(|&u| u != shown) {
+        s.say(format!("steps {}", slot));
+        s.say(format!("read {}", slot));
+    }
+}
+
+/// The slots in use.
+fn used(s: &Script) -> Vec<usize> {
+    s.board().slots.iter().enumerate().filter(|slot| slot.1.k != 0).map(|slot| slot.0).collect()
 }
 
 /// A window near its largest size, and one state after the other on it.

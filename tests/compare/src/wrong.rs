@@ -27,7 +27,7 @@ wrong! {
     at_the_desk:
         // steps and beginnings
         EqualCellsFalling CellsByNumber LeastCellFirst WholeSearchAtOnce ListedByAStepAgain StepListNotCut FinishedSteps
-        EmptySlotSteps EmptySlotBegins UnfinishedBegins BeginKeepsTheList BeginKeepsTheMarks
+        EmptySlotSteps EmptySlotBegins UnfinishedBegins BeginKeepsTheList BeginKeepsTheMarks StepLooksAtAllSlots BeginLooksAtAllSlots
         // unfit: the window and its rows
         SizeNotChecked EnteredNotChecked HeldOverSize HeldOverEntered GapNotChecked LossNotChecked ShakeNotChecked
         EmptyRowNumberNotChecked EmptyRowValuesNotChecked
@@ -39,8 +39,8 @@ wrong! {
         // the order of refusals
         ThirteenFirst TwelveFirst ElevenBeforeTwelve SixteenFirst TwentyFiveFirst TwentyFourFirst TwentyFourLast TwelveBeforeThree
         NineteenBeforeTwelve TwentyFirst
-        // frames, payloads, the bench sender, the window
-        OpeningKeepsTheBytes StoresPastTheSize ClosingClearsTheBytes LastPacketNotStored NoteByTheBytes NoteDropped EmptyNoteIsNone NoteWithItsHead OwnLostHalf
-        RoomOneByteShort RoomOneByteMore Note65 PaddedWithZeros PrioritySix SessionsGoWithTheWindow RefusedWindowClears
-        SlotsStayWithTheWindow;
+        // frames, payloads, the bench sender, the board
+        OpeningKeepsTheBytes StoresPastTheSize ClosingClearsTheBytes LastPacketNotStored NoteByTheBytes NoteDropped EmptyNoteIsNone
+        NoteWithItsHead OwnLostHalf RoomOneByteShort RoomOneByteMore Note65 PaddedWithZeros PrioritySix SessionsGoWithTheWindow RefusedWindowClears
+        SlotsStayWithTheWindow RemovingLeavesTheLines SearchesFalling;
 }
