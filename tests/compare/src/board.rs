@@ -46,13 +46,15 @@ impl Window {
         number >= 1 && number <= self.entered && u64::from(number) + u64::from(self.held) > u64::from(self.entered)
     }
 
-    fn oldest(&self) -> u32 {
-        (i64::from(self.entered) - i64::from(self.held) + 1).max(1) as u32
+    /// The held numbers, oldest first; none below 1.
+    fn numbers(&self) -> impl Iterator<Item = u32> {
+        let (entered, held) = (i64::from(self.entered), i64::from(self.held));
+        ((entered - held + 1).max(1)..=entered).map(|m| m as u32)
     }
 
     /// The held reports, oldest first.
     pub fn reports(&self) -> VecDeque<Report> {
-        (self.oldest()..=self.entered).map(|m| self.report(m)).collect()
+        self.numbers().map(|m| self.report(m)).collect()
     }
 
     /// Rules 9.5 and 9.6, clause by clause.
@@ -67,7 +69,7 @@ impl Window {
             return false;
         }
         let mut due = vec![0; ROWS];
-        for m in self.oldest()..=self.entered {
+        for m in self.numbers() {
             if let Some(d) = due.get_mut(self.row(m)) {
                 *d = m;
             }
