@@ -8,6 +8,9 @@ mod logs;
 mod rules;
 mod timing;
 mod workloads;
+#[allow(dead_code)]
+#[path = "../../tests/compare/src/wrong.rs"]
+mod wrong;
 
 use timing::{instructions, memory, same_addresses, seconds, text, Program};
 use workloads::Workload;

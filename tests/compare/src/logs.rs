@@ -373,7 +373,7 @@ fn bus(rng: &mut Rng) -> Vec<Item> {
 }
 
 /// An announcement where every number is at or past an edge, or mostly so.
-fn odd_announcement(rng: &mut Rng, sender: u8) -> Item {
+pub fn odd_announcement(rng: &mut Rng, sender: u8) -> Item {
     let size = rng.pick(&[0, 8, 9, 16, 17, 18, 19, 20, 21, 77, 78, 84, 85, 91, 1785, 1786, 65535]);
     let right = (size + 6) / 7;
     let count = if rng.chance(70) { right } else { rng.pick(&[0, 1, 2, 3, right + 1, 12, 13, 255]) };

@@ -1,7 +1,9 @@
 //! A log of 1,000,000 reports and one more: the last is refused 11, the text is the same, and the memory `cart` uses stays flat.
 
+use crate::cart::Cart;
 use crate::logs::{report, set, show, window, Item};
-use crate::rules::{Cart, Wrong, MOST_REPORTS};
+use crate::rules::MOST_REPORTS;
+use crate::wrong::Wrong;
 use std::io::{Read, Write};
 use std::process::{Command, Stdio};
 use std::time::Instant;

@@ -1,71 +1,26 @@
-//! Compares what `cart` prints with what an independent implementation of the rules (docs/RULES.md) prints. See tests/compare/run.
+//! Compares what `cart` and the desk print with what an independent implementation of the rules (docs/RULES.md) prints. See tests/compare/run.
 
+mod board;
+mod cart;
 mod cases;
+mod desk;
+mod joining;
 mod logs;
 mod long;
+mod made_up;
+mod orders;
 mod rules;
+mod runner;
+mod scripts;
 mod shrink;
+mod sittings;
+mod spoilt;
+mod wrong;
 
-use rules::{text, Wrong, WRONG};
-use std::fs::File;
-use std::io::Write;
-use std::process::{Command, Stdio};
+use cart::text;
+use runner::Runner;
 use std::time::{Duration, Instant};
-
-/// The command that runs `cart`, and a file that it may read a log from.
-struct Runner {
-    command: Vec<String>,
-    room: String,
-}
-
-impl Runner {
-    fn command(&self) -> Command {
-        let mut c = Command::new(&self.command[0]);
-        c.args(&self.command[1..]);
-        c
-    }
-
-    /// What `cart` prints for a log that is a file.
-    fn file(&self, log: &[u8]) -> Vec<u8> {
-        std::fs::write(&self.room, log).expect("writing the log");
-        let input = File::open(&self.room).expect("opening the log");
-        let done = self.command().stdin(input).output().expect("running cart");
-        printed(done.stdout, &done.stderr, done.status.success())
-    }
-
-    /// The same for a log that comes through a pipe, in pieces of the sizes that the seed draws.
-    fn pipe(&self, log: &[u8], seed: u64) -> Vec<u8> {
-        let mut child = self.command().stdin(Stdio::piped()).stdout(Stdio::piped()).stderr(Stdio::piped()).spawn().expect("running cart");
-        let mut input = child.stdin.take().expect("a pipe");
-        let rng = &mut logs::Rng(seed);
-        let most = rng.pick(&[1, 3, 16, 100, 5000]);
-        let done = std::thread::scope(|s| {
-            s.spawn(move || {
-                let mut rest = log;
-                while !rest.is_empty() {
-                    let n = rest.len().min(1 + rng.below(most));
-                    if input.write_all(&rest[..n]).is_err() {
-                        return;
-                    }
-                    rest = &rest[n..];
-                    if most < 5000 {
-                        std::thread::yield_now();
-                    }
-                }
-            });
-            child.wait_with_output().expect("running cart")
-        });
-        printed(done.stdout, &done.stderr, done.status.success())
-    }
-}
-
-/// What was printed, and a line more where something went wrong that no log may bring about.
-fn printed(mut out: Vec<u8>, errors: &[u8], well: bool) -> Vec<u8> {
-    if !well || !errors.is_empty() {
-        out.extend(format!("cart ended badly or wrote to standard error: {}\n", String::from_utf8_lossy(errors)).bytes());
-    }
-    out
-}
+use wrong::{Wrong, IN_LOGS};
 
 /// Shrinks a log that shows a difference, and prints what is left of it.
 fn tell(log: &[u8], tries: usize, name: &str, ours: &mut dyn FnMut(&[u8]) -> Vec<u8>, other: &mut dyn FnMut(&[u8]) -> Vec<u8>) {
@@ -138,7 +93,7 @@ fn run_seeds(runner: &Runner, most: u64, time: Duration, seed: u64) -> bool {
 /// Gets each rule wrong in turn and shows the first log that tells; false where one goes unnoticed.
 fn run_wrong(runner: &Runner, most: u64, seed: u64) -> bool {
     let mut unnoticed = 0;
-    for &wrong in WRONG.iter() {
+    for &wrong in IN_LOGS.iter() {
         let telling = (0..most).find(|n| {
             let (_, log) = logs::draw(seed + n);
             text(&log, wrong) != text(&log, Wrong::No)
@@ -161,11 +116,11 @@ fn run_wrong(runner: &Runner, most: u64, seed: u64) -> bool {
             }
         }
     }
-    println!("{} rules got wrong, {} unnoticed", WRONG.len(), unnoticed);
+    println!("{} rules got wrong, {} unnoticed", IN_LOGS.len(), unnoticed);
     unnoticed == 0
 }
 
-/// compare ROOM MODE SEED [LOGS SECONDS] -- COMMAND...: ROOM is a file it may write, COMMAND runs cart.
+/// compare ROOM MODE WORDS... -- COMMAND...: ROOM is a file it may write, COMMAND runs cart, or the desk where MODE is about it.
 fn main() {
     let words: Vec<String> = std::env::args().skip(1).collect();
     let at = words.iter().position(|w| w == "--").expect("a command behind --");
@@ -175,6 +130,10 @@ fn main() {
         "cases" => run_cases(&runner),
         "long" => long::run(runner.command()),
         "wrong" => run_wrong(&runner, 20_000, number(2)),
+        "desk" => sittings::compare(&runner, number(3), Duration::from_secs(number(4)), number(2)),
+        "desk-cases" => sittings::cases(&runner, &words[2..at]),
+        "answer" => sittings::answer(),
+        "desk-wrong" => sittings::notice(&runner, 20_000, number(2)),
         _ => run_seeds(&runner, number(3), Duration::from_secs(number(4)), number(2)),
     };
     std::process::exit(if well { 0 } else { 1 });

@@ -1,4 +1,4 @@
-//! The shortest log that still shows a difference: items dropped, then bytes, then numbers made smaller.
+//! The shortest log or script that still shows a difference: items or lines dropped, then bytes, then numbers made smaller.
 
 use crate::logs::{bytes, split};
 use crate::rules::le;
@@ -55,6 +55,59 @@ fn less(mut log: Vec<u8>, shows: &mut dyn FnMut(&[u8]) -> bool) -> Vec<u8> {
         }
     }
     log
+}
+
+/// A script for which `shows` holds: lines dropped, then words, then numbers made smaller.
+pub fn shortest_script(script: Vec<Vec<u8>>, tries: usize, shows: &mut dyn FnMut(&[Vec<u8>]) -> bool) -> Vec<Vec<u8>> {
+    let mut left = tries;
+    let mut try_it = |candidate: &[Vec<u8>]| {
+        left = left.saturating_sub(1);
+        left > 0 && shows(candidate)
+    };
+    let mut best = script;
+    loop {
+        let before = best.clone();
+        best = fewer(best, &mut try_it);
+        if best.len() <= 100 {
+            for at in 0..best.len() {
+                best = smaller_line(best, at, &mut try_it);
+            }
+        }
+        if best == before {
+            return best;
+        }
+    }
+}
+
+/// Words of one line dropped, and its numbers made 0, half or one less.
+fn smaller_line(mut script: Vec<Vec<u8>>, at: usize, shows: &mut dyn FnMut(&[Vec<u8>]) -> bool) -> Vec<Vec<u8>> {
+    let with = |script: &[Vec<u8>], words: &[Vec<u8>]| {
+        let mut out = script.to_vec();
+        out[at] = words.join(&32);
+        out
+    };
+    let mut words: Vec<Vec<u8>> = script[at].split(|&b| b == 32).map(|w| w.to_vec()).collect();
+    words = fewer(words, &mut |w| shows(&with(&script, w)));
+    for i in 0..words.len() {
+        let mut old = match String::from_utf8_lossy(&words[i]).parse::<i64>() {
+            Ok(n) if n > 0 => n,
+            _ => continue,
+        };
+        let try_number = |n: i64| {
+            let mut w = words.clone();
+            w[i] = n.to_string().into_bytes();
+            w
+        };
+        while let Some(n) = [0, old / 2, old - 1].iter().copied().find(|&n| n < old && shows(&with(&script, &try_number(n)))) {
+            old = n;
+        }
+        words[i] = old.to_string().into_bytes();
+        if !shows(&with(&script, &words)) {
+            return script;
+        }
+    }
+    script[at] = words.join(&32);
+    script
 }
 
 /// The log with a number of so many bytes stored in a place.

@@ -1,0 +1,229 @@
+//! The log program by the rules (docs/RULES.md, section 11): a log in, its text out.
+
+use crate::joining::{hear, Heard, Session};
+use crate::rules::{le, Question, Report, MOST_REPORTS};
+use crate::wrong::Wrong;
+use std::collections::VecDeque;
+
+/// The log program: what has come of a log so far, and the text it prints.
+pub struct Cart {
+    wrong: Wrong,
+    item: u64,
+    size: Option<usize>,
+    entered: u32,
+    held: VecDeque<Report>,
+    slots: Vec<Option<Question>>,
+    sessions: Vec<Session>,
+    pub text: Vec<u8>,
+}
+
+impl Cart {
+    pub fn new(wrong: Wrong) -> Cart {
+        Cart {
+            wrong,
+            item: 0,
+            size: None,
+            entered: 0,
+            held: VecDeque::new(),
+            slots: vec![None; 32],
+            sessions: vec![Session::fresh(); 256],
+            text: Vec::new(),
+        }
+    }
+
+    fn line(&mut self, line: String) {
+        self.text.extend_from_slice(line.as_bytes());
+        self.text.push(10);
+    }
+
+    fn refuse(&mut self, code: u32) {
+        let item = self.item;
+        self.line(format!("R {} {}", item, code));
+    }
+
+    /// A whole log.
+    pub fn log(&mut self, log: &[u8]) {
+        let mut rest = log;
+        while !rest.is_empty() {
+            let length = if rest.len() < 3 { 0 } else { le(&rest[1..3]) as usize };
+            if rest.len() < 3 + length {
+                self.item += 1;
+                let early = self.wrong == Wrong::LengthBeforeEnd && rest.len() >= 3 && !known(rest[0], length);
+                self.refuse(if early { 22 } else { 21 });
+                return;
+            }
+            self.item(rest[0], &rest[3..3 + length]);
+            rest = &rest[3 + length..];
+        }
+    }
+
+    /// One item that is whole.
+    pub fn item(&mut self, tag: u8, value: &[u8]) {
+        if !known(tag, value.len()) {
+            if self.wrong != Wrong::SkippedNotCounted {
+                self.item += 1;
+            }
+            return self.refuse(22);
+        }
+        self.item += 1;
+        let second = tag == 16 && self.size.is_some() && self.wrong != Wrong::SecondWindow;
+        let early = tag != 16 && self.size.is_none() && !(tag == 18 && self.wrong == Wrong::FramesBeforeTheWindow);
+        if second || early {
+            return self.refuse(23);
+        }
+        match tag {
+            16 => self.window(le(value) as usize),
+            17 => self.set(value[0] as usize, value[1] as usize, signed(&value[2..4]), signed(&value[4..6])),
+            18 => self.frame(le(&value[..4]), &value[4..]),
+            19 => self.remove(value[0] as usize),
+            _ => self.show(value[0] as usize),
+        }
+    }
+
+    fn window(&mut self, n: usize) {
+        if n < 1 || n > 1024 {
+            if self.wrong == Wrong::RefusedWindowStands && n > 0 {
+                self.size = Some(1024);
+            }
+            return self.refuse(18);
+        }
+        self.size = Some(n);
+    }
+
+    fn set(&mut self, slot: usize, k: usize, a: i32, b: i32) {
+        let wrong = self.wrong;
+        let most_k = if wrong == Wrong::K17 { 17 } else { 16 };
+        let most = if wrong == Wrong::WeightOf1001 { 1001 } else { 1000 };
+        let (a, b) = if wrong == Wrong::WeightsSwapped { (b, a) } else { (a, b) };
+        let out = |w: i32| w < -1000 || w > most;
+        if slot > 31 {
+            return self.refuse(13);
+        }
+        if k < 1 || k > most_k {
+            return self.refuse(14);
+        }
+        let used = self.slots[slot].is_some();
+        if used && wrong == Wrong::SixteenBeforeFifteen {
+            return self.refuse(16);
+        }
+        if out(a) || out(b) {
+            return self.refuse(15);
+        }
+        if used {
+            return self.refuse(16);
+        }
+        let mut q = Question::new(k, a, b);
+        let steps = q.search(&self.held, wrong);
+        self.slots[slot] = Some(q);
+        let item = self.item;
+        self.line(format!("S {} {} {}", item, slot, steps));
+    }
+
+    fn remove(&mut self, slot: usize) {
+        if slot > 31 {
+            return self.refuse(13);
+        }
+        if self.slots[slot].is_none() {
+            return self.refuse(17);
+        }
+        if self.wrong != Wrong::RemovedSlotKept {
+            self.slots[slot] = None;
+        }
+    }
+
+    fn show(&mut self, slot: usize) {
+        if slot > 31 {
+            return self.refuse(13);
+        }
+        let list = match &self.slots[slot] {
+            None => return self.refuse(17),
+            Some(q) => q.list.clone(),
+        };
+        let mut line = format!("Q {} {}", slot, list.len());
+        for e in list {
+            line += &format!(" {}:{}", e.number, e.score);
+        }
+        self.line(line);
+    }
+
+    fn frame(&mut self, identifier: u32, data: &[u8]) {
+        match hear(&mut self.sessions, identifier, data, self.wrong) {
+            Heard::Refused(code) => self.refuse(code),
+            Heard::Kept => {}
+            Heard::Report(r) => self.enter(r.loss, r.shake),
+        }
+    }
+
+    fn enter(&mut self, loss: i32, shake: i32) {
+        let wrong = self.wrong;
+        if self.entered == MOST_REPORTS {
+            return self.refuse(11);
+        }
+        let most = self.size.unwrap_or(1);
+        self.entered += 1;
+        let new = Report { number: self.entered, loss, shake };
+        let mut gone = None;
+        if wrong == Wrong::DropBeforeAdd && self.held.len() == most {
+            gone = self.held.pop_front();
+        }
+        self.held.push_back(new);
+        if wrong != Wrong::DropBeforeAdd {
+            self.offer(&new);
+            if self.held.len() > most {
+                gone = self.held.pop_front();
+            }
+        }
+        if let Some(old) = gone {
+            self.leave(old.number);
+        }
+        if wrong == Wrong::DropBeforeAdd {
+            self.offer(&new);
+        }
+    }
+
+    fn offer(&mut self, new: &Report) {
+        let wrong = self.wrong;
+        for q in self.slots.iter_mut().flatten() {
+            q.offer(new, wrong);
+        }
+    }
+
+    /// Questions that list the report that leaves are searched from the beginning (rule 8.2).
+    fn leave(&mut self, number: u32) {
+        let wrong = self.wrong;
+        let mut slots: Vec<usize> = (0..32).collect();
+        if wrong == Wrong::SlotsFalling {
+            slots.reverse();
+        }
+        for slot in slots {
+            if let Some(q) = &mut self.slots[slot] {
+                if q.list.iter().any(|e| e.number == number) {
+                    let steps = q.search(&self.held, wrong);
+                    let item = self.item;
+                    self.line(format!("S {} {} {}", item, slot, steps));
+                }
+            }
+        }
+    }
+}
+
+fn known(tag: u8, length: usize) -> bool {
+    let lengths = [(16, 2), (17, 6), (18, 12), (19, 1), (20, 1)];
+    lengths.contains(&(tag, length))
+}
+
+fn signed(two: &[u8]) -> i32 {
+    let n = le(two) as i32;
+    if n < 32768 {
+        n
+    } else {
+        n - 65536
+    }
+}
+
+/// The text of a whole log.
+pub fn text(log: &[u8], wrong: Wrong) -> Vec<u8> {
+    let mut cart = Cart::new(wrong);
+    cart.log(log);
+    cart.text
+}

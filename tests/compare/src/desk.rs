@@ -1,0 +1,170 @@
+//! The desk (docs/DESK.md) by the rules: its state, and its answer to a line.
+
+use crate::board::{Board, Row};
+use crate::joining::{hear, payload, Brought, Heard, Session, BYTES};
+use crate::orders::{read, Order, FORMS};
+use crate::rules::Entry;
+use crate::wrong::Wrong;
+
+#[derive(Clone)]
+pub struct Desk {
+    wrong: Wrong,
+    pub board: Option<Board>,
+    pub sessions: Vec<Session>,
+}
+
+fn hex(bytes: &[u8]) -> String {
+    bytes.iter().map(|b| format!("{:02X}", b)).collect()
+}
+
+fn report(r: &Brought) -> String {
+    let mut out = format!("report {} {} {}", r.own, r.loss, r.shake);
+    if let Some(note) = &r.note {
+        out += " note";
+        if !note.is_empty() {
+            out += &format!(" {}", hex(note));
+        }
+    }
+    out
+}
+
+fn refused(code: u32) -> String {
+    format!("refused {}", code)
+}
+
+/// `ok`, or the refusal.
+fn ok(answer: Result<(), u32>) -> String {
+    answer.map_or_else(refused, |()| String::from("ok"))
+}
+
+/// A word, how many there are, and each of them.
+fn listed(word: &str, all: &[String]) -> String {
+    let mut out = format!("{} {}", word, all.len());
+    for one in all {
+        out += &format!(" {}", one);
+    }
+    out
+}
+
+impl Desk {
+    pub fn new(wrong: Wrong) -> Desk {
+        Desk { wrong, board: None, sessions: vec![Session::fresh(); 256] }
+    }
+
+    /// The answer to a line, with its line end; nothing where it has none.
+    pub fn answer(&mut self, line: &[u8]) -> String {
+        let text = match read(line) {
+            Order::Nothing => return String::new(),
+            Order::Wrong(text) => text,
+            Order::Numbers(name, n) => self.numbers(name, &n),
+            Order::Frame(id, data) => match hear(&mut self.sessions, id, &data, self.wrong) {
+                Heard::Refused(code) => refused(code),
+                Heard::Kept => String::from("kept"),
+                Heard::Report(r) => report(&r),
+            },
+            Order::Payload(p) => payload(&p, self.wrong).map_or(refused(10), |r| report(&r)),
+            Order::Write(sending) => match sending.frames(self.wrong) {
+                Ok(frames) => listed("frames", &frames.iter().map(|f| format!("{:08X} {}", f.0, hex(&f.1))).collect::<Vec<_>>()),
+                Err(code) => refused(code),
+            },
+        };
+        text + "\n"
+    }
+
+    fn numbers(&mut self, name: &str, n: &[i64]) -> String {
+        let at = |i: usize| n[i] as usize;
+        match name {
+            "window" => self.window(n[0]),
+            "help" => FORMS.iter().map(|f| format!("{}{}", f.name, f.rest)).collect::<Vec<_>>().join("\n"),
+            "session" => {
+                let s = &self.sessions[at(0)];
+                format!("session {} {} {} {}", s.size, s.count, s.next, hex(&s.bytes[..BYTES]))
+            }
+            "poke session" => {
+                let bytes = self.sessions[at(0)].bytes;
+                self.sessions[at(0)] = Session { size: at(1), count: at(2), next: at(3), bytes };
+                ok(Ok(()))
+            }
+            "poke byte" => {
+                self.sessions[at(0)].bytes[at(1)] = n[2] as u8;
+                ok(Ok(()))
+            }
+            _ => match &mut self.board {
+                None => String::from("no window"),
+                Some(board) if name.starts_with("poke ") => poke(board, name, n),
+                Some(board) => call(board, name, n, self.wrong),
+            },
+        }
+    }
+
+    fn window(&mut self, n: i64) -> String {
+        if self.wrong == Wrong::SessionsGoWithTheWindow {
+            self.sessions = vec![Session::fresh(); 256];
+        }
+        if n < 1 || n > 1024 {
+            if self.wrong == Wrong::RefusedWindowClears {
+                self.board = None;
+            }
+            return refused(18);
+        }
+        let mut board = Board::fresh(n as u16, self.wrong);
+        if let (Some(old), Wrong::SlotsStayWithTheWindow) = (&self.board, self.wrong) {
+            board.slots = old.slots.clone();
+        }
+        self.board = Some(board);
+        ok(Ok(()))
+    }
+}
+
+/// The lines that make a call on the board, or look at it.
+fn call(board: &mut Board, name: &str, n: &[i64], wrong: Wrong) -> String {
+    let slot = n.first().map_or(0, |&s| s as usize);
+    match name {
+        "set" => board.set(slot, n[1] as u8, n[2] as i16, n[3] as i16).map_or_else(refused, |steps| format!("steps {}", steps)),
+        "remove" => ok(board.remove(slot)),
+        "read" => board.read(slot).map_or_else(refused, |list| {
+            let lines: Vec<String> = list.iter().map(|e| format!("{}:{}", e.number, e.score)).collect();
+            listed("list", &lines)
+        }),
+        "enter" => board.enter(n[0] as u16, n[1] as u16).map_or_else(refused, |(number, searches)| {
+            let each: Vec<String> = searches.iter().map(|s| format!(" {}:{}", s.0, s.1)).collect();
+            format!("report {}{}", number, each.concat())
+        }),
+        "begin" => ok(board.begin(slot)),
+        "step" => ok(board.step(slot)),
+        "steps" => format!("steps {}", board.slots[slot].steps(wrong)),
+        "marks" => {
+            let marks = board.slots[slot].question(wrong).marks;
+            let cells: Vec<String> = (0..256).filter(|&c| marks[c]).map(|c| c.to_string()).collect();
+            listed("marks", &cells)
+        }
+        _ if !board.window.fit(wrong) => refused(24),
+        _ => {
+            let held: Vec<String> = board.window.reports().iter().map(|r| format!("{}:{}:{}", r.number, r.loss, r.shake)).collect();
+            listed("held", &held)
+        }
+    }
+}
+
+/// The lines that store something.
+fn poke(board: &mut Board, name: &str, n: &[i64]) -> String {
+    let (window, at) = (&mut board.window, n[0] as usize);
+    match name {
+        "poke window" => {
+            window.size = n[0] as u16;
+            window.entered = n[1] as u32;
+            window.held = n[2] as u16;
+        }
+        "poke row" => window.rows[at] = Row { number: n[1] as u32, loss: n[2] as u16, shake: n[3] as u16 },
+        "poke slot" => {
+            let slot = &mut board.slots[at];
+            slot.k = n[1] as u8;
+            slot.a = n[2] as i16;
+            slot.b = n[3] as i16;
+            slot.len = n[4] as u8;
+            slot.next = n[5] as u16;
+        }
+        _ => board.slots[at].lines[n[1] as usize] = Entry { number: n[2] as u32, score: n[3] as i32 },
+    }
+    ok(Ok(()))
+}

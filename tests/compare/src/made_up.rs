@@ -1,0 +1,389 @@
+//! Scripts that poke states, fit and unfit, near each edge of each clause, and then make calls on them.
+
+use crate::board::{Slot, Window, LINES, ROWS};
+use crate::logs::{carry, identifier, odd_announcement, Rng};
+use crate::rules::{le, Entry};
+use crate::scripts::{frame_line, hex, some_payload, Script};
+use crate::wrong::Wrong;
+
+// ---- the window
+
+/// A window with these counts, its rows as they have to be.
+fn window(s: &mut Script, rng: &mut Rng, size: u16, entered: u32, held: u16) {
+    s.say(String::from("window 1"));
+    s.say(format!("poke window {} {} {}", size, entered, held));
+    let counts = Window { size, entered, held, rows: Vec::new() };
+    let narrow = rng.chance(40);
+    // now and then the latest report has a value that is one too large
+    let high = if rng.chance(4) { rng.below(2) } else { 2 };
+    for m in entered + 1 - u32::from(held)..=entered {
+        let value = |rng: &mut Rng| if narrow { rng.pick(&[0, 255, 256, 4095]) } else { rng.below(4096) };
+        let mut values = [value(rng), value(rng), 0];
+        if m == entered {
+            values[high] = 4096;
+        }
+        s.say(format!("poke row {} {} {} {}", counts.row(m).min(ROWS - 1), m, values[0], values[1]));
+    }
+}
+
+/// How many are held, of as many as may be.
+fn some_held(rng: &mut Rng, size: u16, entered: u32) -> u16 {
+    let most = u32::from(size).min(entered) as usize;
+    if rng.chance(70) {
+        most as u16
+    } else {
+        rng.below(most + 1) as u16
+    }
+}
+
+fn small_window(s: &mut Script, rng: &mut Rng) {
+    let size = rng.pick(&[1, 2, 3, 3, 5, 8, 16, 17, 40]);
+    let entered = rng.pick(&[0, 1, 2, 3, 5, 10, 16, 40, 1024, 1025, 5000, 999_999, 1_000_000, 1_000_001]);
+    let held = some_held(rng, size, entered);
+    match rng.below(25) {
+        // a large window that holds little
+        0 => {
+            let entered = rng.pick(&[0, 1, 3, 9]);
+            window(s, rng, 1024, entered, entered as u16);
+        }
+        _ => window(s, rng, size, entered, held),
+    }
+}
+
+// ---- a question
+
+/// A question for a slot: one that its search has brought so far, or one with a list made up from the held reports.
+fn some_slot(rng: &mut Rng, window: &Window) -> Slot {
+    let most = rng.pick(&[3, 16]);
+    let weight = |rng: &mut Rng| match rng.below(20) {
+        0 => rng.pick(&[-1001, 1001]),
+        n if n < 6 => rng.pick(&[-1000, -999, 1000, 17]),
+        _ => rng.among(-3, 3) as i16,
+    };
+    let none = Entry { number: 0, score: 0 };
+    let mut slot = Slot { k: rng.among(1, most) as u8, a: weight(rng), b: weight(rng), len: 0, next: 256, lines: [none; LINES] };
+    let mut q = slot.asked();
+    let order = q.order(Wrong::No);
+    let mut steps = if rng.chance(20) { 256 } else { rng.below(257) };
+    let held = window.reports();
+    let made_up = rng.chance(40);
+    let upto = &order[..steps];
+    let listed = held.iter().filter(|r| if made_up { rng.chance(50) } else { upto.contains(&r.cell()) });
+    let listed = listed.map(|r| q.entry(r, Wrong::No)).collect();
+    q.rank(listed, Wrong::No);
+    if made_up {
+        q.list.truncate(rng.below(17));
+    } else if rng.chance(50) {
+        steps = q.search(&held, Wrong::No);
+    }
+    slot.list(&q.list);
+    slot.next = order.get(steps).map_or(256, |&c| c as u16);
+    slot
+}
+
+fn slot_line(at: usize, s: &Slot) -> String {
+    format!("poke slot {} {} {} {} {} {}", at, s.k, s.a, s.b, s.len, s.next)
+}
+
+fn line_line(at: usize, place: usize, e: &Entry) -> String {
+    format!("poke line {} {} {} {}", at, place, e.number, e.score)
+}
+
+/// Stores a slot, of its lines those that are others than before.
+fn store(s: &mut Script, at: usize, slot: &Slot) {
+    let before = s.board().slots[at].clone();
+    s.say(slot_line(at, slot));
+    for place in 0..LINES {
+        if before.lines[place] != slot.lines[place] {
+            s.say(line_line(at, place, &slot.lines[place]));
+        }
+    }
+}
+
+// ---- damage
+
+/// One number of the state is another: the lines that make it so, and those that put it back.
+fn damage(s: &mut Script, rng: &mut Rng, at: usize) -> Vec<String> {
+    let (said, back) = match rng.below(14) {
+        0 | 1 | 2 => counts_damaged(s, rng),
+        3 | 4 | 5 => row_damaged(s, rng),
+        6 | 7 | 8 | 9 => slot_damaged(s, rng, at),
+        _ => lines_damaged(s, rng, at),
+    };
+    for line in said {
+        s.say(line);
+    }
+    back
+}
+
+fn counts_damaged(s: &Script, rng: &mut Rng) -> (Vec<String>, Vec<String>) {
+    let w = s.board().window;
+    let (mut size, mut entered, mut held) = (w.size, w.entered, w.held);
+    match rng.below(4) {
+        0 => size = rng.pick(&[0, 1, 2, size.wrapping_add(1), size.wrapping_sub(1), 1024, 1025, 1025, 65535]),
+        1 => entered = rng.pick(&[0, 1, 1_000_001, u32::MAX]),
+        2 => entered = entered.wrapping_add(rng.pick(&[1, u32::MAX])),
+        _ => held = held.wrapping_add(rng.pick(&[1, 1, 65535])),
+    }
+    let line = |size: u16, entered: u32, held: u16| vec![format!("poke window {} {} {}", size, entered, held)];
+    (line(size, entered, held), line(w.size, w.entered, w.held))
+}
+
+fn row_damaged(s: &Script, rng: &mut Rng) -> (Vec<String>, Vec<String>) {
+    let w = s.board().window;
+    let rows = usize::from(w.size).max(1).min(ROWS);
+    let at = if rng.chance(70) { rng.below(rows) } else { rng.pick(&[rows.min(ROWS - 1), ROWS - 1, rng.0 as usize % ROWS]) };
+    let line = |at: usize, number: u32, loss: u16, shake: u16| format!("poke row {} {} {} {}", at, number, loss, shake);
+    let old = w.rows[at];
+    let back = line(at, old.number, old.loss, old.shake);
+    let (mut number, mut loss, mut shake) = (old.number, old.loss, old.shake);
+    match rng.below(4) {
+        0 => loss = rng.pick(&[0, 1, 4095, 4096, 65535]),
+        1 => shake = rng.pick(&[0, 1, 4095, 4096, 65535]),
+        2 => number = number.wrapping_add(rng.pick(&[1, u32::MAX, 1024])),
+        _ => {
+            // two rows change places
+            let other = rng.below(rows);
+            let o = w.rows[other];
+            let said = vec![line(at, o.number, o.loss, o.shake), line(other, number, loss, shake)];
+            return (said, vec![back, line(other, o.number, o.loss, o.shake)]);
+        }
+    }
+    (vec![line(at, number, loss, shake)], vec![back])
+}
+
+fn slot_damaged(s: &Script, rng: &mut Rng, at: usize) -> (Vec<String>, Vec<String>) {
+    let old = s.board().slots[at].clone();
+    let mut new = old.clone();
+    match rng.below(7) {
+        0 | 1 => new.k = rng.pick(&[0, 0, 1, 2, 16, 17, 17, 255, old.len.wrapping_sub(1)]),
+        2 => new.a = rng.pick(&[-32768, -1001, -1000, 0, 1, 1000, 1001]),
+        3 => new.b = rng.pick(&[-1001, -1000, 0, 1, 1000, 1001, 32767]),
+        4 => new.len = rng.pick(&[0, 1, old.len.wrapping_add(1), old.len.wrapping_sub(1), 16, 17, 255]),
+        5 => new.next = rng.pick(&[0, 1, 255, 256, 257, 257, 65535]),
+        _ => {
+            new = Slot {
+                k: 0,
+                a: rng.pick(&[0, 0, 1]),
+                b: rng.pick(&[0, 0, -1]),
+                len: rng.pick(&[0, 0, 1]),
+                next: rng.pick(&[0, 0, 1]),
+                ..old.clone()
+            }
+        }
+    }
+    (vec![slot_line(at, &new)], vec![slot_line(at, &old)])
+}
+
+fn lines_damaged(s: &Script, rng: &mut Rng, at: usize) -> (Vec<String>, Vec<String>) {
+    let (slot, entered) = (s.board().slots[at].clone(), s.board().window.entered);
+    let lines = slot.lines;
+    let len = slot.listed().len();
+    let place = if len > 0 && rng.chance(70) { rng.below(len) } else { rng.pick(&[len.min(LINES - 1), LINES - 1, rng.0 as usize % LINES]) };
+    let old = lines[place];
+    let mut said = Vec::new();
+    let mut back = vec![line_line(at, place, &old)];
+    match rng.below(5) {
+        0 => {
+            let number = rng.pick(&[0, 1, entered, entered.wrapping_add(1), old.number.wrapping_add(1), u32::MAX]);
+            said.push(line_line(at, place, &Entry { number, ..old }));
+        }
+        1 => {
+            let score = rng.pick(&[0, 1, old.score.wrapping_add(1), old.score.wrapping_sub(1), i32::MIN, i32::MAX]);
+            said.push(line_line(at, place, &Entry { score, ..old }));
+        }
+        2 => {
+            let other = if len > 1 { rng.below(len) } else { rng.below(LINES) };
+            said.push(line_line(at, place, &lines[other]));
+            said.push(line_line(at, other, &old));
+            back.push(line_line(at, other, &lines[other]));
+        }
+        3 => {
+            // twice on the list, which is one longer
+            let end = len.min(LINES - 1);
+            let from = end.max(1) - 1;
+            said.push(line_line(at, end, &lines[from]));
+            said.push(slot_line(at, &Slot { len: end as u8 + 1, ..slot.clone() }));
+            back = vec![line_line(at, end, &lines[end]), slot_line(at, &slot)];
+        }
+        _ => {
+            // one that left the window, or is in no row yet
+            let end = len.min(LINES - 1);
+            let number = rng.pick(&[entered.wrapping_add(1), entered.wrapping_sub(u32::from(s.board().window.held)), 0]);
+            said.push(line_line(at, end, &Entry { number, score: lines[end.max(1) - 1].score }));
+            said.push(slot_line(at, &Slot { len: end as u8 + 1, ..slot.clone() }));
+            back = vec![line_line(at, end, &lines[end]), slot_line(at, &slot)];
+        }
+    }
+    (said, back)
+}
+
+// ---- calls
+
+fn call(s: &mut Script, rng: &mut Rng, at: usize) {
+    let slot = rng.pick(&[at, at, at, 0, 31, 32, 255]);
+    let weight = |rng: &mut Rng| rng.pick(&[-1001, -1000, -1, 0, 1, 2, 1000, 1001]);
+    let value = |rng: &mut Rng| if rng.chance(80) { rng.below(4096) } else { rng.pick(&[0, 4095, 4096, 65535]) };
+    let line = match rng.below(10) {
+        0 | 1 | 2 => format!("step {}", at),
+        3 => format!("begin {}", at),
+        4 => format!("set {} {} {} {}", slot, rng.pick(&[0, 1, 2, 16, 17]), weight(rng), weight(rng)),
+        5 => format!("remove {}", slot),
+        6 => format!("read {}", slot),
+        _ => format!("enter {} {}", value(rng), value(rng)),
+    };
+    s.say(line);
+}
+
+/// Four calls on a slot, each followed by a look, and at last what was damaged is put back.
+fn calls(s: &mut Script, rng: &mut Rng, at: usize, back: Vec<String>) {
+    for _ in 0..4 {
+        call(s, rng, at);
+        if rng.chance(60) {
+            s.look(at);
+        }
+    }
+    for line in back {
+        s.say(line);
+    }
+    s.look(at);
+    s.say(String::from("held"));
+}
+
+/// Other questions that stand on the board.
+fn others(s: &mut Script, rng: &mut Rng) {
+    let many = rng.pick(&[1, 2, 5, 32]);
+    for _ in 0..many {
+        let slot = rng.below(32);
+        if s.board().slots[slot].k == 0 {
+            s.say(format!("set {} {} {} {}", slot, rng.among(1, 16), rng.among(-3, 3), rng.among(-3, 3)));
+        }
+    }
+}
+
+/// A window, a question in one slot, others perhaps, something damaged perhaps, and calls.
+pub fn question(s: &mut Script, rng: &mut Rng) {
+    small_window(s, rng);
+    if rng.chance(15) {
+        others(s, rng);
+    }
+    let at = rng.pick(&[0, 0, 1, 7, 30, 31]);
+    if !rng.chance(8) {
+        let slot = some_slot(rng, &s.board().window);
+        store(s, at, &slot);
+    }
+    let back = if rng.chance(65) { damage(s, rng, at) } else { Vec::new() };
+    let used = used(s);
+    let shown = if used.is_empty() || rng.chance(85) { at } else { rng.pick(&used) };
+    calls(s, rng, shown, back);
+    for slot in used.into_iter().filter(|&u| u != shown) {
+        s.say(format!("steps {}", slot));
+        s.say(format!("read {}", slot));
+    }
+}
+
+/// The slots in use.
+fn used(s: &Script) -> Vec<usize> {
+    s.board().slots.iter().enumerate().filter(|slot| slot.1.k != 0).map(|slot| slot.0).collect()
+}
+
+/// A window near its largest size, and one state after the other on it.
+pub fn large(s: &mut Script, rng: &mut Rng) {
+    let size = rng.pick(&[512, 1023, 1024, 1024]);
+    let entered = rng.pick(&[1000, 1024, 1025, 5000, 999_990, 1_000_000]);
+    let held = some_held(rng, size, entered);
+    window(s, rng, size, entered, held);
+    for _ in 0..8 {
+        if rng.chance(20) {
+            others(s, rng);
+        }
+        let at = rng.below(32);
+        let before = s.board().slots[at].clone();
+        let slot = some_slot(rng, &s.board().window);
+        store(s, at, &slot);
+        let back = if rng.chance(65) { damage(s, rng, at) } else { Vec::new() };
+        calls(s, rng, at, back);
+        store(s, at, &before);
+    }
+}
+
+// ---- sessions
+
+/// A session, fit or not, and frames for it: most are what it waits for.
+pub fn session(s: &mut Script, rng: &mut Rng) {
+    s.say(String::from("window 1"));
+    let sender = rng.pick(&[0, 1, 5, 100, 252, 253]);
+    let mut p = some_payload(rng);
+    if p.is_empty() {
+        p.push(1);
+    }
+    let size = p.len();
+    let count = (size + 6) / 7;
+    let next = if rng.chance(60) { 1 } else { rng.below(count + 2) };
+    let mut numbers = [size, count, next];
+    if rng.chance(30) {
+        numbers = [0, 0, 0];
+    }
+    if rng.chance(45) {
+        let at = rng.below(3);
+        numbers[at] = rng.pick(&[0, 0, 1, 2, 3, 12, 13, 17, 18, 19, 20, 84, 85, 255, (numbers[at] + 1) % 256]);
+    }
+    s.say(format!("poke session {} {} {} {}", sender, numbers[0] % 256, numbers[1], numbers[2]));
+    poke_bytes(s, rng, sender, &p, 7 * next.max(1) - 7);
+    let skip = if numbers[2] != 0 && rng.chance(85) { next.max(1) } else { 0 };
+    for item in carry(sender, &p).iter().skip(skip) {
+        let line = session_frame(rng, item);
+        s.say(line);
+        if rng.chance(3) {
+            let odd = odd_announcement(rng, sender);
+            let line = frame_line(rng, &odd);
+            s.say(line);
+        }
+        if rng.chance(30) {
+            s.say(format!("session {}", sender));
+        }
+    }
+    s.say(format!("session {}", sender));
+    if rng.chance(10) {
+        s.say(format!("window {}", rng.pick(&[2, 0])));
+        s.say(format!("session {}", sender));
+    }
+}
+
+/// The part of the payload that has come already, and bytes that nobody sent.
+fn poke_bytes(s: &mut Script, rng: &mut Rng, sender: u8, p: &[u8], come: usize) {
+    for (place, value) in p.iter().take(come.min(84)).enumerate() {
+        s.say(format!("poke byte {} {} {}", sender, place, value));
+    }
+    if rng.chance(30) {
+        // what looks like a note behind a payload without one
+        for (place, value) in [(17, 4), (18, rng.below(70)), (19, 0)].iter().filter(|b| b.0 >= come) {
+            s.say(format!("poke byte {} {} {}", sender, place, value));
+        }
+    }
+    for _ in 0..rng.below(4) {
+        let place = rng.pick(&[16, 17, 20, 82, 83, rng.0 as usize % 84]);
+        if place >= come {
+            s.say(format!("poke byte {} {} {}", sender, place, rng.below(256)));
+        }
+    }
+}
+
+/// A frame of a report, one in eight with something else in it.
+fn session_frame(rng: &mut Rng, item: &[u8]) -> String {
+    let mut id = le(&item[3..7]);
+    let mut data = item[7..].to_vec();
+    match rng.below(32) {
+        0 => data.resize(rng.below(12), 255),
+        1 | 2 => {
+            let at = rng.below(data.len());
+            data[at] = data[at].wrapping_add(1);
+        }
+        3 => {
+            let odd = [1 << 29, u32::MAX, identifier(7, 235, 254), identifier(7, 236, 255), identifier(3, 237, 1), id | 1 << 24, id - 256];
+            id = rng.pick(&odd);
+        }
+        _ => {}
+    }
+    format!("frame {:08X} {}", id, hex(&data)).trim_end().to_string()
+}

@@ -1,0 +1,173 @@
+//! A line for the desk, read (docs/DESK.md): what it asks for, or what is wrong with it.
+
+use crate::joining::Sending;
+
+pub enum Order {
+    Nothing,
+    Wrong(String),
+    /// A line of numbers, by its first word, or its first two where that is `poke`.
+    Numbers(&'static str, Vec<i64>),
+    Frame(u32, Vec<u8>),
+    Payload(Vec<u8>),
+    Write(Sending),
+}
+
+pub struct Form {
+    pub name: &'static str,
+    pub ranges: &'static [(i64, i64)],
+    /// What stands in the page's table behind the name.
+    pub rest: &'static str,
+}
+
+const fn form(name: &'static str, ranges: &'static [(i64, i64)], rest: &'static str) -> Form {
+    Form { name, ranges, rest }
+}
+
+const BYTE: (i64, i64) = (0, 255);
+const SHORT: (i64, i64) = (0, 65535);
+const SIGNED: (i64, i64) = (-32768, 32767);
+const LONG: (i64, i64) = (0, 4294967295);
+const SLOT: (i64, i64) = (0, 31);
+const SENDER: (i64, i64) = (0, 253);
+
+/// All lines, in the order of the page.
+pub const FORMS: [Form; 21] = [
+    form("window", &[SHORT], " N; N is 0 to 65535"),
+    form("set", &[BYTE, BYTE, SIGNED, SIGNED], " SLOT K A B; SLOT and K are 0 to 255, A and B -32768 to 32767"),
+    form("remove", &[BYTE], " SLOT; SLOT is 0 to 255"),
+    form("read", &[BYTE], " SLOT; SLOT is 0 to 255"),
+    form("enter", &[SHORT, SHORT], " LOSS SHAKE; each is 0 to 65535"),
+    form("begin", &[SLOT], " SLOT; SLOT is 0 to 31"),
+    form("step", &[SLOT], " SLOT; SLOT is 0 to 31"),
+    form("marks", &[SLOT], " SLOT; SLOT is 0 to 31"),
+    form("steps", &[SLOT], " SLOT; SLOT is 0 to 31"),
+    form("held", &[], ""),
+    form("frame", &[], " ID DATA; ID is 1 to 8 hexadecimal digits, DATA an even number of them"),
+    form("session", &[SENDER], " SENDER; SENDER is 0 to 253"),
+    form("payload", &[], " BYTES; BYTES is an even number of hexadecimal digits"),
+    form(
+        "write",
+        &[BYTE, SHORT, SHORT, LONG],
+        " SENDER LOSS SHAKE OWN [note BYTES] [room N]; SENDER is 0 to 255, LOSS and SHAKE 0 to 65535, OWN and N 0 to 4294967295, BYTES an even number of hexadecimal digits",
+    ),
+    form("poke window", &[SHORT, LONG, SHORT], " SIZE ENTERED HELD; SIZE and HELD are 0 to 65535, ENTERED 0 to 4294967295"),
+    form("poke row", &[(0, 1023), LONG, SHORT, SHORT], " ROW NUMBER LOSS SHAKE; ROW is 0 to 1023, NUMBER 0 to 4294967295, LOSS and SHAKE 0 to 65535"),
+    form(
+        "poke slot",
+        &[SLOT, BYTE, SIGNED, SIGNED, BYTE, SHORT],
+        " SLOT K A B LEN NEXT; SLOT is 0 to 31, K and LEN 0 to 255, A and B -32768 to 32767, NEXT 0 to 65535",
+    ),
+    form(
+        "poke line",
+        &[SLOT, (0, 15), LONG, (-2147483648, 2147483647)],
+        " SLOT PLACE NUMBER SCORE; SLOT is 0 to 31, PLACE 0 to 15, NUMBER 0 to 4294967295, SCORE -2147483648 to 2147483647",
+    ),
+    form("poke session", &[SENDER, BYTE, BYTE, BYTE], " SENDER SIZE COUNT NEXT; SENDER is 0 to 253, the others 0 to 255"),
+    form("poke byte", &[SENDER, (0, 83), BYTE], " SENDER PLACE VALUE; SENDER is 0 to 253, PLACE 0 to 83, VALUE 0 to 255"),
+    form("help", &[], ""),
+];
+
+fn wrong(what: &str) -> Order {
+    Order::Wrong(format!("wrong: {}", what))
+}
+
+/// The first words that there are, for someone who wrote another.
+fn first_words() -> Order {
+    let mut names: Vec<&str> = FORMS.iter().map(|f| f.name).filter(|n| !n.starts_with("poke ")).collect();
+    names.insert(names.len() - 1, "poke");
+    let (last, others) = (names[names.len() - 1], &names[..names.len() - 1]);
+    wrong(&format!("expected {} or {}", others.join(", "), last))
+}
+
+/// What a line asks for.
+pub fn read(line: &[u8]) -> Order {
+    if line.len() > 512 {
+        return wrong("the line is longer than 512 bytes");
+    }
+    let blank = |b: &u8| [32, 9, 13].contains(b);
+    let words: Vec<&[u8]> = line.split(blank).filter(|w| !w.is_empty()).collect();
+    if words.is_empty() || words[0][0] == b'#' {
+        return Order::Nothing;
+    }
+    if !line.iter().all(|b| blank(b) || (33..=126).contains(b)) {
+        return wrong("the line is no text");
+    }
+    let words: Vec<&str> = words.iter().map(|w| std::str::from_utf8(w).unwrap_or("")).collect();
+    let named = if words[0] == "poke" { 2 } else { 1 };
+    let name = words[..named.min(words.len())].join(" ");
+    match FORMS.iter().find(|f| f.name == name) {
+        Some(f) => read_as(f, &words[named..]).unwrap_or_else(|| wrong(&format!("expected {}{}", f.name, f.rest))),
+        None if words[0] == "poke" => wrong("expected poke window, row, slot, line, session or byte"),
+        None => first_words(),
+    }
+}
+
+/// The words behind the name; none where they aren't as they should be.
+fn read_as(form: &Form, words: &[&str]) -> Option<Order> {
+    if form.name == "frame" {
+        let id = words.first().filter(|w| w.len() <= 8 && digits(w, 16))?;
+        let data = words.get(1).map_or(Some(Vec::new()), |w| bytes(w))?;
+        return if words.len() > 2 { None } else { Some(Order::Frame(u32::from_str_radix(id, 16).ok()?, data)) };
+    }
+    if form.name == "payload" {
+        let p = words.first().map_or(Some(Vec::new()), |w| bytes(w))?;
+        return if words.len() > 1 { None } else { Some(Order::Payload(p)) };
+    }
+    let count = form.ranges.len();
+    if words.len() < count {
+        return None;
+    }
+    let numbers: Vec<i64> = words.iter().zip(form.ranges).map(|(w, r)| number(w, *r)).collect::<Option<_>>()?;
+    if form.name == "write" {
+        return write(&numbers, &words[count..]);
+    }
+    if words.len() > count {
+        return None;
+    }
+    Some(Order::Numbers(form.name, numbers))
+}
+
+/// `note BYTES` and `room N` in either order, each once.
+fn write(numbers: &[i64], mut words: &[&str]) -> Option<Order> {
+    let n = |i: usize| numbers[i] as u32;
+    let mut out = Sending { sender: n(0), loss: n(1), shake: n(2), own: n(3), note: None, room: None };
+    while let Some(&word) = words.first() {
+        words = &words[1..];
+        match word {
+            "note" if out.note.is_none() => {
+                let none = words.is_empty() || words[0] == "room";
+                out.note = Some(if none { Vec::new() } else { bytes(words[0])? });
+                words = if none { words } else { &words[1..] };
+            }
+            "room" if out.room.is_none() => {
+                out.room = Some(number(words.first()?, LONG)? as u64);
+                words = &words[1..];
+            }
+            _ => return None,
+        }
+    }
+    Some(Order::Write(out))
+}
+
+fn digits(word: &str, base: u32) -> bool {
+    !word.is_empty() && word.chars().all(|c| c.is_digit(base))
+}
+
+/// A decimal number in its range; a minus only where the range has one.
+fn number(word: &str, (least, most): (i64, i64)) -> Option<i64> {
+    let below = word.starts_with('-') && least < 0;
+    let word = if below { &word[1..] } else { word };
+    if !digits(word, 10) {
+        return None;
+    }
+    let short = word.trim_start_matches('0');
+    let n = if short.is_empty() { 0 } else { short.parse::<i64>().ok()? };
+    Some(if below { -n } else { n }).filter(|n| (least..=most).contains(n))
+}
+
+fn bytes(word: &str) -> Option<Vec<u8>> {
+    if word.len() % 2 != 0 || !digits(word, 16) {
+        return None;
+    }
+    (0..word.len() / 2).map(|i| u8::from_str_radix(&word[2 * i..2 * i + 2], 16).ok()).collect()
+}

@@ -1,0 +1,183 @@
+//! Lines of every form with numbers drawn from their ranges, and lines spoilt on purpose.
+
+use crate::logs::Rng;
+use crate::orders::FORMS;
+use crate::scripts::hex;
+
+/// A line of some form: numbers small, or at an edge of their range.
+pub fn any_line(rng: &mut Rng) -> String {
+    let form = &FORMS[rng.below(FORMS.len())];
+    let mut words = vec![form.name.to_string()];
+    for &(least, most) in form.ranges {
+        let n = if rng.chance(70) { rng.among(0, 3).into() } else { rng.pick(&[least, least + 1, most - 1, most]) };
+        words.push(n.to_string());
+    }
+    let bytes: Vec<u8> = (0..rng.pick(&[0, 1, 7, 8, 8, 17, 64, 65])).map(|_| rng.next() as u8).collect();
+    match form.name {
+        "frame" => words.extend([format!("{:X}", rng.next() as u32 >> rng.below(32)), hex(&bytes)]),
+        "payload" => words.push(hex(&bytes)),
+        "write" => {
+            let mut more = vec![format!("note {}", hex(&bytes)), format!("room {}", rng.below(200))];
+            if rng.chance(50) {
+                more.reverse();
+            }
+            more.truncate(rng.below(3));
+            words.extend(more);
+        }
+        _ => {}
+    }
+    words.join(" ").trim_end().to_string()
+}
+
+const NUMBERS: [&str; 42] = [
+    "-1",
+    "-0",
+    "0",
+    "1",
+    "15",
+    "16",
+    "17",
+    "31",
+    "32",
+    "83",
+    "84",
+    "253",
+    "254",
+    "255",
+    "256",
+    "257",
+    "1000",
+    "1001",
+    "-1000",
+    "-1001",
+    "1023",
+    "1024",
+    "1025",
+    "32767",
+    "32768",
+    "-32768",
+    "-32769",
+    "65535",
+    "65536",
+    "2147483647",
+    "2147483648",
+    "-2147483648",
+    "-2147483649",
+    "4294967295",
+    "4294967296",
+    "18446744073709551616",
+    "99999999999999999999999",
+    "00000000000000000000000000000001",
+    "1.0",
+    "+1",
+    "--1",
+    "-",
+];
+
+const ODD: [&str; 34] = [
+    "",
+    " ",
+    "\t",
+    "\r",
+    "#",
+    " # window 3",
+    "#\u{ff}",
+    "\u{1}#",
+    "\u{1}",
+    "help",
+    "help 1",
+    "held 1",
+    "poke",
+    "poke help",
+    "poke poke",
+    "pok",
+    "Window 3",
+    "window",
+    "window 3 3",
+    "window  003\r",
+    "\twindow\t4 ",
+    "write 1 2 3 4 note",
+    "write 1 2 3 4 note note",
+    "write 1 2 3 4 note room 60",
+    "write 1 2 3 4 room",
+    "write 1 2 3 4 room 60 note",
+    "write 1 2 3 4 room 48 room 48",
+    "write 1 2 3 4 note AB CD",
+    "write 1 2 3 4 note ABC",
+    "write 1 2 3 4 note ab room 60 room",
+    "frame",
+    "frame 123456789 00",
+    "frame 1CECFF05",
+    "payload 01 02",
+];
+
+/// A line with something changed in it.
+pub fn line(rng: &mut Rng, line: &str) -> Vec<u8> {
+    let mut words: Vec<String> = line.split(' ').map(String::from).collect();
+    let at = rng.below(words.len());
+    match rng.below(12) {
+        0 | 1 => words[at] = rng.pick(&NUMBERS).to_string(),
+        2 => {
+            words.remove(at);
+        }
+        3 => {
+            let more = if rng.chance(50) { rng.pick(&NUMBERS) } else { rng.pick(&["note", "room", "AB", "x", "#"]) };
+            words.insert(at + rng.below(2), more.to_string());
+        }
+        4 => words[at] = format!("{}{}", rng.pick(&["0", "00", "-", "+", "-0", "x", "#"]), words[at]),
+        5 => words[at] = if rng.chance(50) { words[at].to_uppercase() } else { words[at].to_lowercase() },
+        6 => {
+            let other = rng.below(words.len());
+            words.swap(at, other);
+        }
+        7 => return rng.pick(&ODD).chars().map(|c| c as u32 as u8).collect(),
+        8 => return blanks(rng, &words),
+        9 => return long(rng, line),
+        _ => return changed(rng, line),
+    }
+    words.join(" ").into_bytes()
+}
+
+/// Other blanks between the words, and some around them.
+fn blanks(rng: &mut Rng, words: &[String]) -> Vec<u8> {
+    let mut out = Vec::new();
+    for word in words {
+        out.extend(rng.pick(&["", " ", "\t", "\r", "  "]).bytes());
+        out.extend(word.bytes());
+        out.extend(rng.pick(&[" ", " ", "\t", "\r"]).bytes());
+    }
+    out
+}
+
+/// Near the longest line: blanks before or behind, or zeros before the last number.
+fn long(rng: &mut Rng, line: &str) -> Vec<u8> {
+    let length = rng.pick(&[511, 512, 512, 513, 514, 600, 1025, 5000]);
+    let more = length - line.len().min(length);
+    let last = line.rfind(' ').map_or(0, |i| i + 1);
+    let out = match rng.below(4) {
+        0 => " ".repeat(more) + line,
+        1 => line.to_string() + &" ".repeat(more),
+        2 => format!("{}{}", "#".repeat(more), line),
+        _ => line[..last].to_string() + &"0".repeat(more) + &line[last..],
+    };
+    out.into_bytes()
+}
+
+/// One byte is another, or gone, or more; never the end of a line.
+fn changed(rng: &mut Rng, line: &str) -> Vec<u8> {
+    let mut out = line.as_bytes().to_vec();
+    if out.is_empty() {
+        return out;
+    }
+    let at = rng.below(out.len());
+    let byte = rng.pick(&[0, 1, 8, 9, 11, 13, 27, 31, 32, 33, b'#', b'-', b'0', b'9', b'a', b'F', b'g', 126, 127, 128, 255]);
+    match rng.below(4) {
+        0 => out.truncate(at),
+        1 => {
+            out.remove(at);
+        }
+        2 => out.insert(at, byte),
+        _ => out[at] = byte,
+    }
+    out
+}

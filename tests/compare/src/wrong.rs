@@ -1,0 +1,46 @@
+//! Rules got wrong on purpose, to see that the comparison notices each of them.
+
+/// Makes the enum of all wrong rules, and of each kind a list.
+macro_rules! wrong {
+    (in_logs: $($log:ident)*; at_the_desk: $($desk:ident)*;) => {
+        /// `No` is the rules as they are.
+        #[derive(Clone, Copy, PartialEq, Debug)]
+        pub enum Wrong { No, $($log,)* $($desk,)* }
+
+        /// Those that a log tells.
+        pub const IN_LOGS: &[Wrong] = &[$(Wrong::$log,)*];
+
+        /// Those that the desk tells besides. That a list is longer than the reports held isn't among them: it then names one that isn't held, or one
+        /// twice. Neither is the order of 24 and 3: a sender of no session has none that is unfit.
+        pub const AT_THE_DESK: &[Wrong] = &[$(Wrong::$desk,)*];
+    };
+}
+
+// The order of equal cells is told by no log: a finished search takes all or none of them.
+wrong! {
+    in_logs:
+        CellEdge DropBeforeAdd StopAtEqual OneBuffer TieToOlder EntryMustBeAbove SearchChangesNothing MarksNotReplaced ListNotCut
+        SlotsFalling RemovedSlotKept AnnouncementDoesNotReplace FourCloses FiveKeeps SixKeeps SevenKeeps NineKeeps TenKeeps
+        SixBeforeFive SequenceNotChecked PaddingRead Takes85 Takes4096 NoteLengthNotChecked SecondWindow RefusedWindowStands
+        FramesBeforeTheWindow SkippedNotCounted LengthBeforeEnd SixteenBeforeFifteen WeightOf1001 K17 WeightsSwapped
+        ScoreWithoutSign;
+    at_the_desk:
+        // steps and beginnings
+        EqualCellsFalling CellsByNumber LeastCellFirst WholeSearchAtOnce ListedByAStepAgain StepListNotCut FinishedSteps
+        EmptySlotSteps EmptySlotBegins UnfinishedBegins BeginKeepsTheList BeginKeepsTheMarks StepLooksAtAllSlots BeginLooksAtAllSlots
+        // unfit: the window and its rows
+        SizeNotChecked EnteredNotChecked HeldOverSize HeldOverEntered GapNotChecked LossNotChecked ShakeNotChecked
+        EmptyRowNumberNotChecked EmptyRowValuesNotChecked
+        // unfit: a question and its lines
+        KNotChecked FirstWeightNotChecked SecondWeightNotChecked NextNotChecked ListLongerThanK NotHeldListed ScoresNotChecked
+        RankNotChecked TwiceListed RestNumberNotChecked RestScoreNotChecked EmptySlotNotChecked UnfinishedOnTheBoard
+        // unfit: a session
+        SessionSizeNotChecked SessionCountNotChecked SessionNextZero SessionNextPastCount HalfClosed
+        // the order of refusals
+        ThirteenFirst TwelveFirst ElevenBeforeTwelve SixteenFirst TwentyFiveFirst TwentyFourFirst TwentyFourLast TwelveBeforeThree
+        NineteenBeforeTwelve TwentyFirst
+        // frames, payloads, the bench sender, the board
+        OpeningKeepsTheBytes StoresPastTheSize ClosingClearsTheBytes LastPacketNotStored NoteByTheBytes NoteDropped EmptyNoteIsNone
+        NoteWithItsHead OwnLostHalf RoomOneByteShort RoomOneByteMore Note65 PaddedWithZeros PrioritySix SessionsGoWithTheWindow RefusedWindowClears
+        SlotsStayWithTheWindow RemovingLeavesTheLines SearchesFalling;
+}
