@@ -4,7 +4,6 @@ A window and a question are kept as they are stored; a call reads what that mean
 are, for the window, N, the last number, how many are held, and 1,024 rows of which report m has the row (m - 1) mod N; for a question
 k, the weights, 16 lines, how many of them are used, and the first cell that is not marked, 256 for none. What is unused is 0.
 """
-import os
 from functools import lru_cache
 
 LINES, ROWS, SLOTS, CELLS = 16, 1024, 32, 256
@@ -114,16 +113,6 @@ def with_slot(board, slot, q):
     return dict(board, slots=slots)
 
 
-# ---- the cases that the programs share
-
-def cases(crate):
-    """The lines of a crate's stdin, each with its first word and its numbers."""
-    here = os.path.dirname(os.path.abspath(__file__))
-    for line in open(os.path.join(here, "../../crates", crate, "stdin")).read().splitlines():
-        kind, *words = line.split()
-        yield line, kind, [] if kind == "#" else [int(w) for w in words]
-
-
 def fresh_window(n):
     bad = not 1 <= n <= 1024
     return (18 if bad else 0), dict(size=0 if bad else n, entered=0, held=0, rows=[(0, 0, 0)] * ROWS)
@@ -137,34 +126,5 @@ def with_row(w, at, *values):
     return dict(w, rows=w["rows"][:at] + [values] + w["rows"][at + 1:])
 
 
-def asked(k, a, b, boundary):
-    return dict(EMPTY, k=k, a=a, b=b, next=boundary)
-
-
-def with_numbers(q, k, used, boundary):
-    return dict(q, k=k, len=used, next=boundary)
-
-
 def with_line(q, at, number, own):
     return dict(q, lines=q["lines"][:at] + [(number, own)] + q["lines"][at + 1:])
-
-
-def drawn(count, seed, kind):
-    """Reports from a seed: of kind 0 any, of 1 the lowest in their cells, of 2 the highest, of 3 of four values, else all the same."""
-    def value(n):
-        top = n >> 20
-        return [top, top // 256 * 256, top // 256 * 256 + 255, top // 1365 * 1365, 4000][min(kind, 4)]
-    for _ in range(count):
-        first = (seed * 1664525 + 1013904223) % 2 ** 32
-        seed = (first * 1664525 + 1013904223) % 2 ** 32
-        yield value(first), value(seed)
-
-
-def listed(q):
-    """The lines, and any place past them that is not 0."""
-    return "".join((" past" if i >= q["len"] else "") + f" {m}:{s}" for i, (m, s) in enumerate(q["lines"])
-                   if i < q["len"] or (m, s) != (0, 0))
-
-
-def compared(before, after):
-    return " same" if before == after else " changed"
