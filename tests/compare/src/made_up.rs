@@ -73,7 +73,7 @@ fn some_slot(rng: &mut Rng, window: &Window) -> Slot {
     q.rank(listed, Wrong::No);
     if made_up {
         q.list.truncate(rng.below(17));
-    } else if rng.chance(50) {
+    } else if rng.chance(70) {
         steps = q.search(&held, Wrong::No);
     }
     slot.list(&q.list);

@@ -133,6 +133,28 @@ fn day(s: &mut Script, rng: &mut Rng) {
     s.look(0);
 }
 
+/// Listed reports leave again and again: a small window, some questions, more reports than fit, a look at every list.
+fn leaving(s: &mut Script, rng: &mut Rng) {
+    let n = rng.among(1, 8);
+    let (slots, sort, falling) = (rng.pick(&[1, 2, 4, 12]), rng.below(4), rng.chance(50));
+    s.say(format!("window {}", n));
+    let reports = (n + rng.among(3, 20)) as u32;
+    let asked = rng.below(n as usize + 1) as u32;
+    for i in 0..reports {
+        if i == asked {
+            for slot in 0..slots {
+                s.say(format!("set {} {} {} {}", 31 - slot, rng.among(1, 5), weight(rng), weight(rng)));
+            }
+        }
+        let low = if falling { i * 4095 / reports } else { 0 };
+        s.say(format!("enter {} {}", value(rng, sort).saturating_sub(low), value(rng, sort).saturating_sub(low)));
+    }
+    for slot in 0..slots {
+        s.look(31 - slot);
+    }
+    s.say(String::from("held"));
+}
+
 /// A search begun and stepped, mostly to its end.
 fn by_hand(s: &mut Script, rng: &mut Rng, slot: usize) {
     s.say(format!("begin {}", slot));
@@ -262,10 +284,11 @@ pub fn draw(seed: u64) -> Script {
     let (kind, fill): (_, fn(&mut Script, &mut Rng)) = match rng.below(100) {
         0 => ("early", early),
         1 => ("large", made_up::large),
-        n if n < 6 => ("day", day),
-        n if n < 8 => ("forms", forms),
-        n if n < 18 => ("texts", texts),
-        n if n < 58 => ("session", made_up::session),
+        n if n < 5 => ("day", day),
+        n if n < 8 => ("leaving", leaving),
+        n if n < 10 => ("forms", forms),
+        n if n < 20 => ("texts", texts),
+        n if n < 59 => ("session", made_up::session),
         _ => ("made up", made_up::question),
     };
     let mut script = Script::new(kind, rng);

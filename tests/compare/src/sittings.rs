@@ -130,7 +130,10 @@ struct Tally {
     runs: u64,
     lines: usize,
     kinds: BTreeMap<&'static str, u64>,
-    answers: BTreeMap<String, u64>,
+    answered: BTreeMap<String, u64>,
+    refused: BTreeMap<u32, u64>,
+    early: u64,
+    wrong: u64,
 }
 
 impl Tally {
@@ -140,21 +143,33 @@ impl Tally {
             self.scripts += 1;
             self.lines += s.lines.len();
             *self.kinds.entry(s.kind).or_insert(0) += 1;
-            for a in s.answers.iter().filter(|a| a.starts_with("refused") || a.starts_with("wrong") || a.starts_with("no window")) {
-                let words: Vec<&str> = a.split_whitespace().collect();
-                let name = if words[0] == "wrong:" { "wrong".to_string() } else { words[..2].join(" ").replace("refused ", "") };
-                *self.answers.entry(name).or_insert(0) += 1;
+            for (line, answer) in s.lines.iter().zip(&s.answers) {
+                let words: Vec<&str> = answer.split_whitespace().collect();
+                match words[..] {
+                    ["refused", code] => *self.refused.entry(code.parse().unwrap_or(0)).or_insert(0) += 1,
+                    ["no", "window"] => self.early += 1,
+                    ["wrong:", ..] => self.wrong += 1,
+                    [] => {}
+                    _ => *self.answered.entry(first_word(line)).or_insert(0) += 1,
+                }
             }
         }
     }
 
-    fn told(&self) -> (String, String) {
-        let kinds: Vec<String> = self.kinds.iter().map(|k| format!("{} {}", k.1, k.0)).collect();
-        let mut answers: Vec<(&String, &u64)> = self.answers.iter().collect();
-        answers.sort_by_key(|a| a.0.parse::<u32>().unwrap_or(99));
-        let answers: Vec<String> = answers.iter().map(|a| format!("{} of {}", a.1, a.0)).collect();
-        (kinds.join(", "), answers.join(", "))
+    /// The kinds of scripts, the lines that were answered and the refusals, each with how often.
+    fn told(&self) -> [String; 3] {
+        let refused: Vec<String> = self.refused.iter().map(|r| format!("{} of {}", r.1, r.0)).collect();
+        [counted(&self.kinds), counted(&self.answered), refused.join(", ")]
     }
+}
+
+fn counted<T: std::fmt::Display>(all: &BTreeMap<T, u64>) -> String {
+    let all: Vec<String> = all.iter().map(|one| format!("{} {}", one.1, one.0)).collect();
+    all.join(", ")
+}
+
+fn first_word(line: &[u8]) -> String {
+    String::from_utf8_lossy(line).split_whitespace().next().unwrap_or("").to_string()
 }
 
 /// Compares the scripts of the seeds from `seed` on: so many, or as many as there is time for. While the desk answers one run, the next
@@ -186,13 +201,14 @@ pub fn compare(runner: &Runner, most: u64, time: Duration, seed: u64) -> bool {
         tally.add(&now);
         now = after;
     }
-    let (kinds, answers) = tally.told();
+    let [kinds, answered, refused] = tally.told();
     let seconds = began.elapsed().as_secs_f64();
     println!(
         "{} scripts for the desk from seed {} ({}): {} lines in {} runs, no difference; {:.1} s",
         tally.scripts, seed, kinds, tally.lines, tally.runs, seconds
     );
-    println!("refusals among the answers: {}", answers);
+    println!("answered: {}", answered);
+    println!("refused: {}; {} wrong lines, {} before there was a window", refused, tally.wrong, tally.early);
     true
 }
 
