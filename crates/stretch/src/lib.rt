@@ -3,13 +3,15 @@
 ghost use mathlib.Core.Path.{_≡_};
 ghost use mathlib.Core.Bool.{true, cond, _&&_};
 ghost use mathlib.Core.List.{[]};
-ghost use Prim.Native.Nat.{_+_, _≤_, _<_};
+ghost use Prim.Native.Nat.{_+_, _≤_, _<_, min};
 ghost use lib.ListN.{length};
 ghost use lib.Seq.{sets};
 ghost use Rattle.wire.specs.Bytes.{part};
 ghost use Rattle.text.specs.Text.{behind, rLine};
 ghost use Rattle.bus.specs.Room.{roomBytes, sessionsIn, roomOf};
 ghost use Rattle.joining.specs.Run.{sessionsAfter, answerTo};
+ghost use Rattle.values.specs.Range.{low};
+ghost use Rattle.slot.specs.Turn.{turn};
 ghost use Rattle.window.specs.Rows.{rowCount, standing};
 ghost use Rattle.question.specs.Lines.{rowsOf};
 ghost use Rattle.journal.specs.Log.{frameIn};
@@ -25,6 +27,7 @@ use journal::Log;
 use question::Question;
 use slot::Gauge;
 use slot::Shown;
+use slot::Turned;
 use values::Values;
 use window::Counts;
 use window::Place;
@@ -148,8 +151,7 @@ fn run(from: Standing, bus: &mut [u8; Bus::ROOM], bytes: &[u8], out: &mut [u8]) 
             i += Field::HEAD + value.len();
             continue;
         }
-        let frame = &bytes[i + Field::HEAD..i + Item::FRAME_BYTES];
-        let brought = hear(bus, frame, counts);
+        let brought = hear(bus, bytes, i, counts);
         at = put_refusal(out, at, items, brought.refused, brought.code);
         i += Item::FRAME_BYTES;
         if brought.number == 0 {
@@ -159,29 +161,17 @@ fn run(from: Standing, bus: &mut [u8; Bus::ROOM], bytes: &[u8], out: &mut [u8]) 
         counts.entered = brought.number;
         counts.held = place.held;
         rows = put_row(&mut losses, &mut shakes, &mut numbers, rows, place, brought);
-        let mut slot: usize = 0;
-        while slot < used {
-            let here = slot;
-            slot += 1;
-            let gauge = gauges[here];
+        for slot in 0..used {
+            let gauge = gauges[slot];
             if gauge.quiet(brought.gone, brought.values) {
                 continue;
             }
-            let held = slots[here];
-            let turned = slot::turn(
-                held,
-                brought.number,
-                brought.values,
-                brought.gone,
-                &losses,
-                &shakes,
-                &numbers,
-                rows,
-            );
-            at = journal::put_search(out, at, items, here as u8, turned.searched, turned.steps);
+            let held = slots[slot];
+            let turned = turn_of(held, brought, &losses, &shakes, &numbers, rows);
+            at = journal::put_search(out, at, items, slot as u8, turned.searched, turned.steps);
             let left = turned.question;
-            slots[here] = left;
-            gauges[here] = Gauge::of(left);
+            slots[slot] = left;
+            gauges[slot] = Gauge::of(left);
         }
     }
     ended(items, counts, losses, shakes, numbers, slots, i, at)
@@ -320,6 +310,26 @@ fn put_row(
     if rows <= row { row + 1 } else { rows }
 }
 
+// The turn of a slot that holds this question, where that report has entered; the rows are lent.
+fn turn_of<'a>(
+    held: Question,
+    brought: Brought,
+    losses: &'a [u16; Window::ROWS],
+    shakes: &'a [u16; Window::ROWS],
+    numbers: &'a [u32; Window::ROWS],
+    rows: usize,
+) -> Turned
+    ensures { λ r. ⌜
+        r ≡ turn held (record { number = brought .number; values = low (brought .values) }) (brought .gone)
+        (standing (rowsOf (now (losses .entry)) (now (shakes .entry)) (now (numbers .entry))) (min rows rowCount))
+        ⌝ }
+{
+    let number = brought.number;
+    let values = brought.values;
+    let gone = brought.gone;
+    slot::turn(held, number, values, gone, losses, shakes, numbers, rows)
+}
+
 // Does an item for a slot that holds this question, over the rows that are lent: shows it, empties it, or sets a question.
 fn serve<'a>(
     tag: u8,
@@ -398,12 +408,13 @@ fn put_refusal(out: &mut [u8], at: usize, item: u64, refused: bool, code: u8) ->
     }
 }
 
-// Hands a frame in its 12 bytes to its sender's session: what that brings to a window of these counts.
-fn hear(room: &mut [u8; Bus::ROOM], value: &[u8], counts: Counts) -> Brought
-    requires { ⌜ length (now value) ≡ 12 ⌝ }
-    ensures { λ r. ⌜ r ≡ brought (answerTo (sessionsIn (now (room .entry))) (frameIn (now (value .entry)))) counts ⌝ }
-    ensures { λ _. ⌜ now (room .exit) ≡ roomOf (sessionsAfter (sessionsIn (now (room .entry))) (frameIn (now (value .entry)))) ⌝ }
+// Hands the frame at a place to its sender's session: what that brings to a window of these counts.
+fn hear(room: &mut [u8; Bus::ROOM], bytes: &[u8], i: usize, counts: Counts) -> Brought
+    requires { ⌜ i + 15 ≤ length (now bytes) ⌝ }
+    ensures { λ r. ⌜ r ≡ brought (answerTo (sessionsIn (now (room .entry))) (frameIn (part (i + 3) 12 (now (bytes .entry))))) counts ⌝ }
+    ensures { λ _. ⌜ now (room .exit) ≡ roomOf (sessionsAfter (sessionsIn (now (room .entry))) (frameIn (part (i + 3) 12 (now (bytes .entry))))) ⌝ }
 {
+    let value = &bytes[i + Field::HEAD..i + Item::FRAME_BYTES];
     let id = wire::read32(value, 0);
     let answer = Bus::take(room, id, &value[Item::DATA..Item::FRAME_SIZE]);
     brings(answer, counts)
