@@ -16,7 +16,7 @@ ghost use Rattle.window.specs.Rows.{rowCount, standing};
 ghost use Rattle.question.specs.Lines.{rowsOf};
 ghost use Rattle.journal.specs.Log.{frameIn};
 ghost use Rattle.stretch.specs.Coming.{sizeAt, itemComes, slotComes, comes, hasRoom};
-ghost use Rattle.stretch.specs.Inner.{rowsUsed, Stored, shownText, seatedText, served, Serves, brought};
+ghost use Rattle.stretch.specs.Inner.{rowsUsed, Stored, brought};
 ghost use Rattle.stretch.specs.Doing.{Does, Runs, windowOf};
 use board::Arrival;
 use board::Board;
@@ -26,7 +26,6 @@ use joining::Answer;
 use journal::Log;
 use question::Question;
 use slot::Gauge;
-use slot::Shown;
 use slot::Turned;
 use values::Values;
 use window::Counts;
@@ -56,12 +55,6 @@ struct Standing {
     items: u64,
     board: Board,
     taken: usize,
-    at: usize,
-}
-
-// What a slot holds behind an item for it, and the place behind what that printed.
-struct Slot {
-    question: Question,
     at: usize,
 }
 
@@ -142,7 +135,7 @@ fn run(from: Standing, bus: &mut [u8; Bus::ROOM], bytes: &[u8], out: &mut [u8]) 
             let value = value_at(bytes, i);
             let s = wire::byte(value, 0) as usize;
             let held = slots[s];
-            let slot = serve(tag, items, value, held, &losses, &shakes, &numbers, out, at);
+            let slot = serving::serve(tag, items, value, held, &losses, &shakes, &numbers, out, at);
             let left = slot.question;
             slots[s] = left;
             gauges[s] = Gauge::of(left);
@@ -152,7 +145,7 @@ fn run(from: Standing, bus: &mut [u8; Bus::ROOM], bytes: &[u8], out: &mut [u8]) 
             continue;
         }
         let brought = hear(bus, bytes, i, counts);
-        at = put_refusal(out, at, items, brought.refused, brought.code);
+        at = serving::put_refusal(out, at, items, brought.refused, brought.code);
         i += Item::FRAME_BYTES;
         if brought.number == 0 {
             continue;
@@ -328,84 +321,6 @@ fn turn_of<'a>(
     let values = brought.values;
     let gone = brought.gone;
     slot::turn(held, number, values, gone, losses, shakes, numbers, rows)
-}
-
-// Does an item for a slot that holds this question, over the rows that are lent: shows it, empties it, or sets a question.
-fn serve<'a>(
-    tag: u8,
-    item: u64,
-    value: &[u8],
-    held: Question,
-    losses: &'a [u16; Window::ROWS],
-    shakes: &'a [u16; Window::ROWS],
-    numbers: &'a [u32; Window::ROWS],
-    out: &mut [u8],
-    at: usize,
-) -> Slot
-    ensures { λ r. ⌜ Serves (served tag item (now (value .entry)) held (standing (rowsOf (now (losses .entry)) (now (shakes .entry)) (now (numbers .entry))) rowCount)) (now (out .entry)) at (r .question) (r .at) (now (out .exit)) ⌝ }
-{
-    if tag == Item::SHOW {
-        return Slot {
-            question: held,
-            at: put_shown(out, at, item, wire::byte(value, 0), held),
-        };
-    }
-    if tag == Item::REMOVE {
-        return Slot {
-            question: slot::emptied(held),
-            at: put_refusal(out, at, item, held.k == 0, Shown::EMPTY),
-        };
-    }
-    let rule = journal::rule_in(value);
-    let seated = slot::set_in(held, wire::byte(value, 1), rule, losses, shakes, numbers);
-    let question = seated.question;
-    Slot {
-        question,
-        at: put_seated(
-            out,
-            at,
-            item,
-            wire::byte(value, 0),
-            seated.refusal,
-            seated.steps,
-        ),
-    }
-}
-
-// Prints the list of a slot, or that the slot is empty.
-fn put_shown(out: &mut [u8], at: usize, item: u64, slot: u8, question: Question) -> usize
-    ensures { λ r. ⌜ r ≡ behind at (shownText item slot question) ⌝ }
-    ensures { λ _. ⌜ now (out .exit) ≡ sets (now (out .entry)) at (shownText item slot question) ⌝ }
-{
-    if question.k == 0 {
-        return text::put_r(out, at, item, Shown::EMPTY);
-    }
-    let numbers = question.numbers;
-    let scores = question.scores;
-    text::put_q(out, at, slot, numbers, scores, question.len as usize)
-}
-
-// Prints what setting a question in a slot answers: the line of a refusal, or of the search.
-fn put_seated(out: &mut [u8], at: usize, item: u64, slot: u8, refusal: u8, steps: u16) -> usize
-    ensures { λ r. ⌜ r ≡ behind at (seatedText item slot refusal steps) ⌝ }
-    ensures { λ _. ⌜ now (out .exit) ≡ sets (now (out .entry)) at (seatedText item slot refusal steps) ⌝ }
-{
-    if refusal == 0 {
-        return text::put_s(out, at, item, slot, steps);
-    }
-    text::put_r(out, at, item, refusal)
-}
-
-// Prints the line of a refusal, if there is one.
-fn put_refusal(out: &mut [u8], at: usize, item: u64, refused: bool, code: u8) -> usize
-    ensures { λ r. ⌜ r ≡ behind at (cond refused (rLine item code) []) ⌝ }
-    ensures { λ _. ⌜ now (out .exit) ≡ sets (now (out .entry)) at (cond refused (rLine item code) []) ⌝ }
-{
-    if refused {
-        text::put_r(out, at, item, code)
-    } else {
-        at
-    }
 }
 
 // Hands the frame at a place to its sender's session: what that brings to a window of these counts.
