@@ -25,7 +25,7 @@ use Rattle.pieces.proofs.Waits.{Holds, holds-more, holds-size}
 use Rattle.pieces.proofs.Feeding.{Ran, step, run-more, run-append, came-whole, came-not}
 
 -- A part of a part.
-drop-take : (a k : ℕ) (l : List ℕ) → drop a (take (a + k) l) ≡ take k (drop a l)
+pub drop-take : (a k : ℕ) (l : List ℕ) → drop a (take (a + k) l) ≡ take k (drop a l)
 drop-take zero k l =
     let none : 0 + k ≡ k = omega arith in
     ap (λ (j : ℕ). take j l) none

@@ -15,7 +15,7 @@ use Rattle.wire.proofs.Fields.{length-part}
 use Rattle.laws.proofs.Tests.{and-both, or-either}
 use Rattle.window.specs.Rows.{sized}
 use Rattle.stretch.specs.Coming.{sizeAt, itemComes, slotComes, comes}
-use Rattle.stretch.proofs.Serving.{Known}
+use Rattle.serving.proofs.Serving.{Known}
 
 -- A whole item of that tag and length stands there.
 pub record Item (bytes : List ℕ) (i tag size : ℕ) : Type 0 where

@@ -40,7 +40,7 @@ use Rattle.journal.specs.Log.{nextItem, withBoard, refused, unless, sLines, ent
 use Rattle.journal.proofs.Items as items
 use Rattle.stretch.specs.declared.Brought.{Brought}
 use Rattle.stretch.specs.Inner.{brought}
-use Rattle.stretch.proofs.Serving.{some-rows}
+use Rattle.serving.proofs.Serving.{some-rows}
 use Rattle.stretch.proofs.Turns.{Turning, told}
 
 -- ---- a question's turn

@@ -1,5 +1,4 @@
 -- Laws that the crates above cite.
-pub mod Serving
 pub mod Coming
 pub mod Going
 pub mod Turns

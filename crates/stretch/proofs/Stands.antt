@@ -31,10 +31,11 @@ use Rattle.stretch.specs.declared.Brought.{Brought}
 use Rattle.stretch.specs.declared.Standing.{Standing}
 use Rattle.slot.specs.declared.Turned.{Turned}
 use Rattle.stretch.specs.Coming.{sizeAt, comes, hasRoom}
-use Rattle.stretch.specs.Inner.{served, Serves, brought, Stored}
+use Rattle.serving.specs.Serving.{served, Serves}
+use Rattle.stretch.specs.Inner.{brought, Stored}
 use Rattle.stretch.specs.Doing.{Did, Runs, itemAt, windowOf, logIn}
 use Rattle.stretch.proofs.Coming.{Item, Slot, has-window, a-frame, for-slot}
-use Rattle.stretch.proofs.Serving.{slot-here}
+use Rattle.serving.proofs.Serving.{slot-here}
 use Rattle.stretch.proofs.Frames.{report, turn, turned-is, turn-stays, turn-idle, frame-none, row-fits, row-takes, frame-enters}
 use Rattle.stretch.proofs.Turns.{Turning, turning-none, turning-more, turning-still, turning-rest, still-old}
 use Rattle.stretch.proofs.Gauging.{Gauged, gauged-of, gauge-at, gauges-set}

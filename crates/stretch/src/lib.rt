@@ -3,18 +3,20 @@
 ghost use mathlib.Core.Path.{_≡_};
 ghost use mathlib.Core.Bool.{true, cond, _&&_};
 ghost use mathlib.Core.List.{[]};
-ghost use Prim.Native.Nat.{_+_, _≤_, _<_};
+ghost use Prim.Native.Nat.{_+_, _≤_, _<_, min};
 ghost use lib.ListN.{length};
 ghost use lib.Seq.{sets};
 ghost use Rattle.wire.specs.Bytes.{part};
 ghost use Rattle.text.specs.Text.{behind, rLine};
 ghost use Rattle.bus.specs.Room.{roomBytes, sessionsIn, roomOf};
 ghost use Rattle.joining.specs.Run.{sessionsAfter, answerTo};
+ghost use Rattle.values.specs.Range.{low};
+ghost use Rattle.slot.specs.Turn.{turn};
 ghost use Rattle.window.specs.Rows.{rowCount, standing};
 ghost use Rattle.question.specs.Lines.{rowsOf};
 ghost use Rattle.journal.specs.Log.{frameIn};
 ghost use Rattle.stretch.specs.Coming.{sizeAt, itemComes, slotComes, comes, hasRoom};
-ghost use Rattle.stretch.specs.Inner.{rowsUsed, Stored, shownText, seatedText, served, Serves, brought};
+ghost use Rattle.stretch.specs.Inner.{rowsUsed, Stored, brought};
 ghost use Rattle.stretch.specs.Doing.{Does, Runs, windowOf};
 use board::Arrival;
 use board::Board;
@@ -24,7 +26,7 @@ use joining::Answer;
 use journal::Log;
 use question::Question;
 use slot::Gauge;
-use slot::Shown;
+use slot::Turned;
 use values::Values;
 use window::Counts;
 use window::Place;
@@ -53,12 +55,6 @@ struct Standing {
     items: u64,
     board: Board,
     taken: usize,
-    at: usize,
-}
-
-// What a slot holds behind an item for it, and the place behind what that printed.
-struct Slot {
-    question: Question,
     at: usize,
 }
 
@@ -139,7 +135,7 @@ fn run(from: Standing, bus: &mut [u8; Bus::ROOM], bytes: &[u8], out: &mut [u8]) 
             let value = value_at(bytes, i);
             let s = wire::byte(value, 0) as usize;
             let held = slots[s];
-            let slot = serve(tag, items, value, held, &losses, &shakes, &numbers, out, at);
+            let slot = serving::serve(tag, items, value, held, &losses, &shakes, &numbers, out, at);
             let left = slot.question;
             slots[s] = left;
             gauges[s] = Gauge::of(left);
@@ -148,9 +144,8 @@ fn run(from: Standing, bus: &mut [u8; Bus::ROOM], bytes: &[u8], out: &mut [u8]) 
             i += Field::HEAD + value.len();
             continue;
         }
-        let frame = &bytes[i + Field::HEAD..i + Item::FRAME_BYTES];
-        let brought = hear(bus, frame, counts);
-        at = put_refusal(out, at, items, brought.refused, brought.code);
+        let brought = hear(bus, bytes, i, counts);
+        at = serving::put_refusal(out, at, items, brought.refused, brought.code);
         i += Item::FRAME_BYTES;
         if brought.number == 0 {
             continue;
@@ -159,29 +154,17 @@ fn run(from: Standing, bus: &mut [u8; Bus::ROOM], bytes: &[u8], out: &mut [u8]) 
         counts.entered = brought.number;
         counts.held = place.held;
         rows = put_row(&mut losses, &mut shakes, &mut numbers, rows, place, brought);
-        let mut slot: usize = 0;
-        while slot < used {
-            let here = slot;
-            slot += 1;
-            let gauge = gauges[here];
+        for slot in 0..used {
+            let gauge = gauges[slot];
             if gauge.quiet(brought.gone, brought.values) {
                 continue;
             }
-            let held = slots[here];
-            let turned = slot::turn(
-                held,
-                brought.number,
-                brought.values,
-                brought.gone,
-                &losses,
-                &shakes,
-                &numbers,
-                rows,
-            );
-            at = journal::put_search(out, at, items, here as u8, turned.searched, turned.steps);
+            let held = slots[slot];
+            let turned = turn_of(held, brought, &losses, &shakes, &numbers, rows);
+            at = journal::put_search(out, at, items, slot as u8, turned.searched, turned.steps);
             let left = turned.question;
-            slots[here] = left;
-            gauges[here] = Gauge::of(left);
+            slots[slot] = left;
+            gauges[slot] = Gauge::of(left);
         }
     }
     ended(items, counts, losses, shakes, numbers, slots, i, at)
@@ -320,90 +303,33 @@ fn put_row(
     if rows <= row { row + 1 } else { rows }
 }
 
-// Does an item for a slot that holds this question, over the rows that are lent: shows it, empties it, or sets a question.
-fn serve<'a>(
-    tag: u8,
-    item: u64,
-    value: &[u8],
+// The turn of a slot that holds this question, where that report has entered; the rows are lent.
+fn turn_of<'a>(
     held: Question,
+    brought: Brought,
     losses: &'a [u16; Window::ROWS],
     shakes: &'a [u16; Window::ROWS],
     numbers: &'a [u32; Window::ROWS],
-    out: &mut [u8],
-    at: usize,
-) -> Slot
-    ensures { λ r. ⌜ Serves (served tag item (now (value .entry)) held (standing (rowsOf (now (losses .entry)) (now (shakes .entry)) (now (numbers .entry))) rowCount)) (now (out .entry)) at (r .question) (r .at) (now (out .exit)) ⌝ }
+    rows: usize,
+) -> Turned
+    ensures { λ r. ⌜
+        r ≡ turn held (record { number = brought .number; values = low (brought .values) }) (brought .gone)
+        (standing (rowsOf (now (losses .entry)) (now (shakes .entry)) (now (numbers .entry))) (min rows rowCount))
+        ⌝ }
 {
-    if tag == Item::SHOW {
-        return Slot {
-            question: held,
-            at: put_shown(out, at, item, wire::byte(value, 0), held),
-        };
-    }
-    if tag == Item::REMOVE {
-        return Slot {
-            question: slot::emptied(held),
-            at: put_refusal(out, at, item, held.k == 0, Shown::EMPTY),
-        };
-    }
-    let rule = journal::rule_in(value);
-    let seated = slot::set_in(held, wire::byte(value, 1), rule, losses, shakes, numbers);
-    let question = seated.question;
-    Slot {
-        question,
-        at: put_seated(
-            out,
-            at,
-            item,
-            wire::byte(value, 0),
-            seated.refusal,
-            seated.steps,
-        ),
-    }
+    let number = brought.number;
+    let values = brought.values;
+    let gone = brought.gone;
+    slot::turn(held, number, values, gone, losses, shakes, numbers, rows)
 }
 
-// Prints the list of a slot, or that the slot is empty.
-fn put_shown(out: &mut [u8], at: usize, item: u64, slot: u8, question: Question) -> usize
-    ensures { λ r. ⌜ r ≡ behind at (shownText item slot question) ⌝ }
-    ensures { λ _. ⌜ now (out .exit) ≡ sets (now (out .entry)) at (shownText item slot question) ⌝ }
+// Hands the frame at a place to its sender's session: what that brings to a window of these counts.
+fn hear(room: &mut [u8; Bus::ROOM], bytes: &[u8], i: usize, counts: Counts) -> Brought
+    requires { ⌜ i + 15 ≤ length (now bytes) ⌝ }
+    ensures { λ r. ⌜ r ≡ brought (answerTo (sessionsIn (now (room .entry))) (frameIn (part (i + 3) 12 (now (bytes .entry))))) counts ⌝ }
+    ensures { λ _. ⌜ now (room .exit) ≡ roomOf (sessionsAfter (sessionsIn (now (room .entry))) (frameIn (part (i + 3) 12 (now (bytes .entry))))) ⌝ }
 {
-    if question.k == 0 {
-        return text::put_r(out, at, item, Shown::EMPTY);
-    }
-    let numbers = question.numbers;
-    let scores = question.scores;
-    text::put_q(out, at, slot, numbers, scores, question.len as usize)
-}
-
-// Prints what setting a question in a slot answers: the line of a refusal, or of the search.
-fn put_seated(out: &mut [u8], at: usize, item: u64, slot: u8, refusal: u8, steps: u16) -> usize
-    ensures { λ r. ⌜ r ≡ behind at (seatedText item slot refusal steps) ⌝ }
-    ensures { λ _. ⌜ now (out .exit) ≡ sets (now (out .entry)) at (seatedText item slot refusal steps) ⌝ }
-{
-    if refusal == 0 {
-        return text::put_s(out, at, item, slot, steps);
-    }
-    text::put_r(out, at, item, refusal)
-}
-
-// Prints the line of a refusal, if there is one.
-fn put_refusal(out: &mut [u8], at: usize, item: u64, refused: bool, code: u8) -> usize
-    ensures { λ r. ⌜ r ≡ behind at (cond refused (rLine item code) []) ⌝ }
-    ensures { λ _. ⌜ now (out .exit) ≡ sets (now (out .entry)) at (cond refused (rLine item code) []) ⌝ }
-{
-    if refused {
-        text::put_r(out, at, item, code)
-    } else {
-        at
-    }
-}
-
-// Hands a frame in its 12 bytes to its sender's session: what that brings to a window of these counts.
-fn hear(room: &mut [u8; Bus::ROOM], value: &[u8], counts: Counts) -> Brought
-    requires { ⌜ length (now value) ≡ 12 ⌝ }
-    ensures { λ r. ⌜ r ≡ brought (answerTo (sessionsIn (now (room .entry))) (frameIn (now (value .entry)))) counts ⌝ }
-    ensures { λ _. ⌜ now (room .exit) ≡ roomOf (sessionsAfter (sessionsIn (now (room .entry))) (frameIn (now (value .entry)))) ⌝ }
-{
+    let value = &bytes[i + Field::HEAD..i + Item::FRAME_BYTES];
     let id = wire::read32(value, 0);
     let answer = Bus::take(room, id, &value[Item::DATA..Item::FRAME_SIZE]);
     brings(answer, counts)

@@ -1,9 +1,11 @@
--- The frame is read off its 12 bytes, and its sender's session takes it.
+-- The frame is read off its 12 bytes behind the head, and its sender's session takes it.
 -- Assumes nothing.
 use mathlib.Core.Path.{_≡_, ap, _∙_}
 use mathlib.Core.List.{List}
-use Prim.Native.Nat.{ℕ}
+use Prim.Native.Nat.{ℕ, _+_, _-_}
+use native.Mathlib.Omega.{arith}
 use denote.Ref.{now}
+use lib.ListN.{take, drop}
 use Rattle.wire.specs.Bytes.{number, part}
 use Rattle.joining.specs.declared.Answer.{Answer}
 use Rattle.joining.specs.declared.Session.{Session}
@@ -18,12 +20,33 @@ use borrow.Author.Needs.{needs}
 use Rattle.stretch.proofs.hear.Statement.{statement}
 use Rattle.stretch.proofs.hear.Tie as tie
 
-heard : (ss : List Session) (v : List ℕ) (c : Counts) {id : ℕ} {a : Answer} {b : Brought} {left : List ℕ} → id ≡ number (part 0 4 v)
+-- The value of a frame, by its ends and by its length.
+twelve : (i : ℕ) (l : List ℕ) → take (i + 15 - (i + 3)) (drop (i + 3) l) ≡ part (i + 3) 12 l
+twelve i l =
+    let n : i + 15 - (i + 3) ≡ 12 = omega arith in
+    ap (λ (k : ℕ). take k (drop (i + 3) l)) n
+
+heard : (ss : List Session) (v w : List ℕ) (c : Counts) {id : ℕ} {a : Answer} {b : Brought} {left : List ℕ} → v ≡ w → id ≡ number (part 0 4 v)
     → a ≡ answerTo ss (record { identifier = id; data-bytes = part 4 8 v }) → left ≡ roomOf (sessionsAfter ss (record { identifier = id; data-bytes = part 4 8 v })) → b ≡ brought a c
-    → (b ≡ brought (answerTo ss (frameIn v)) c) × (left ≡ roomOf (sessionsAfter ss (frameIn v)))
-heard ss v c e f g h =
-    let frame : _≡_ {A = Frame} _ (frameIn v) = λ j. record { identifier = e j; data-bytes = part 4 8 v } in
+    → (b ≡ brought (answerTo ss (frameIn w)) c) × (left ≡ roomOf (sessionsAfter ss (frameIn w)))
+heard ss v w c e-v e f g h =
+    let frame : _≡_ {A = Frame} _ (frameIn w) = (λ j. record { identifier = e j; data-bytes = part 4 8 v }) ∙ ap frameIn e-v in
     (h ∙ ap (λ (x : Answer). brought x c) (f ∙ ap (answerTo ss) frame), g ∙ ap (λ (x : Frame). roomOf (sessionsAfter ss x)) frame)
+
+add-value : tie.Need-add-value
+add-value c = search needs
+
+add-value-2 : tie.Need-add-value-2
+add-value-2 c = search needs
+
+sub-value : tie.Need-sub-value
+sub-value c = search needs
+
+part-value-start : tie.Need-part-value-start
+part-value-start c = search needs
+
+part-value-end : tie.Need-part-value-end
+part-value-end c = search needs
 
 read32-requires : tie.Need-read32-requires
 read32-requires c κs = search needs
@@ -45,9 +68,22 @@ brings-requires c κs = search needs
 
 returns : tie.Need-returns
 returns c =
-    let a = c .before .before .before .before .before .before .args in
-    heard (sessionsIn (now (a .room))) (now (a .value)) (a .counts) (c .before .before .before .before .read32 .ensures) (c .before .take .ensures .0) (c .before .take .ensures .1) (c .brings .ensures)
+    let a = c .before .before .before .before .before .before .before .args in
+    heard (sessionsIn (now (a .room))) _ _ (a .counts) (twelve (a .i) (now (a .bytes))) (c .before .before .before .before .read32 .ensures) (c .before .take .ensures .0) (c .before .take .ensures .1) (c .brings .ensures)
 
 pub hear-spec : {M : Type 1} → statement M
 hear-spec =
-    tie.close (tie.spec read32-requires sub-take part-take-start part-take-end take-requires brings-requires returns)
+    tie.close
+    (tie.spec
+    add-value
+    add-value-2
+    sub-value
+    part-value-start
+    part-value-end
+    read32-requires
+    sub-take
+    part-take-start
+    part-take-end
+    take-requires
+    brings-requires
+    returns)

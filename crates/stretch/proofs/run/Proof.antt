@@ -5,8 +5,7 @@ use Prim.Native.Nat.{ℕ, _+_, _-_, _^_, _≤_, _<_}
 use native.Mathlib.Omega.{arith}
 use denote.Ref.{now}
 use mathlib.Core.List.{List}
-use lib.ListN.{length, getD, take, drop, length-map}
-use Rattle.wire.specs.Bytes.{part}
+use lib.ListN.{length, getD, length-map}
 use Rattle.wire.proofs.Fields.{length-part}
 use Rattle.stretch.specs.Coming.{sizeAt}
 use Rattle.stretch.specs.Doing.{windowOf, logIn}
@@ -32,12 +31,6 @@ Inv-loop bus₀ bytes out₀ items₀ at₀ counts₀ losses₀ shakes₀ number
 
 abbrev μ-loop : tie.MeasureT-loop
 μ-loop bus₀ bytes out₀ items₀ at₀ counts₀ losses₀ shakes₀ numbers₀ rows₀ slots₀ gauges₀ used₀ i₀ bus out items at counts losses shakes numbers rows slots gauges used i = length bytes - i
-
--- The value of a frame, by its ends and by its length.
-twelve : (i : ℕ) (l : List ℕ) → take (i + 15 - (i + 3)) (drop (i + 3) l) ≡ part (i + 3) 12 l
-twelve i l =
-    let n : i + 15 - (i + 3) ≡ 12 = omega arith in
-    ap (λ (k : ℕ). take k (drop (i + 3) l)) n
 
 -- An item comes.
 module _ (g : tie.Then1 Inv-loop2 μ-loop2 Inv-loop μ-loop) where
@@ -163,69 +156,47 @@ loop-again c =
     stands-slot _ _ _ _ (small (for-slot t)) (for-slot t .before .before .loop .inv) (for-slot t .before .goes-on .ensures) (for-slot t .if1 .taken) (t .before .byte .ensures) (t .before .before .next-item .ensures) (t .if2 .taken)
     (c .before .before .before .before .before .before .before .before .before .before .before .before .value-at .ensures) (c .before .before .before .before .before .before .before .before .before .before .before .byte2 .ensures) (c .before .before .before .before .before .serve .ensures) (c .before .of .ensures) (c .in-use2 .ensures) refl
 
-add-frame : tie.Need-add-frame Inv-loop2 μ-loop2 Inv-loop μ-loop
-add-frame c = omega (arith, short (for-bus c), frame-comes c .there)
-
-add-frame-2 : tie.Need-add-frame-2 Inv-loop2 μ-loop2 Inv-loop μ-loop
-add-frame-2 c = omega (arith, short (for-bus c), frame-comes c .there)
-
-sub-frame : tie.Need-sub-frame Inv-loop2 μ-loop2 Inv-loop μ-loop
-sub-frame c = search needs
-
-part-frame-start : tie.Need-part-frame-start Inv-loop2 μ-loop2 Inv-loop μ-loop
-part-frame-start c = let h = frame-comes c .there in search needs
-
-part-frame-end : tie.Need-part-frame-end Inv-loop2 μ-loop2 Inv-loop μ-loop
-part-frame-end c = let h = frame-comes c .there in search needs
-
 hear-requires : tie.Need-hear-requires Inv-loop2 μ-loop2 Inv-loop μ-loop
-hear-requires c κs =
-    let f = (c .before .before) in
-    let i = for-bus f .before .before .loop .i in
-    let bytes = now (args-at (for-bus f) .args .bytes) in
-    ap (λ (l : List ℕ). length l) (twelve i bytes) ∙ length-part bytes (i + 3) 12 (omega (arith, frame-comes f .there))
+hear-requires c κs = omega (arith, frame-comes (c .before) .there)
 
 put-refusal-requires : tie.Need-put-refusal-requires Inv-loop2 μ-loop2 Inv-loop μ-loop
 put-refusal-requires c κs = search needs
 
 add-i-3 : tie.Need-add-i-3 Inv-loop2 μ-loop2 Inv-loop μ-loop
-add-i-3 c = omega (arith, short (for-bus (c .before .before .before .before .before .before .before)), frame-comes (c .before .before .before .before .before .before .before) .there)
+add-i-3 c = omega (arith, short (for-bus (c .before .before .before .before .before .before)), frame-comes (c .before .before .before .before .before .before) .there)
 
 loop-less-2 : tie.Need-loop-less-2 Inv-loop2 μ-loop2 Inv-loop μ-loop
-loop-less-2 c = omega (arith, frame-comes (c .before .before .before .before .before .before .before .before .before) .there)
+loop-less-2 c = omega (arith, frame-comes (c .before .before .before .before .before .before .before .before) .there)
 
 loop-again-2 : tie.Need-loop-again-2 Inv-loop2 μ-loop2 Inv-loop μ-loop
 loop-again-2 c =
-    let f = (c .before .before .before .before .before .before .before .before .before) in
+    let f = (c .before .before .before .before .before .before .before .before) in
     stands-none _ _ _ _ (small (for-bus f)) (for-bus f .before .before .loop .inv) (for-bus f .before .goes-on .ensures) (for-bus f .if1 .taken) (f .before .byte .ensures) (f .before .before .next-item .ensures) (f .if2 .left)
-    (twelve (for-bus f .before .before .loop .i) (now (args-at (for-bus f) .args .bytes))) (c .before .before .before .before .before .before .hear .ensures .0) (c .before .before .before .before .before .before .hear .ensures .1) (c .if3 .taken) (c .before .before .before .before .put-refusal .ensures) refl
+    refl (c .before .before .before .before .before .before .hear .ensures .0) (c .before .before .before .before .before .before .hear .ensures .1) (c .if3 .taken) (c .before .before .before .before .put-refusal .ensures) refl
 
 place-requires : tie.Need-place-requires Inv-loop2 μ-loop2 Inv-loop μ-loop
 place-requires c κs = search needs
 
 put-row-requires : tie.Need-put-row-requires Inv-loop2 μ-loop2 Inv-loop μ-loop
 put-row-requires c κs =
-    let f = (c .before .before .before .before .before .before .before .before .before .before .before .before .before) in
+    let f = (c .before .before .before .before .before .before .before .before .before .before .before .before) in
     row-there _ _ _ _ (small (for-bus f)) (for-bus f .before .before .loop .inv) (for-bus f .before .goes-on .ensures) (for-bus f .if1 .taken) (f .before .byte .ensures) (f .before .before .next-item .ensures) (f .if2 .left)
-    (twelve (for-bus f .before .before .loop .i) (now (args-at (for-bus f) .args .bytes))) (c .before .before .before .before .before .before .before .before .before .before .hear .ensures .0) (c .before .before .before .before .before .before .before .before .before .before .hear .ensures .1) (c .before .before .before .place .ensures)
+    refl (c .before .before .before .before .before .before .before .before .before .before .hear .ensures .0) (c .before .before .before .before .before .before .before .before .before .before .hear .ensures .1) (c .before .before .before .place .ensures)
 
 loop2-holds : tie.Need-loop2-holds Inv-loop2 μ-loop2 Inv-loop μ-loop
 loop2-holds c =
-    let f = (c .before .before .before .before .before .before .before .before .before .before .before .before .before .before) in
+    let f = (c .before .before .before .before .before .before .before .before .before .before .before .before .before) in
     turns-begin _ _ _ _ (small (for-bus f)) (for-bus f .before .before .loop .inv) (for-bus f .before .goes-on .ensures) (for-bus f .if1 .taken) (f .before .byte .ensures) (f .before .before .next-item .ensures) (f .if2 .left)
-    (twelve (for-bus f .before .before .loop .i) (now (args-at (for-bus f) .args .bytes))) (c .before .before .before .before .before .before .before .before .before .before .before .hear .ensures .0) (c .before .before .before .before .before .before .before .before .before .before .before .hear .ensures .1) (c .before .before .before .before .place .ensures) (c .put-row .ensures) (c .before .before .before .before .before .before .before .before .before .put-refusal .ensures)
+    refl (c .before .before .before .before .before .before .before .before .before .before .before .hear .ensures .0) (c .before .before .before .before .before .before .before .before .before .before .before .hear .ensures .1) (c .before .before .before .before .place .ensures) (c .put-row .ensures) (c .before .before .before .before .before .before .before .before .before .put-refusal .ensures)
 
 loop-less-3 : tie.Need-loop-less-3 Inv-loop2 μ-loop2 Inv-loop μ-loop
-loop-less-3 c = omega (arith, frame-comes (c .before .before .before .before .before .before .before .before .before .before .before .before .before .before .before .before) .there)
+loop-less-3 c = omega (arith, frame-comes (c .before .before .before .before .before .before .before .before .before .before .before .before .before .before .before) .there)
 
 loop-again-3 : tie.Need-loop-again-3 Inv-loop2 μ-loop2 Inv-loop μ-loop
 loop-again-3 c =
-    let f = (c .before .before .before .before .before .before .before .before .before .before .before .before .before .before .before .before) in
+    let f = (c .before .before .before .before .before .before .before .before .before .before .before .before .before .before .before) in
     stands-enters _ _ _ _ (small (for-bus f)) (for-bus f .before .before .loop .inv) (for-bus f .before .goes-on .ensures) (for-bus f .if1 .taken) (f .before .byte .ensures) (f .before .before .next-item .ensures) (f .if2 .left)
-    (twelve (for-bus f .before .before .loop .i) (now (args-at (for-bus f) .args .bytes))) (c .before .before .before .before .before .before .before .before .before .before .before .before .before .hear .ensures .0) (c .before .before .before .before .before .before .before .before .before .before .before .before .before .hear .ensures .1) (c .before .before .before .before .before .before .before .if3 .left) (c .before .before .before .before .before .before .place .ensures) (c .before .before .put-row .ensures) (c .before .before .before .before .before .before .before .before .before .before .before .put-refusal .ensures) refl (c .before .loop2 .inv) (omega arith)
-
-add-slot : tie.Need-add-slot Inv-loop2 μ-loop2 Inv-loop μ-loop
-add-slot c = omega (arith, in-array c)
+    refl (c .before .before .before .before .before .before .before .before .before .before .before .before .before .hear .ensures .0) (c .before .before .before .before .before .before .before .before .before .before .before .before .before .hear .ensures .1) (c .before .before .before .before .before .before .before .if3 .left) (c .before .before .before .before .before .before .place .ensures) (c .before .before .put-row .ensures) (c .before .before .before .before .before .before .before .before .before .before .before .put-refusal .ensures) refl (c .before .loop2 .inv) (omega arith)
 
 mul-gauge : tie.Need-mul-gauge Inv-loop2 μ-loop2 Inv-loop μ-loop
 mul-gauge c = search needs
@@ -235,6 +206,9 @@ array-copy-out-gauge c = in-array c
 
 quiet-requires : tie.Need-quiet-requires Inv-loop2 μ-loop2 Inv-loop μ-loop
 quiet-requires c κs = search needs
+
+add-slot : tie.Need-add-slot Inv-loop2 μ-loop2 Inv-loop μ-loop
+add-slot c = omega (arith, in-array (c .before .before .before))
 
 loop2-less : tie.Need-loop2-less Inv-loop2 μ-loop2 Inv-loop μ-loop
 loop2-less c = omega arith
@@ -248,8 +222,8 @@ mul-held-2 c = search needs
 array-copy-out-held-2 : tie.Need-array-copy-out-held-2 Inv-loop2 μ-loop2 Inv-loop μ-loop
 array-copy-out-held-2 c = in-array (c .before .before .before)
 
-turn-requires : tie.Need-turn-requires Inv-loop2 μ-loop2 Inv-loop μ-loop
-turn-requires c κs = search needs
+turn-of-requires : tie.Need-turn-of-requires Inv-loop2 μ-loop2 Inv-loop μ-loop
+turn-of-requires c κs = search needs
 
 cast-put-search : tie.Need-cast-put-search Inv-loop2 μ-loop2 Inv-loop μ-loop
 cast-put-search c = omega (arith, in-array (c .before .before .before .before .before .before .before .before .before))
@@ -272,11 +246,14 @@ mul-gauges-2 c = search needs
 array-set-from-gauges-2 : tie.Need-array-set-from-gauges-2 Inv-loop2 μ-loop2 Inv-loop μ-loop
 array-set-from-gauges-2 c = in-array (c .before .before .before .before .before .before .before .before .before .before .before .before .before .before)
 
+add-slot-2 : tie.Need-add-slot-2 Inv-loop2 μ-loop2 Inv-loop μ-loop
+add-slot-2 c = omega (arith, in-array (c .before .before .before .before .before .before .before .before .before .before .before .before .before .before))
+
 loop2-less-2 : tie.Need-loop2-less-2 Inv-loop2 μ-loop2 Inv-loop μ-loop
 loop2-less-2 c = omega (arith, c .before .before .before .before .before .before .before .before .before .before .before .before .before .before .before .loop2 .inv .within)
 
 loop2-again-2 : tie.Need-loop2-again-2 Inv-loop2 μ-loop2 Inv-loop μ-loop
-loop2-again-2 c = turns-more (c .before .before .before .before .before .before .before .before .before .before .before .before .before .before .before .loop2 .inv) (omega arith) (c .before .before .before .before .before .before .turn .ensures) (c .before .before .before .before .put-search .ensures) (c .of2 .ensures)
+loop2-again-2 c = turns-more (c .before .before .before .before .before .before .before .before .before .before .before .before .before .before .before .loop2 .inv) (omega arith) (c .before .before .before .before .before .before .turn-of .ensures) (c .before .before .before .before .put-search .ensures) (c .of2 .ensures)
 
 ended-requires : tie.Need-ended-requires Inv-loop2 μ-loop2 Inv-loop μ-loop
 ended-requires c κs = search needs
@@ -320,11 +297,6 @@ run-spec =
     add-i-2
     loop-less
     loop-again
-    add-frame
-    add-frame-2
-    sub-frame
-    part-frame-start
-    part-frame-end
     hear-requires
     put-refusal-requires
     add-i-3
@@ -335,15 +307,15 @@ run-spec =
     loop2-holds
     loop-less-3
     loop-again-3
-    add-slot
     mul-gauge
     array-copy-out-gauge
     quiet-requires
+    add-slot
     loop2-less
     loop2-again
     mul-held-2
     array-copy-out-held-2
-    turn-requires
+    turn-of-requires
     cast-put-search
     put-search-requires
     mul-slots-2
@@ -351,6 +323,7 @@ run-spec =
     of-requires-2
     mul-gauges-2
     array-set-from-gauges-2
+    add-slot-2
     loop2-less-2
     loop2-again-2
     ended-requires

@@ -27,7 +27,7 @@ use Rattle.text.specs.Text.{rLine, sLine}
 use Rattle.journal.specs.declared.Log.{Log}
 use Rattle.journal.specs.Log.{Outcome, nextItem, counted, withBoard, unless, ruleIn, setItem, removeItem, showItem, itemDone}
 use Rattle.journal.proofs.Items as items
-use Rattle.stretch.specs.Inner.{Served, shownText, seatedText, served}
+use Rattle.serving.specs.Serving.{Served, shownText, seatedText, served}
 
 -- The tag and the length of an item for a slot.
 abbrev pub Known : ℕ → List ℕ → Type 0

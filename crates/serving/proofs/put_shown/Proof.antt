@@ -1,10 +1,10 @@
 -- The line of an empty slot's refusal, or that of the list.
 -- Assumes nothing.
 use borrow.Author.Tests.{eq-eqb, ne-eqb}
-use Rattle.stretch.specs.Inner.{shownText}
+use Rattle.serving.specs.Serving.{shownText}
 use borrow.Author.Needs.{needs}
-use Rattle.stretch.proofs.put_shown.Statement.{statement}
-use Rattle.stretch.proofs.put_shown.Tie as tie
+use Rattle.serving.proofs.put_shown.Statement.{statement}
+use Rattle.serving.proofs.put_shown.Tie as tie
 
 put-r-requires : tie.Need-put-r-requires
 put-r-requires c κs = search needs

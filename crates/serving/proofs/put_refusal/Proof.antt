@@ -3,8 +3,8 @@
 use denote.Ref.{now}
 use Rattle.text.proofs.Places.{none, both}
 use borrow.Author.Needs.{needs}
-use Rattle.stretch.proofs.put_refusal.Statement.{statement}
-use Rattle.stretch.proofs.put_refusal.Tie as tie
+use Rattle.serving.proofs.put_refusal.Statement.{statement}
+use Rattle.serving.proofs.put_refusal.Tie as tie
 
 put-r-requires : tie.Need-put-r-requires
 put-r-requires c κs = search needs

@@ -1,10 +1,10 @@
 -- The line of the search, or that of the refusal.
 -- Assumes nothing.
 use borrow.Author.Tests.{eq-eqb, ne-eqb}
-use Rattle.stretch.specs.Inner.{seatedText}
+use Rattle.serving.specs.Serving.{seatedText}
 use borrow.Author.Needs.{needs}
-use Rattle.stretch.proofs.put_seated.Statement.{statement}
-use Rattle.stretch.proofs.put_seated.Tie as tie
+use Rattle.serving.proofs.put_seated.Statement.{statement}
+use Rattle.serving.proofs.put_seated.Tie as tie
 
 put-s-requires : tie.Need-put-s-requires
 put-s-requires c κs = search needs

@@ -10,11 +10,11 @@ use Rattle.question.specs.declared.Question.{Question}
 use Rattle.question.specs.Lines.{rowsOf}
 use Rattle.window.specs.Rows.{standing}
 use Rattle.slot.specs.Asking.{setIn}
-use Rattle.stretch.specs.Inner.{Served, Serves, shownText, seatedText}
-use Rattle.stretch.proofs.Serving.{served-show, served-remove, served-set}
+use Rattle.serving.specs.Serving.{Served, Serves, shownText, seatedText}
+use Rattle.serving.proofs.Serving.{served-show, served-remove, served-set}
 use borrow.Author.Needs.{needs}
-use Rattle.stretch.proofs.serve.Statement.{statement}
-use Rattle.stretch.proofs.serve.Tie as tie
+use Rattle.serving.proofs.serve.Statement.{statement}
+use Rattle.serving.proofs.serve.Tie as tie
 
 -- What was put, and what the slot holds, are those of the definition.
 serves : {room left : List ℕ} {at next : ℕ} {q : Question} {d e : Served} {text : List ℕ} → d ≡ e → text ≡ e .text → q ≡ e .question → (next ≡ behind at text) × (left ≡ sets room at text) → Serves d room at q next left

@@ -1,0 +1,2 @@
+-- Laws that the proofs of the log program cite.
+pub mod Handing

@@ -1,0 +1,2 @@
+-- What the functions of `serving` are held to.
+pub mod Serving
