@@ -13,9 +13,9 @@ use Rattle.journal.specs.Log.{freshLog, logText}
 use Rattle.pieces.specs.declared.Waiting.{Waiting}
 use Rattle.pieces.specs.declared.Fed.{Fed}
 use Rattle.pieces.specs.Machine.{nothing, Feeds, endLine}
-use Rattle.pieces.specs.Program.{Told}
+use Rattle.pieces.specs.Program.{Handed}
 use Rattle.pieces.proofs.Coming.{drop-take}
-use Rattle.pieces.proofs.Program.{told-none, tells, ends}
+use Rattle.pieces.proofs.Program.{handed-none, tells, ends}
 use Rattle.cart.specs.declared.Printed.{Printed}
 use Rattle.cart.specs.declared.Turn.{Turn}
 use Rattle.cart.specs.Turns.{Turns, Ends, SoFar}
@@ -32,7 +32,7 @@ turned {piece = piece} {left = left} {r = r} p small some f e =
       within = f .within;
       tells =
           λ come said t.
-          subst (λ (l : List ℕ). Told (come ++ take (r .taken) piece) (said ++ l) (r .log) (r .waiting)) (sym (front-same (r .written) left e)) (tells small some f t);
+          subst (λ (l : List ℕ). Handed (come ++ take (r .taken) piece) (said ++ l) (r .log) (r .waiting)) (sym (front-same (r .written) left e)) (tells small some f t);
     }
 
 pub ended : {log : Log} {w : Waiting} (room : List ℕ) {left : List ℕ} {next : ℕ} (p : Printed) → length room ≡ 65536
@@ -52,7 +52,7 @@ begun {w = w} a b e =
       come = [];
       said = [];
       split = sym e;
-      told = subst (λ (l : Log). Told [] [] l w) (sym a) (subst (λ (v : Waiting). Told [] [] freshLog v) (sym b) told-none);
+      handed = subst (λ (l : Log). Handed [] [] l w) (sym a) (subst (λ (v : Waiting). Handed [] [] freshLog v) (sym b) handed-none);
     }
 
 -- A read, where all that came before was taken.
@@ -63,7 +63,7 @@ brought more e r =
       come = r .come;
       said = r .said;
       split = ap (λ (l : List ℕ). l ++ more) (r .split ∙ ap (λ (l : List ℕ). r .come ++ l) e ∙ append-nil (r .come));
-      told = r .told;
+      handed = r .handed;
     }
 
 -- A turn: the bytes that it took came, and what it handed over was said.
@@ -77,12 +77,12 @@ took {piece = piece} {room = room} {t = t} h e r =
       split =
           r .split ∙ ap (λ (l : List ℕ). r .come ++ l) (sym (take-append-drop (t .taken) piece))
           ∙ sym (append-assoc (r .come) (take (t .taken) piece) (drop (t .taken) piece)) ∙ ap (λ (l : List ℕ). (r .come ++ take (t .taken) piece) ++ l) (sym e);
-      told = h .tells (r .come) (r .said) (r .told);
+      handed = h .tells (r .come) (r .said) (r .handed);
     }
 
 -- The end, where all that was read was taken: what was handed over is the text of the log that was read.
 pub whole : {log : Log} {w : Waiting} {left room : List ℕ} {p : Printed} → Ends log w p room → left ≡ [] → (r : SoFar log w left) → r .said ++ take (p .count) room ≡ logText (r .all)
-whole h e r = h .ends (r .come) (r .said) (r .told) ∙ ap logText (sym (r .split ∙ ap (λ (l : List ℕ). r .come ++ l) e ∙ append-nil (r .come)))
+whole h e r = h .ends (r .come) (r .said) (r .handed) ∙ ap logText (sym (r .split ∙ ap (λ (l : List ℕ). r .come ++ l) e ∙ append-nil (r .come)))
 
 -- What is left of a piece from `at` to n, behind its first k bytes.
 pub left-of : (n at k : ℕ) (l : List ℕ) → k ≤ n - at → take (n - (at + k)) (drop (at + k) l) ≡ drop k (take (n - at) (drop at l))

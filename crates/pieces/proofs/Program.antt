@@ -25,7 +25,7 @@ use Rattle.journal.specs.Log.{nextItem, freshLog, logText}
 use Rattle.stretch.specs.Coming.{hasRoom}
 use Rattle.pieces.specs.Machine.{Came, nothing, withByte, isWhole, came, run, ran, Feeds, endLine}
 use Rattle.journal.specs.Reached.{Reached, fresh, item}
-use Rattle.pieces.specs.Program.{Told, Program, feeds, finishes}
+use Rattle.pieces.specs.Program.{Handed, Program, feeds, finishes}
 use Rattle.pieces.proofs.Feeding.{follow, run-append, ran-next}
 use Rattle.laws.proofs.Tests.{either}
 use Rattle.journal.proofs.Reached.{next-small, item-short}
@@ -115,9 +115,9 @@ program-prints {bytes} h p = all-printed fresh p ∙ writes bytes h
 
 -- ---- a turn of a program: what came so far, and what was handed over for printing
 
-pub told-none : Told [] [] freshLog nothing
+pub handed-none : Handed [] [] freshLog nothing
 unfolding run
-told-none = record { bytes = λ i. omega arith; leaves = refl }
+handed-none = record { bytes = λ i. omega arith; leaves = refl }
 
 bytes-join : (a b : List ℕ) → Bytes a → Bytes b → Bytes (a ++ b)
 bytes-join [] b h k i = k i
@@ -132,7 +132,7 @@ bytes-front (suc n) (x ∷ l) h (suc i) = bytes-front n l (λ j. h (suc j)) i
 
 -- A call of `feed` goes on where the one before ended, and what it wrote is the text of what it took.
 pub tells : {log : Log} {w : Waiting} {piece room left come said : List ℕ} {r : Fed} → length room < 2 ^ 64 → Bytes piece → Feeds log w piece room r left
-    → Told come said log w → Told (come ++ take (r .taken) piece) (said ++ take (r .written) left) (r .log) (r .waiting)
+    → Handed come said log w → Handed (come ++ take (r .taken) piece) (said ++ take (r .written) left) (r .log) (r .waiting)
 tells {log} {w} {piece} {room} {left} {come} {said} {r} small some f t =
     let front = take (r .taken) piece in
     let o : Reached log = subst Reached (ap (λ (c : Came). c .log) (t .leaves)) (run-reached come freshLog nothing fresh) in
@@ -145,7 +145,7 @@ tells {log} {w} {piece} {room} {left} {come} {said} {r} small some f t =
 
 -- Where the log ends, that and what `finish` wrote is the text of the whole log.
 pub ends : {log : Log} {w : Waiting} (room : List ℕ) {left come said : List ℕ} {next : ℕ} → length room < 2 ^ 64 → 27 ≤ length room
-    → next ≡ behind 0 (endLine log w) → left ≡ sets room 0 (endLine log w) → Told come said log w → said ++ take next left ≡ logText come
+    → next ≡ behind 0 (endLine log w) → left ≡ sets room 0 (endLine log w) → Handed come said log w → said ++ take next left ≡ logText come
 ends {log} {w} room {left} {come} {said} small most place stored t =
     ap (λ (l : List ℕ). said ++ l) (front-is room (endLine log w) small (omega (arith, end-short log w)) place stored) ∙ sym (ap ended (t .leaves)) ∙ writes come (t .bytes)
 

@@ -12,7 +12,7 @@ use Rattle.journal.specs.Log.{freshLog}
 use Rattle.pieces.specs.Machine.{nothing, run, Feeds, endLine}
 
 -- These bytes came, this text was handed over for printing, and this is the log, and what waits, that they leave.
-pub record Told (come said : List ℕ) (log : Log) (w : Waiting) : Type 0 where
+pub record Handed (come said : List ℕ) (log : Log) (w : Waiting) : Type 0 where
   pub bytes : (i : ℕ) → getD come i 0 < 256
   pub leaves : run freshLog nothing come ≡ record { text = said; log = log; waiting = w }
 
