@@ -1,8 +1,4 @@
 // The desk: lines of text on standard input, an answer to each on standard output (docs/DESK.md). Every public call can be made, on any state.
-mod calls;
-mod frames;
-mod pokes;
-
 use board::Board;
 use bus::Bus;
 use input::Input;
@@ -89,7 +85,7 @@ fn say(text: &[u8]) {
     io::write_all(STDERR_FILENO, text);
 }
 
-// Writes the answer that ends there, if there is one. False where it could not be written, which is said.
+// Writes the answer that ends there, if there is one, with its line end. False where it could not be written, which is said.
 fn written(out: &mut [u8], end: usize) -> bool {
     if end == 0 {
         return true;
@@ -132,7 +128,7 @@ fn obeyed(
         Order::Window(n) => window(desk, n, out),
         Order::Board(asked) => on_board(desk, asked, out),
         Order::Bus(asked) => {
-            let end = frames::obeyed(asked, line, room, out);
+            let end = desk_bus::obeyed(asked, line, room, out);
             Answer { desk, end }
         }
         _ => {
@@ -146,8 +142,8 @@ fn obeyed(
 fn told(order: Order, out: &mut [u8]) -> usize {
     match order {
         Order::NoText => put(out, 0, b"wrong: the line is no text"),
-        Order::Wrong(form) => replies::expected(out, form),
-        Order::Help => replies::help(out),
+        Order::Wrong(form) => forms::expected(out, form),
+        Order::Help => forms::help(out),
         _ => 0,
     }
 }
@@ -172,7 +168,7 @@ fn on_board(desk: Desk, order: BoardOrder, out: &mut [u8]) -> Answer {
         let end = put(out, 0, b"no window");
         return Answer { desk, end };
     }
-    let left = calls::obeyed(desk.board, order, out);
+    let left = desk_board::obeyed(desk.board, order, out);
     let board = left.board;
     Answer {
         desk: Desk { ready: true, board },

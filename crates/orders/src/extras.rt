@@ -1,6 +1,6 @@
 // The words in brackets behind a line's numbers: in any order, each once.
-use crate::numbers::Numbers;
-use crate::numbers::is_bytes;
+use ranges::Numbers;
+use ranges::is_bytes;
 
 // What the words in brackets say, and whether they are right. The next one is read at the word `at`.
 pub struct Extras {

@@ -1,16 +1,13 @@
 // The desk's lines (docs/DESK.md): what a line asks for, or which form it should have had.
 mod extras;
-mod forms;
-mod numbers;
 
 pub use extras::Extras;
-pub use forms::Form;
-use numbers::Numbers;
-use numbers::byte;
-pub use numbers::bytes;
-use numbers::score;
-use numbers::short;
-use numbers::weight;
+use forms::Form;
+use ranges::Numbers;
+use ranges::byte;
+use ranges::score;
+use ranges::short;
+use ranges::weight;
 
 // What a line asks for. A line that is passed over asks for nothing.
 pub enum Order {
@@ -69,7 +66,7 @@ pub enum BoardOrder {
     },
 }
 
-// What needs none. Where bytes belong to it, they stand in a word of the line: `bytes` reads them there.
+// What needs none. Where bytes belong to it, they stand in a word of the line, where `ranges::bytes` reads them.
 pub enum BusOrder {
     Frame {
         id: u32,
@@ -109,8 +106,8 @@ impl Order {
             return Order::NoText;
         }
         let form = Form::of(line);
-        let numbers = form.numbers(line);
-        let extras = form.extras(line, numbers.at);
+        let numbers = numbers_of(form, line);
+        let extras = extras_of(form, line, numbers.at);
         if !numbers.right {
             return Order::Wrong(form);
         }
@@ -118,6 +115,40 @@ impl Order {
             return Order::Wrong(form);
         }
         made(form, numbers, extras)
+    }
+}
+
+// The numbers that a line of this form has behind its name.
+fn numbers_of(form: Form, line: &[u8]) -> Numbers {
+    match form {
+        Form::Window => Numbers::read(line, 1, b"h"),
+        Form::Set => Numbers::read(line, 1, b"bbww"),
+        Form::Remove => Numbers::read(line, 1, b"b"),
+        Form::Read => Numbers::read(line, 1, b"b"),
+        Form::Enter => Numbers::read(line, 1, b"hh"),
+        Form::Begin => Numbers::read(line, 1, b"s"),
+        Form::Step => Numbers::read(line, 1, b"s"),
+        Form::Marks => Numbers::read(line, 1, b"s"),
+        Form::Steps => Numbers::read(line, 1, b"s"),
+        Form::Frame => Numbers::read(line, 1, b"xd"),
+        Form::Session => Numbers::read(line, 1, b"u"),
+        Form::Payload => Numbers::read(line, 1, b"d"),
+        Form::Write => Numbers::read(line, 1, b"bhhn"),
+        Form::PokeWindow => Numbers::read(line, 2, b"hnh"),
+        Form::PokeRow => Numbers::read(line, 2, b"rnhh"),
+        Form::PokeSlot => Numbers::read(line, 2, b"sbwwbh"),
+        Form::PokeLine => Numbers::read(line, 2, b"spnz"),
+        Form::PokeSession => Numbers::read(line, 2, b"ubbb"),
+        Form::PokeByte => Numbers::read(line, 2, b"uyb"),
+        _ => Numbers::read(line, 1, b""),
+    }
+}
+
+// What stands behind the numbers: nothing, or of `write` the words in brackets.
+fn extras_of(form: Form, line: &[u8], from: u8) -> Extras {
+    match form {
+        Form::Write => Extras::read(line, from),
+        _ => Extras::none(from).ended(line),
     }
 }
 

@@ -1,10 +1,5 @@
 // The desk's answers, as bytes in a buffer that a caller lends. Every function stores its text from any place on and answers the place
 // behind it; what lies past the buffer's end is not stored.
-mod forms;
-
-pub use forms::expected;
-pub use forms::help;
-
 // Stores a text.
 pub fn put(buf: &mut [u8], at: usize, text: &[u8]) -> usize {
     wire::put_all(buf, at, text);
