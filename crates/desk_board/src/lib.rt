@@ -1,0 +1,260 @@
+// The desk's calls on the board: each is made, and what it answers is written to the front of `out`.
+ghost use Prim.Native.Nat.{_<_};
+ghost use Rattle.window.specs.Rows.{rowCount};
+use board::Board;
+use board::Entered;
+use orders::BoardOrder;
+use question::Question;
+use ranking::Rule;
+use ranking::Weights;
+use replies::put;
+use replies::put_counted;
+use replies::put_mark;
+use replies::put_number;
+use replies::put_scored;
+use replies::refused;
+use slot::Gauge;
+use slot::Shown;
+use values::Values;
+use window::Counts;
+use window::Window;
+
+// The board as a call leaves it, and where its answer ends.
+pub struct Left {
+    pub board: Board,
+    pub end: usize,
+}
+
+pub fn obeyed(board: Board, order: BoardOrder, out: &mut [u8]) -> Left {
+    match order {
+        BoardOrder::Set {
+            slot,
+            k,
+            loss,
+            shake,
+        } => set(board, slot, k, Rule::of(Weights { loss, shake }), out),
+        BoardOrder::Remove(slot) => remove(board, slot, out),
+        BoardOrder::Enter { loss, shake } => enter(board, Values { loss, shake }, out),
+        BoardOrder::Begin(slot) => begin(board, slot, out),
+        BoardOrder::Step(slot) => step(board, slot, out),
+        BoardOrder::Read(slot) => {
+            let end = read(board.read(slot), out);
+            Left { board, end }
+        }
+        BoardOrder::Marks(slot) => {
+            let end = marks(pokes::slot(board, slot), out);
+            Left { board, end }
+        }
+        BoardOrder::Steps(slot) => {
+            let end = put_counted(out, 0, b"steps", pokes::slot(board, slot).steps() as u64);
+            Left { board, end }
+        }
+        BoardOrder::Held => {
+            let end = held(board.window, out);
+            Left { board, end }
+        }
+        _ => {
+            let end = put(out, 0, b"ok");
+            Left {
+                board: pokes::poked(board, order),
+                end,
+            }
+        }
+    }
+}
+
+fn set(board: Board, slot: u8, k: u8, rule: Rule, out: &mut [u8]) -> Left {
+    let answer = board.set(slot, k, rule);
+    let left = answer.board;
+    if answer.refusal != 0 {
+        let end = refused(out, answer.refusal);
+        return Left { board: left, end };
+    }
+    let end = put_counted(out, 0, b"steps", answer.steps as u64);
+    Left { board: left, end }
+}
+
+fn remove(board: Board, slot: u8, out: &mut [u8]) -> Left {
+    let answer = board.remove(slot);
+    let left = answer.board;
+    let end = done(answer.refusal, out);
+    Left { board: left, end }
+}
+
+// Ok, or the refusal.
+fn done(refusal: u8, out: &mut [u8]) -> usize {
+    if refusal != 0 {
+        return refused(out, refusal);
+    }
+    put(out, 0, b"ok")
+}
+
+fn begin(board: Board, slot: u8, out: &mut [u8]) -> Left {
+    let answer = pokes::slot(board, slot).begin(board.window);
+    let question = answer.question;
+    let end = done(answer.refusal, out);
+    Left {
+        board: pokes::with_slot(board, slot, question),
+        end,
+    }
+}
+
+fn step(board: Board, slot: u8, out: &mut [u8]) -> Left {
+    let answer = pokes::slot(board, slot).step(board.window);
+    let question = answer.question;
+    let end = done(answer.refusal, out);
+    Left {
+        board: pokes::with_slot(board, slot, question),
+        end,
+    }
+}
+
+fn read(shown: Shown, out: &mut [u8]) -> usize {
+    if shown.refusal != 0 {
+        return refused(out, shown.refusal);
+    }
+    let numbers = shown.numbers;
+    let scores = shown.scores;
+    let len = shown.len;
+    let mut end = put_counted(out, 0, b"list", len as u64);
+    let mut i: u8 = 0;
+    while i < Question::LINES {
+        end = entry(i < len, numbers[i as usize], scores[i as usize], end, out);
+        i += 1;
+    }
+    end
+}
+
+// A line of a list, where it has one.
+fn entry(used: bool, number: u32, score: i32, at: usize, out: &mut [u8]) -> usize {
+    if !used {
+        return at;
+    }
+    put_scored(out, at, number as u64, score)
+}
+
+fn enter(board: Board, values: Values, out: &mut [u8]) -> Left {
+    let answer = board.enter(values);
+    let left = answer.board;
+    if answer.refusal != 0 {
+        let end = refused(out, answer.refusal);
+        return Left { board: left, end };
+    }
+    let end = searches(answer, out);
+    Left { board: left, end }
+}
+
+// The report's number, and the slots that were searched with their steps.
+fn searches(entered: Entered, out: &mut [u8]) -> usize {
+    let searched = entered.searched;
+    let steps = entered.steps;
+    let mut end = put_counted(out, 0, b"report", entered.number as u64);
+    let mut i: usize = 0;
+    while i < Gauge::SLOTS {
+        end = search(searched[i], i as u64, steps[i], end, out);
+        i += 1;
+    }
+    end
+}
+
+// A slot and its steps, where it was searched.
+fn search(searched: bool, slot: u64, steps: u16, at: usize, out: &mut [u8]) -> usize {
+    if !searched {
+        return at;
+    }
+    let end = put_number(out, at, slot);
+    put_mark(out, end, b":", steps as u64)
+}
+
+fn marks(question: Question, out: &mut [u8]) -> usize {
+    let marks = question.marks();
+    let mut end = put_counted(out, 0, b"marks", marked(marks));
+    let mut i: usize = 0;
+    while i < Question::MARKS {
+        end = cell(marks[i], i as u64, end, out);
+        i += 1;
+    }
+    end
+}
+
+// A cell, where it is marked.
+fn cell(marked: bool, n: u64, at: usize, out: &mut [u8]) -> usize {
+    if !marked {
+        return at;
+    }
+    put_number(out, at, n)
+}
+
+// How many are marked.
+fn marked(marks: [bool; Question::MARKS]) -> u64 {
+    let mut n: u64 = 0;
+    let mut i: usize = 0;
+    while i < Question::MARKS {
+        n = std::num::wrapping_add_u64(n, one(marks[i]));
+        i += 1;
+    }
+    n
+}
+
+fn one(marked: bool) -> u64 {
+    if marked { 1 } else { 0 }
+}
+
+// The reports that a fit window holds.
+fn held(window: Window, out: &mut [u8]) -> usize {
+    if !window.fit() {
+        return refused(out, Board::UNFIT);
+    }
+    let counts = window.counts;
+    let end = put_counted(out, 0, b"held", counts.held as u64);
+    rows(
+        counts,
+        &window.losses,
+        &window.shakes,
+        &window.numbers,
+        end,
+        out,
+    )
+}
+
+// The held rows, oldest first.
+fn rows<'a>(
+    counts: Counts,
+    losses: &'a [u16; Window::ROWS],
+    shakes: &'a [u16; Window::ROWS],
+    numbers: &'a [u32; Window::ROWS],
+    at: usize,
+    out: &mut [u8],
+) -> usize {
+    let held = counts.held;
+    let mut end = at;
+    let mut i: u16 = 0;
+    while i < held {
+        let place = row_of(counts, i);
+        end = row(numbers[place], losses[place], shakes[place], end, out);
+        i += 1;
+    }
+    end
+}
+
+// The row of the held report that i older ones are held before.
+fn row_of(counts: Counts, i: u16) -> usize
+    ensures { λ r. ⌜ r < rowCount ⌝ }
+{
+    let size = counts.size as u32;
+    if size == 0 {
+        return 0;
+    }
+    let oldest = std::num::wrapping_sub_u32(counts.entered, counts.held as u32);
+    wide(std::num::wrapping_add_u32(oldest, i as u32) % size) % Window::ROWS
+}
+
+fn wide(n: u32) -> usize {
+    n as usize
+}
+
+fn row(number: u32, loss: u16, shake: u16, at: usize, out: &mut [u8]) -> usize {
+    let first = put_number(out, at, number as u64);
+    let second = put_mark(out, first, b":", loss as u64);
+    put_mark(out, second, b":", shake as u64)
+}

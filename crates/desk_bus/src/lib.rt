@@ -1,0 +1,184 @@
+// The desk's frames, sessions, payloads and bench sender: each call is made, and what it answers is written to the front of `out`.
+use bench::Bench;
+use bus::Bus;
+use joining::Answer;
+use orders::BusOrder;
+use orders::Extras;
+use replies::put;
+use replies::put_bytes;
+use replies::put_counted;
+use replies::put_identifier;
+use replies::put_number;
+use replies::refused;
+use report::Payload;
+use report::Reading;
+use report::Report;
+use report::Written;
+use values::Values;
+
+// No line holds more bytes than this.
+const BYTES: usize = 256;
+
+// Where the answer ends.
+pub fn obeyed(order: BusOrder, line: &[u8], room: &mut [u8; Bus::ROOM], out: &mut [u8]) -> usize {
+    match order {
+        BusOrder::Frame { id, word } => frame(id, lines::word(line, word), room, out),
+        BusOrder::Session(sender) => session(place(room, sender), out),
+        BusOrder::Payload { word } => payload(lines::word(line, word), out),
+        BusOrder::Write {
+            sender,
+            loss,
+            shake,
+            own,
+            extras,
+        } => {
+            let values = Values { loss, shake };
+            write(sender, Report { values, own }, extras, line, out)
+        }
+        BusOrder::PokeSession {
+            sender,
+            size,
+            count,
+            next,
+        } => {
+            poke_session(room, sender, size, count, next);
+            put(out, 0, b"ok")
+        }
+        BusOrder::PokeByte {
+            sender,
+            place: at,
+            value,
+        } => {
+            wire::put(room, Bus::PLACE * (sender as usize) + (at as usize), value);
+            put(out, 0, b"ok")
+        }
+    }
+}
+
+// A sender's session where it stands.
+fn place(room: &[u8], sender: u8) -> &[u8] {
+    wire::front(back(room, Bus::PLACE * (sender as usize)), Bus::PLACE)
+}
+
+// What stands from `at` on.
+fn back(s: &[u8], at: usize) -> &[u8] {
+    let size = s.len();
+    if at < size { &s[at..] } else { &s[size..] }
+}
+
+// A frame for its sender's session. The size of the payload that it may end is the one that the session had before.
+fn frame(id: u32, digits: &[u8], room: &mut [u8; Bus::ROOM], out: &mut [u8]) -> usize {
+    let mut bytes = [0u8; BYTES];
+    let n = ranges::bytes(digits, &mut bytes);
+    let sender = (id % 256) as u8;
+    let size = wire::byte(place(room, sender), Bus::SIZE);
+    let answer = Bus::take(room, id, wire::front(&bytes, n));
+    match answer {
+        Answer::Refused(code) => refused(out, code),
+        Answer::Kept => put(out, 0, b"kept"),
+        Answer::Complete(report) => {
+            put_report(report, wire::front(place(room, sender), size as usize), out)
+        }
+    }
+}
+
+// A report, with the note of its payload.
+fn put_report(report: Report, payload: &[u8], out: &mut [u8]) -> usize {
+    let own = put_counted(out, 0, b"report", report.own as u64);
+    let loss = put_number(out, own, report.values.loss as u64);
+    let shake = put_number(out, loss, report.values.shake as u64);
+    if !Payload::has_note(payload) {
+        return shake;
+    }
+    let end = put(out, shake, b" note");
+    put_word(Payload::note(payload), end, out)
+}
+
+// A space and bytes; nothing where there are none.
+fn put_word(bytes: &[u8], at: usize, out: &mut [u8]) -> usize {
+    if bytes.len() == 0 {
+        return at;
+    }
+    let end = put(out, at, b" ");
+    put_bytes(out, end, bytes)
+}
+
+fn session(place: &[u8], out: &mut [u8]) -> usize {
+    let size = put_counted(out, 0, b"session", wire::byte(place, Bus::SIZE) as u64);
+    let count = put_number(out, size, wire::byte(place, Bus::COUNT) as u64);
+    let next = put_number(out, count, wire::byte(place, Bus::NEXT) as u64);
+    put_word(wire::front(place, Payload::LARGEST), next, out)
+}
+
+// The payload's reader alone.
+fn payload(digits: &[u8], out: &mut [u8]) -> usize {
+    let mut bytes = [0u8; BYTES];
+    let n = ranges::bytes(digits, &mut bytes);
+    let payload = wire::front(&bytes, n);
+    match Payload::read(payload) {
+        Reading::Refused(code) => refused(out, code),
+        Reading::Accepted(report) => put_report(report, payload, out),
+    }
+}
+
+// The bench sender.
+fn write(sender: u8, report: Report, extras: Extras, line: &[u8], out: &mut [u8]) -> usize {
+    let mut bytes = [0u8; BYTES];
+    let n = ranges::bytes(lines::word(line, extras.note), &mut bytes);
+    let note = wire::front(&bytes, n);
+    let mut space = [0u8; Bench::LARGEST];
+    let answer = sent(
+        &mut space,
+        extras.room as usize,
+        sender,
+        report,
+        extras.noted,
+        note,
+    );
+    match answer {
+        Written::Refused(code) => refused(out, code),
+        Written::Bytes(size) => put_frames(wire::front(&space, size), out),
+    }
+}
+
+// The frames written to the front of the room, of which `lent` bytes are lent, or all.
+fn sent(
+    room: &mut [u8],
+    lent: usize,
+    sender: u8,
+    report: Report,
+    noted: bool,
+    note: &[u8],
+) -> Written {
+    if room.len() <= lent {
+        return Bench::send(room, sender, report, noted, note);
+    }
+    let start: usize = 0;
+    Bench::send(&mut room[start..lent], sender, report, noted, note)
+}
+
+fn put_frames(frames: &[u8], out: &mut [u8]) -> usize {
+    let n = frames.len() / Bench::FRAME;
+    let mut end = put_counted(out, 0, b"frames", n as u64);
+    let mut i: usize = 0;
+    while i < n {
+        end = put_frame(back(frames, Bench::FRAME * i), end, out);
+        i += 1;
+    }
+    end
+}
+
+// The frame at the front.
+fn put_frame(frames: &[u8], at: usize, out: &mut [u8]) -> usize {
+    let space = put(out, at, b" ");
+    let id = put_identifier(out, space, wire::read32(frames, 0));
+    let end = put(out, id, b" ");
+    put_bytes(out, end, wire::front(back(frames, Bench::IDENTIFIER), 8))
+}
+
+fn poke_session(room: &mut [u8], sender: u8, size: u8, count: u8, next: u8) {
+    let at = Bus::PLACE * (sender as usize);
+    wire::put(room, at + Bus::SIZE, size);
+    wire::put(room, at + Bus::COUNT, count);
+    wire::put(room, at + Bus::NEXT, next);
+}

@@ -1,0 +1,110 @@
+// Boards made up by hand, as the desk's pokes ask for them, and the slots of a board.
+use board::Board;
+use list::Lines;
+use orders::BoardOrder;
+use question::Question;
+use ranking::Rule;
+use ranking::Weights;
+use window::Counts;
+use window::Window;
+
+// The board with what a poke stores.
+pub fn poked(board: Board, order: BoardOrder) -> Board {
+    match order {
+        BoardOrder::PokeWindow {
+            size,
+            entered,
+            held,
+        } => with_counts(
+            board,
+            Counts {
+                size,
+                entered,
+                held,
+            },
+        ),
+        BoardOrder::PokeRow {
+            row,
+            number,
+            loss,
+            shake,
+        } => with_row(board, row as usize, number, loss, shake),
+        BoardOrder::PokeSlot {
+            slot: at,
+            k,
+            loss,
+            shake,
+            len,
+            next,
+        } => {
+            let rule = Rule::of(Weights { loss, shake });
+            with_slot(board, at, with_numbers(slot(board, at), k, rule, len, next))
+        }
+        BoardOrder::PokeLine {
+            slot: at,
+            place,
+            number,
+            score,
+        } => with_slot(
+            board,
+            at,
+            with_line(slot(board, at), place as usize, number, score),
+        ),
+        _ => board,
+    }
+}
+
+fn with_counts(board: Board, counts: Counts) -> Board {
+    let mut window = board.window;
+    let slots = board.slots;
+    window.counts = counts;
+    Board { window, slots }
+}
+
+fn with_row(board: Board, row: usize, number: u32, loss: u16, shake: u16) -> Board {
+    let mut window = board.window;
+    let slots = board.slots;
+    if row < Window::ROWS {
+        window.numbers[row] = number;
+        window.losses[row] = loss;
+        window.shakes[row] = shake;
+    }
+    Board { window, slots }
+}
+
+fn with_numbers(question: Question, k: u8, rule: Rule, len: u8, next: u16) -> Question {
+    let mut changed = question;
+    changed.k = k;
+    changed.rule = rule;
+    changed.len = len;
+    changed.next = next;
+    changed
+}
+
+fn with_line(question: Question, place: usize, number: u32, score: i32) -> Question {
+    let mut changed = question;
+    if place < Lines::ROOM {
+        changed.numbers[place] = number;
+        changed.scores[place] = score;
+    }
+    changed
+}
+
+// The board with a question in that slot.
+pub fn with_slot(board: Board, at: u8, question: Question) -> Board {
+    let window = board.window;
+    let mut slots = board.slots;
+    if at < Board::SLOTS {
+        slots[at as usize] = question;
+    }
+    Board { window, slots }
+}
+
+// The question in that slot.
+pub fn slot(board: Board, at: u8) -> Question {
+    let slots = board.slots;
+    if at < Board::SLOTS {
+        return slots[at as usize];
+    }
+    Question::fresh()
+}

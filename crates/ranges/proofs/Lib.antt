@@ -1,0 +1,2 @@
+-- Why numbers below zero are read safely.
+pub mod Signed
