@@ -1,5 +1,6 @@
-// The reader of captures: the text of `candump -L` on standard input, the log items of its frames on standard output. Frames that a
-// log does not hold are counted, and a broken line is named, on standard error.
+// The reader of captures: the text that `candump` prints on standard input, the log items of its frames on standard output. Frames that a
+// log does not hold, or that aren't asked for, are counted, and a broken line is named, on standard error. Its words are `ours` for the frames
+// that a report can be joined from, or another for all frames, and then the name of an interface, or none for all of them.
 use capture::Sort;
 use input::Input;
 use input::Next;
@@ -10,26 +11,43 @@ use libc::STDOUT_FILENO;
 // How many lines were of each sort.
 struct Counts {
     frames: u64,
+    marked: u64,
+    foreign: u64,
+    elsewhere: u64,
     short: u64,
     remote: u64,
     error: u64,
     fd: u64,
     length: u64,
+    dropped: u64,
     broken: u64,
 }
 
-// What the lines were, and whether what was written for them was taken.
+// What the lines were, whether what was written for them was taken, and how long the name of the first interface is that a frame was written
+// of, until a second one was named.
 struct Reader {
     counts: Counts,
     going: bool,
+    first: usize,
+    told: bool,
+}
+
+fn main() {
+    let mut word = [0u8; Input::LONGEST];
+    let size = os::arg(1, &mut word);
+    let ours = lines::equal(wire::front(&word, size), b"ours");
+    let mut name = [0u8; Input::LONGEST];
+    let named = os::arg(2, &mut name);
+    run(ours, wire::front(&name, named));
 }
 
 // Takes line after line, to the end of the text, and then tells the counts; or to a read or a write that fails, which is said. A proved
 // loop has to end, so it counts its turns down from a number that no run uses up.
-fn main() {
+fn run(ours: bool, name: &[u8]) {
     let mut reader = Reader::fresh();
     let mut input = Input::fresh();
     let mut line = [0u8; Input::LONGEST];
+    let mut bus = [0u8; Input::LONGEST];
     let mut space = io::buffer();
     let mut turns = u64::MAX;
     while turns > 0 {
@@ -41,7 +59,7 @@ fn main() {
             break;
         };
         input = found;
-        reader = reader.take(found, &line);
+        reader = reader.take(found, &line, ours, name, &mut bus);
         if !reader.going {
             break;
         }
@@ -60,11 +78,15 @@ fn stopped(next: Next, counts: Counts) {
 fn none() -> Counts {
     Counts {
         frames: 0,
+        marked: 0,
+        foreign: 0,
+        elsewhere: 0,
         short: 0,
         remote: 0,
         error: 0,
         fd: 0,
         length: 0,
+        dropped: 0,
         broken: 0,
     }
 }
@@ -75,32 +97,74 @@ impl Reader {
         Reader {
             counts,
             going: true,
+            first: 0,
+            told: false,
         }
     }
 
-    // Writes a line's item, if it has one. A line that is too long is broken.
-    fn take(self, found: Input, line: &[u8]) -> Reader {
+    // Writes a line's item, if it has one that is asked for. A line that is too long is broken.
+    fn take(self, found: Input, line: &[u8], ours: bool, name: &[u8], bus: &mut [u8]) -> Reader {
         if found.cut() {
             return self;
         }
         if !found.fits() {
-            return self.count(found.number, Sort::Broken, true);
+            return self.count(found.number, Sort::Broken);
         }
+        let text = wire::front(line, found.size);
         let mut room = [0u8; Item::FRAME_BYTES];
-        let sort = capture::write(wire::front(line, found.size), &mut room);
-        let mut going = true;
-        if let Sort::Frame = sort {
-            going = written(&room);
+        let sort = capture::write(text, ours, name, &mut room);
+        let reader = self.count(found.number, sort);
+        if !is_item(sort) {
+            return reader;
         }
-        self.count(found.number, sort, going)
+        let going = written(&room);
+        reader.seen(found.number, going, dump::interface(text), bus)
     }
 
     // Counts a line of a sort, and names it where it is broken.
-    fn count(self, number: u64, sort: Sort, going: bool) -> Reader {
+    fn count(mut self, number: u64, sort: Sort) -> Reader {
         told(number, sort);
         let counts = counted(self.counts, sort);
-        Reader { counts, going }
+        self.counts = counts;
+        self
     }
+
+    // Keeps the first interface that a frame was written of, and names the second, once.
+    fn seen(mut self, number: u64, going: bool, name: &[u8], bus: &mut [u8]) -> Reader {
+        self.going = going;
+        let first = self.first;
+        if first == 0 {
+            wire::put_all(bus, 0, name);
+            self.first = name.len();
+            return self;
+        }
+        if self.told {
+            return self;
+        }
+        if !lines::equal(wire::front(bus, first), name) {
+            second(number, name);
+            self.told = true;
+        }
+        self
+    }
+}
+
+// Whether a line of this sort has an item.
+fn is_item(sort: Sort) -> bool {
+    match sort {
+        Sort::Frame => true,
+        Sort::Marked => true,
+        _ => false,
+    }
+}
+
+// One sender's number on two buses is two controllers.
+fn second(number: u64, name: &[u8]) {
+    say(b"line ");
+    io::print_decimal(STDERR_FILENO, number);
+    say(b": a second interface, ");
+    say(name);
+    say(b": one sender number on two is two controllers; --interface NAME takes one\n");
 }
 
 // Whether an item could be written; where not, that is said.
@@ -121,7 +185,9 @@ fn told(number: u64, sort: Sort) {
     if let Sort::Broken = sort {
         say(b"line ");
         io::print_decimal(STDERR_FILENO, number);
-        say(b": broken; expected: (TIME) INTERFACE ID#DATA, as candump -L writes\n");
+        say(
+            b": broken; expected: (TIME) INTERFACE ID#DATA, or INTERFACE ID [N] XX .., as candump prints\n",
+        );
     }
 }
 
@@ -129,11 +195,18 @@ fn counted(counts: Counts, sort: Sort) -> Counts {
     let mut c = counts;
     match sort {
         Sort::Frame => c.frames = one_more(c.frames),
+        Sort::Marked => {
+            c.frames = one_more(c.frames);
+            c.marked = one_more(c.marked);
+        }
+        Sort::Foreign => c.foreign = one_more(c.foreign),
+        Sort::Elsewhere => c.elsewhere = one_more(c.elsewhere),
         Sort::Short => c.short = one_more(c.short),
         Sort::Remote => c.remote = one_more(c.remote),
         Sort::Error => c.error = one_more(c.error),
         Sort::Fd => c.fd = one_more(c.fd),
         Sort::Length => c.length = one_more(c.length),
+        Sort::Dropped => c.dropped = one_more(c.dropped),
         Sort::Nothing => c.frames = c.frames,
         Sort::Broken => c.broken = one_more(c.broken),
     }
@@ -156,6 +229,10 @@ fn summary(c: Counts) {
     item(c.remote, b" remote, ");
     item(c.error, b" error, ");
     item(c.fd, b" CAN FD, ");
-    item(c.length, b" of other lengths; ");
-    item(c.broken, b" broken lines\n");
+    item(c.length, b" of other lengths, ");
+    item(c.foreign, b" that join no report, ");
+    item(c.elsewhere, b" on other interfaces; ");
+    item(c.broken, b" broken lines, ");
+    item(c.dropped, b" DROPCOUNT lines, ");
+    item(c.marked, b" marks of a length over 8\n");
 }

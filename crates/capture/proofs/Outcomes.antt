@@ -5,16 +5,11 @@ use mathlib.Core.List.{List}
 use Prim.Native.Nat.{ℕ}
 use denote.Ref.{now}
 use Rattle.laws.proofs.Outcomes.{OneAnswer, OneLeft}
-use Rattle.capture.proofs.Sort.of.Kinds as of-kinds
-use Rattle.capture.proofs.Sort.of.Reads as of-reads
 use Rattle.capture.proofs.write.Kinds as write-kinds
 use Rattle.capture.proofs.write.Reads as write-reads
 
-of-once : OneAnswer 1 of-kinds.ps of-kinds.r of-reads.Post
-of-once κs a x y s t p q = p ∙ sym q
-
-write-once : OneAnswer 2 write-kinds.ps write-kinds.r write-reads.Post
+write-once : OneAnswer 3 write-kinds.ps write-kinds.r write-reads.Post
 write-once κs a x y s t p q = p .0 ∙ sym (q .0)
 
-write-leaves-once : OneLeft 2 write-kinds.ps write-kinds.r write-reads.Post (List ℕ) (λ κs s. now (s .1 .0))
+write-leaves-once : OneLeft 3 write-kinds.ps write-kinds.r write-reads.Post (List ℕ) (λ κs s. now (s .1 .1 .1 .0))
 write-leaves-once κs a x y s t p q = p .1 ∙ sym (q .1)

@@ -10,50 +10,14 @@ use borrow.Author.Tests.{lt-ltb, le-ltb, eq-eqb, ne-eqb}
 use lib.Dec.{eqb, ltb}
 use lib.ListN.{length, getD, take, drop, replicate, length-drop, drop-of-length-le}
 use lib.Seq.{sets, drop-drop, sets-eq}
-use Rattle.wire.specs.Bytes.{same}
 use Rattle.text.proofs.Decimal.{below-or}
 use Rattle.lines.specs.declared.Number.{Number}
 use Rattle.lines.specs.declared.Run.the-variants.{Until}
-use Rattle.lines.specs.Words.{run, wordAt, tailAt}
+use Rattle.lines.specs.Words.{run}
 use Rattle.lines.specs.Numbers.{unknown, numberIn}
 use Rattle.lines.proofs.Words.{all-behind}
 use Rattle.lines.proofs.Numbers.{number-most}
-use Rattle.capture.specs.Capture.{isTime, ended, idSize, dataText, idIn, hexIn, bytesIn}
-
--- ---- a time
-
-pub time-opens : (w : List ℕ) → (getD w 0 0 ≡ 40 → ⊥) → false ≡ isTime w
-unfolding isTime
-time-opens w h = rw (ne-eqb (getD w 0 0) 40 h)
-
-pub time-empty : (w : List ℕ) → length w ≡ 0 → false ≡ isTime w
-unfolding isTime
-time-empty [] h = refl
-time-empty (b ∷ w) h = absurd (omega arith)
-
-pub time-closes : (w : List ℕ) {b : ℕ} → getD w 0 0 ≡ 40 → b ≡ getD w (length w - 1) 0 → eqb b 41 ≡ isTime w
-unfolding isTime
-time-closes w h e = rw (eq-eqb (getD w 0 0) 40 h, e)
-
--- ---- the end of a line
-
-module _ (line t : List ℕ) (rest : t ≡ tailAt 4 line) where
-  pub ends-late : (length t ≡ 0 → ⊥) → false ≡ ended line
-  unfolding ended
-  ends-late h = rw (← rest, ne-eqb (length t) 0 h)
-
-  module _ (m : List ℕ) (mark : m ≡ wordAt 3 line) (none : length t ≡ 0) where
-    pub ends-here : length m ≡ 0 → true ≡ ended line
-    unfolding ended
-    ends-here h = rw (← rest, ← mark, eq-eqb (length t) 0 none, eq-eqb (length m) 0 h)
-
-    pub ends-received : (length m ≡ 0 → ⊥) → same m (82 ∷ []) ≡ true → true ≡ ended line
-    unfolding ended
-    ends-received h e = rw (← rest, ← mark, eq-eqb (length t) 0 none, ne-eqb (length m) 0 h, e)
-
-    pub ends-other : (length m ≡ 0 → ⊥) → same m (82 ∷ []) ≡ false → same m (84 ∷ []) ≡ ended line
-    unfolding ended
-    ends-other h e = rw (← rest, ← mark, eq-eqb (length t) 0 none, ne-eqb (length m) 0 h, e)
+use Rattle.capture.specs.Capture.{idSize, rawText, idIn, hexIn, bytesIn}
 
 -- ---- identifier and data
 
@@ -74,8 +38,8 @@ module _ (w : List ℕ) (n : ℕ) (size : n ≡ run (Until 35) w) where
   unfolding idIn idSize
   id-other h ne ne′ = rw (← size, lt-ltb n (length w) h, ne-eqb n 3 ne, ne-eqb n 8 ne′)
 
-  pub data-behind : (at : ℕ) → at ≡ min (n + 1) (length w) → take (length w - at) (drop at w) ≡ dataText w
-  unfolding dataText idSize
+  pub data-behind : (at : ℕ) → at ≡ min (n + 1) (length w) → take (length w - at) (drop at w) ≡ rawText w
+  unfolding rawText idSize
   data-behind at e =
       all-behind w at
       ∙ ⊎-elim (λ s. let f : at ≡ n + 1 = omega arith in rw (← size, f))

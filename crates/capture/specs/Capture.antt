@@ -1,7 +1,7 @@
--- A line of the text that can-utils' `candump -L` writes: `(time) interface ID#DATA`.
+-- A captured frame in the log's form, ID#DATA, and what is written for the line that holds it.
 use Prim.Native.Nat.{ℕ, _+_, _-_}
 use mathlib.Core.List.{List, [], _∷_}
-use mathlib.Core.Bool.{Bool, true, false, cond, not, _&&_, _||_}
+use mathlib.Core.Bool.{Bool, true, false, cond, not, _&&_}
 use lib.ListN.{length, getD, take, drop}
 use lib.Dec.{leb, ltb, eqb}
 use Rattle.wire.specs.Bytes.{same}
@@ -9,27 +9,27 @@ use Rattle.items.specs.declared.Item.the-variants as item
 use Rattle.items.specs.Run.{Meant}
 use Rattle.lines.specs.declared.Number.{Number}
 use Rattle.lines.specs.declared.Run.the-variants.{Until}
-use Rattle.lines.specs.Words.{run, wordAt, tailAt}
+use Rattle.lines.specs.Words.{run, wordAt}
 use Rattle.lines.specs.Numbers.{unknown, numberIn}
+use Rattle.joining.specs.Frame.{frameRefusal}
+use Rattle.dump.specs.Dump.{interfaceIn, isDrop, frameIn}
 use Rattle.capture.specs.declared.Sort.{Sort}
 use Rattle.capture.specs.declared.Sort.the-variants as sort
-
--- A time is in brackets.
-unfoldable pub isTime : List ℕ → Bool
-isTime w = eqb (getD w 0 0) 40 && eqb (getD w (length w - 1) 0) 41
-
--- Behind the third word stands nothing, or R for a received frame, or T for one that was sent.
-unfoldable pub ended : List ℕ → Bool
-ended line =
-    eqb (length (tailAt 4 line)) 0
-    && (eqb (length (wordAt 3 line)) 0 || (same (wordAt 3 line) (82 ∷ []) || same (wordAt 3 line) (84 ∷ [])))
 
 -- The identifier's digits stand before the first #, the data behind it.
 unfoldable pub idSize : List ℕ → ℕ
 idSize w = run (Until 35) w
 
+unfoldable pub rawText : List ℕ → List ℕ
+rawText w = drop (idSize w + 1) w
+
+-- Behind 8 bytes may stand a mark, _9 to _F, for a length over 8, which stands for 8 bytes too.
+unfoldable pub isMarked : List ℕ → Bool
+isMarked t = eqb (length t) 18 && (eqb (getD t 16 0) 95 && ltb 8 (numberIn 16 15 (drop 17 t) .value))
+
+-- The data without the mark.
 unfoldable pub dataText : List ℕ → List ℕ
-dataText w = drop (idSize w + 1) w
+dataText w = cond (isMarked (rawText w)) (take 16 (rawText w)) (rawText w)
 
 -- The identifier: three hexadecimal digits for 11 bits, eight for 29 and the bit that marks an error frame.
 unfoldable pub idIn : List ℕ → Number
@@ -51,7 +51,7 @@ bytesIn [] = []
 bytesIn (a ∷ []) = []
 bytesIn (a ∷ (b ∷ s)) = numberIn 16 255 (a ∷ b ∷ []) .value ∷ bytesIn s
 
--- What the third word holds. Two # mark CAN FD, and R a remote frame; of the others the data are at most 8 bytes. Bit 29 of the
+-- What a frame is. Two # mark CAN FD, and R a remote frame; of the others the data are at most 8 bytes. Bit 29 of the
 -- identifier marks an error frame, three digits an 11-bit one; a log holds the rest where the data are 8 bytes.
 unfoldable pub sortOfFrame : List ℕ → Sort
 sortOfFrame w =
@@ -65,26 +65,74 @@ sortOfFrame w =
     (cond (eqb (length (dataText w)) 16) sort.Frame
     sort.Length)))))))
 
--- What a line holds: nothing where it has no words.
-unfoldable pub sortOf : List ℕ → Sort
-sortOf line =
+-- Sorts by their number.
+abbrev pub place : Sort → ℕ
+place sort.Frame = 0
+place sort.Marked = 1
+place sort.Foreign = 2
+place sort.Elsewhere = 3
+place sort.Short = 4
+place sort.Remote = 5
+place sort.Error = 6
+place sort.Fd = 7
+place sort.Length = 8
+place sort.Dropped = 9
+place sort.Nothing = 10
+place sort.Broken = 11
+
+abbrev pub is : Sort → Sort → Bool
+is s t = eqb (place s) (place t)
+
+-- On another interface than the one that is asked for; no name asks for all.
+unfoldable pub isElsewhere : List ℕ → List ℕ → Bool
+isElsewhere name line = not (eqb (length name) 0) && not (same name (interfaceIn line))
+
+-- A broken frame stays broken, wherever it is.
+unfoldable pub placed : Bool → Sort → Sort
+placed elsewhere s = cond (elsewhere && not (is sort.Broken s)) sort.Elsewhere s
+
+-- Where only frames are asked for that a report can be joined from, those are left out that refusals 1 to 3 stand against (rule 9.4).
+unfoldable pub isForeign : Bool → List ℕ → Bool
+isForeign ours w = ours && not (eqb (frameRefusal (idIn w .value) (bytesIn (dataText w))) 0)
+
+unfoldable pub frameFor : Bool → List ℕ → Sort
+frameFor ours w = cond (isForeign ours w) sort.Foreign (cond (isMarked (rawText w)) sort.Marked sort.Frame)
+
+unfoldable pub wanted : Bool → List ℕ → Sort → Sort
+wanted ours w s = cond (is sort.Frame s) (frameFor ours w) s
+
+-- What a frame is of those that are asked for.
+unfoldable pub sortFor : Bool → Bool → List ℕ → Sort
+sortFor ours elsewhere w = wanted ours w (placed elsewhere (sortOfFrame w))
+
+-- What a line holds: nothing where it has no words; how many frames were missed; or a frame.
+unfoldable pub sortIn : Bool → List ℕ → List ℕ → Sort
+sortIn ours name line =
     cond (eqb (length (wordAt 0 line)) 0) sort.Nothing
-    (cond (isTime (wordAt 0 line)) (cond (ended line) (sortOfFrame (wordAt 2 line)) sort.Broken) sort.Broken)
+    (cond (isDrop line) sort.Dropped
+    (sortFor ours (isElsewhere name line) (frameIn line)))
 
 -- The log item of a frame.
 abbrev pub itemIn : List ℕ → Meant
 itemIn w = record { item = item.Frame (idIn w .value); data-bytes = bytesIn (dataText w) }
 
--- What is written for a line: the item of a frame that a log holds, and nothing else.
+-- What is written: the item of a frame that a log holds, and nothing else.
 abbrev pub itemOf : Sort → List ℕ → List Meant
 itemOf sort.Frame w = itemIn w ∷ []
+itemOf sort.Marked w = itemIn w ∷ []
+itemOf sort.Foreign w = []
+itemOf sort.Elsewhere w = []
 itemOf sort.Short w = []
 itemOf sort.Remote w = []
 itemOf sort.Error w = []
 itemOf sort.Fd w = []
 itemOf sort.Length w = []
+itemOf sort.Dropped w = []
 itemOf sort.Nothing w = []
 itemOf sort.Broken w = []
 
-unfoldable pub itemsIn : List ℕ → List Meant
-itemsIn line = itemOf (sortOf line) (wordAt 2 line)
+unfoldable pub itemsFor : Bool → Bool → List ℕ → List Meant
+itemsFor ours elsewhere w = itemOf (sortFor ours elsewhere w) w
+
+unfoldable pub itemsIn : Bool → List ℕ → List ℕ → List Meant
+itemsIn ours name line = itemOf (sortIn ours name line) (frameIn line)

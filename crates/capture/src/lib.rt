@@ -1,24 +1,31 @@
-// Captured frames: a line of the text that `candump -L` writes, and the log item of the frame in it.
-// A line is `(time) interface ID#DATA`, perhaps with R or T behind it for received or sent.
+// Captured frames: what a line of the text that `candump` prints holds, and the log item of its frame.
 ghost use mathlib.Core.Path.{_≡_};
 ghost use Prim.Native.Nat.{_+_, min};
-ghost use mathlib.Core.List.{[], _∷_};
+ghost use mathlib.Core.Bool.{not, _&&_};
+ghost use lib.Dec.{eqb};
+ghost use Rattle.joining.specs.Frame.{frameRefusal};
 ghost use lib.ListN.{length, replicate};
 ghost use lib.Seq.{sets};
 ghost use Rattle.items.specs.Run.{runBytes};
-ghost use Rattle.capture.specs.Capture.{isTime, ended, hexIn, bytesIn, dataText, idIn, sortOfFrame, sortOf, itemIn, itemsIn};
+ghost use Rattle.capture.specs.Capture.{hexIn, bytesIn, rawText, isMarked, dataText, idIn, sortOfFrame, isElsewhere, placed, isForeign, frameFor, sortFor, sortIn, itemOf, itemsFor, itemsIn};
+use dump::Text;
 use items::Item;
 use lines::Number;
 use lines::Run;
 
-// What a line holds: a frame that a log can hold, a frame of another kind, nothing, or nothing that can be read.
+// What a line holds: a frame that a log can hold, perhaps with a mark for a length over 8; one that isn't asked for; a frame of another kind;
+// how many frames were missed; nothing; or nothing that can be read.
 pub enum Sort {
     Frame,
+    Marked,
+    Foreign,
+    Elsewhere,
     Short,
     Remote,
     Error,
     Fd,
     Length,
+    Dropped,
     Nothing,
     Broken,
 }
@@ -38,24 +45,10 @@ impl Sort {
     // Digits of 8 data bytes.
     pub const DATA_DIGITS: usize = 16;
 
-    // What a line holds.
-    pub fn of(line: &[u8]) -> Sort
-        ensures { λ r. ⌜ r ≡ sortOf (now (line .entry)) ⌝ }
-    {
-        let time = lines::word(line, 0);
-        if time.len() == 0 {
-            return Sort::Nothing;
-        }
-        if !is_time(time) {
-            return Sort::Broken;
-        }
-        if !ends(line) {
-            return Sort::Broken;
-        }
-        Sort::of_frame(lines::word(line, 2))
-    }
+    // The same with a mark.
+    pub const MARKED_DIGITS: usize = 18;
 
-    // What the third word of a line holds.
+    // What a frame in the log's form is.
     fn of_frame(word: &[u8]) -> Sort
         ensures { λ r. ⌜ r ≡ sortOfFrame (now (word .entry)) ⌝ }
     {
@@ -88,53 +81,92 @@ impl Sort {
         }
         Sort::Length
     }
+
+    // The sort of a frame that is perhaps on another interface than the one that is asked for.
+    fn placed(self, elsewhere: bool) -> Sort
+        ensures { λ r. ⌜ r ≡ placed elsewhere self ⌝ }
+    {
+        if !elsewhere {
+            return self;
+        }
+        match self {
+            Sort::Broken => Sort::Broken,
+            _ => Sort::Elsewhere,
+        }
+    }
 }
 
-// Writes the item of a line's frame to the front of `room`, where the line holds one: `Item::FRAME_BYTES`. What
-// lies past the room's end is not stored.
-pub fn write(line: &[u8], room: &mut [u8]) -> Sort
-    ensures { λ r. ⌜ r ≡ sortOf (now (line .entry)) ⌝ }
-    ensures { λ _. ⌜ now (room .exit) ≡ sets (now (room .entry)) 0 (runBytes (itemsIn (now (line .entry)))) ⌝ }
+// Writes the item of a line's frame to the front of `room`, where the line holds one that is asked for: `Item::FRAME_BYTES`. Asked for
+// are all frames, or with `ours` those that a report can be joined from; and of all interfaces, or of the one that `name` names. What lies
+// past the room's end is not stored.
+pub fn write(line: &[u8], ours: bool, name: &[u8], room: &mut [u8]) -> Sort
+    ensures { λ r. ⌜ r ≡ sortIn ours (now (name .entry)) (now (line .entry)) ⌝ }
+    ensures { λ _. ⌜ now (room .exit) ≡ sets (now (room .entry)) 0 (runBytes (itemsIn ours (now (name .entry)) (now (line .entry)))) ⌝ }
 {
-    let sort = Sort::of(line);
+    let first = lines::word(line, 0);
+    if first.len() == 0 {
+        return Sort::Nothing;
+    }
+    if dump::is_drop(line) {
+        return Sort::Dropped;
+    }
+    let elsewhere = is_elsewhere(name, line);
+    if dump::is_log(line) {
+        return write_frame(dump::logged(line), ours, elsewhere, room);
+    }
+    let mut text = [0u8; Text::LONGEST];
+    let size = dump::shown(line, &mut text);
+    write_frame(wire::front(&text, size), ours, elsewhere, room)
+}
+
+// Whether a line is of another interface than the one that is named.
+fn is_elsewhere(name: &[u8], line: &[u8]) -> bool
+    ensures { λ r. ⌜ r ≡ isElsewhere (now (name .entry)) (now (line .entry)) ⌝ }
+{
+    if name.len() == 0 {
+        return false;
+    }
+    !lines::equal(name, dump::interface(line))
+}
+
+// The same for a frame in the log's form.
+fn write_frame(word: &[u8], ours: bool, elsewhere: bool, room: &mut [u8]) -> Sort
+    ensures { λ r. ⌜ r ≡ sortFor ours elsewhere (now (word .entry)) ⌝ }
+    ensures { λ _. ⌜ now (room .exit) ≡ sets (now (room .entry)) 0 (runBytes (itemsFor ours elsewhere (now (word .entry)))) ⌝ }
+{
+    let sort = Sort::of_frame(word).placed(elsewhere);
     match sort {
-        Sort::Frame => {
-            put_item(room, lines::word(line, 2));
-            sort
-        }
+        Sort::Frame => put_frame(word, ours, room),
         _ => sort,
     }
 }
 
-// Whether a word is a time: something in brackets.
-fn is_time(word: &[u8]) -> bool
-    ensures { λ r. ⌜ r ≡ isTime (now (word .entry)) ⌝ }
+// The same for one with 8 data bytes.
+fn put_frame(word: &[u8], ours: bool, room: &mut [u8]) -> Sort
+    requires { ⌜ length (dataText (now word)) ≡ 16 ⌝ }
+    ensures { λ r. ⌜ r ≡ frameFor ours (now (word .entry)) ⌝ }
+    ensures { λ _. ⌜ now (room .exit) ≡ sets (now (room .entry)) 0 (runBytes (itemOf (frameFor ours (now (word .entry))) (now (word .entry)))) ⌝ }
 {
-    if wire::byte(word, 0) != b'(' {
-        return false;
+    let id = identifier(word);
+    let bytes = eight(digits(word));
+    if foreign(ours, id.value, &bytes) {
+        return Sort::Foreign;
     }
-    if word.len() == 0 {
-        return false;
+    Item::Frame(id.value).put(&bytes, room, 0);
+    if marked(raw(word)) {
+        return Sort::Marked;
     }
-    wire::byte(word, word.len() - 1) == b')'
+    Sort::Frame
 }
 
-// Whether nothing stands behind the third word, or R, or T.
-fn ends(line: &[u8]) -> bool
-    ensures { λ r. ⌜ r ≡ ended (now (line .entry)) ⌝ }
+// Whether a frame isn't asked for, since no report can be joined from it.
+fn foreign(ours: bool, id: u32, bytes: &[u8]) -> bool
+    ensures { λ r. ⌜ r ≡ (ours && not (eqb (frameRefusal id (now (bytes .entry))) 0)) ⌝ }
 {
-    let rest = lines::tail(line, 4);
-    if rest.len() != 0 {
+    if !ours {
         return false;
     }
-    let mark = lines::word(line, 3);
-    if mark.len() == 0 {
-        return true;
-    }
-    if lines::equal(mark, b"R") {
-        return true;
-    }
-    lines::equal(mark, b"T")
+    joining::frame_refusal(id, bytes) != 0
 }
 
 // The identifier before the #.
@@ -161,12 +193,37 @@ fn identifier(word: &[u8]) -> Number
 }
 
 // What stands behind the first #.
-fn digits(word: &[u8]) -> &[u8]
-    ensures { λ r. ⌜ now r ≡ dataText (now (word .entry)) ⌝ }
+fn raw(word: &[u8]) -> &[u8]
+    ensures { λ r. ⌜ now r ≡ rawText (now (word .entry)) ⌝ }
 {
     let size = Run::Until(b'#').length(word);
     let at = behind(size, word.len());
     &word[at..]
+}
+
+// Whether behind 8 bytes stands the mark of a length over 8.
+fn marked(text: &[u8]) -> bool
+    ensures { λ r. ⌜ r ≡ isMarked (now (text .entry)) ⌝ }
+{
+    if text.len() != Sort::MARKED_DIGITS {
+        return false;
+    }
+    if wire::byte(text, Sort::DATA_DIGITS) != b'_' {
+        return false;
+    }
+    let n = Number::read(&text[17..], 16, 15);
+    8 < n.value
+}
+
+// The data without the mark.
+fn digits(word: &[u8]) -> &[u8]
+    ensures { λ r. ⌜ now r ≡ dataText (now (word .entry)) ⌝ }
+{
+    let text = raw(word);
+    if marked(text) {
+        return wire::front(text, Sort::DATA_DIGITS);
+    }
+    text
 }
 
 // One place on, or the end.
@@ -210,14 +267,4 @@ fn eight(s: &[u8]) -> [u8; 8]
         k += 1;
     }
     bytes
-}
-
-// Stores the item of a frame with 8 data bytes.
-fn put_item(room: &mut [u8], word: &[u8])
-    requires { ⌜ length (dataText (now word)) ≡ 16 ⌝ }
-    ensures { λ _. ⌜ now (room .exit) ≡ sets (now (room .entry)) 0 (runBytes (itemIn (now (word .entry)) ∷ [])) ⌝ }
-{
-    let id = identifier(word);
-    let bytes = eight(digits(word));
-    Item::Frame(id.value).put(&bytes, room, 0);
 }

@@ -24,7 +24,7 @@ use Rattle.commands.specs.declared.Kind.the-variants as kind
 use Rattle.commands.specs.declared.Sending.{Sending}
 use Rattle.commands.specs.declared.Command.{Command}
 use Rattle.commands.specs.declared.Command.the-variants as command
-use Rattle.commands.specs.Lines.{kindOf, firstFalse, noMore, valueAt, weightAt, unless, windowOf, questionOf, oneSlot, removeOf, showOf, reportOf, byKind, commandOf, noteIn}
+use Rattle.commands.specs.Lines.{kindOf, firstFalse, noMore, valueAt, weightAt, unless, windowOf, questionOf, oneSlot, removeOf, showOf, reportKind, reportOf, byKind, commandOf, noteIn}
 use Rattle.commands.specs.Items.{frameItem, refusal, reportItems, itemsOf}
 use Rattle.commands.proofs.Reading.{value-most, weight-most}
 use Rattle.commands.proofs.Writing.{taken-facts}
@@ -94,7 +94,7 @@ module _ (line note : List ℕ) where
         report = record { values = record { loss = valueAt 2 65535 line .value; shake = valueAt 3 65535 line .value }; own = valueAt 4 4294967295 line .value };
         noted = always || not (noMore 5 line);
       } in
-      unless-fits (firstFalse 1 (valueAt 1 255 line .known ∷ valueAt 2 65535 line .known ∷ valueAt 3 65535 line .known ∷ valueAt 4 4294967295 line .known ∷ true ∷ [])) kind.Report (command.Report s) note
+      unless-fits (firstFalse 1 (valueAt 1 255 line .known ∷ valueAt 2 65535 line .known ∷ valueAt 3 65535 line .known ∷ valueAt 4 4294967295 line .known ∷ true ∷ [])) (reportKind always) (command.Report s) note
       (report-fits s note)
 
   by-kind-fits : (k : Kind) → FitsAll (byKind k line)

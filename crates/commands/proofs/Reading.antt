@@ -15,7 +15,7 @@ use Rattle.commands.specs.declared.Kind.the-variants as kind
 use Rattle.commands.specs.declared.Slot.{Slot}
 use Rattle.commands.specs.declared.Command.{Command}
 use Rattle.commands.specs.declared.Command.the-variants as command
-use Rattle.commands.specs.Lines.{kindOf, firstFalse, valueAt, weightAt, noMore, unless, windowOf, questionOf, oneSlot, removeOf, showOf, reportOf, byKind, commandOf}
+use Rattle.commands.specs.Lines.{kindOf, firstFalse, valueAt, weightAt, noMore, unless, windowOf, questionOf, oneSlot, removeOf, showOf, reportKind, reportOf, byKind, commandOf}
 
 -- ---- which test fails first
 
@@ -112,14 +112,14 @@ module _ (line : List ℕ) (always : Bool) (s l k n : Number) (w : ℕ) (sender 
         noted = noted;
       })
 
-  pub report-wrong : (w ≡ 0 → ⊥) → command.Wrong (record { kind = kind.Report; word = w }) ≡ reportOf always line
+  pub report-wrong : {k : Kind} → k ≡ reportKind always → (w ≡ 0 → ⊥) → command.Wrong (record { kind = k; word = w }) ≡ reportOf always line
   unfolding reportOf
-  report-wrong h = rw (← sender, ← loss, ← shake, ← own, ← first) (wrong w kind.Report (sent (always || not (noMore 5 line))) h)
+  report-wrong e h = rw (e, ← sender, ← loss, ← shake, ← own, ← first) (wrong w (reportKind always) (sent (always || not (noMore 5 line))) h)
 
   pub report-right : (noted : Bool) → noted ≡ (always || not (noMore 5 line)) → w ≡ 0 → sent noted ≡ reportOf always line
   unfolding reportOf
   report-right noted e h =
-      rw (← sender, ← loss, ← shake, ← own, ← first, ← e) (right w kind.Report (sent noted) h)
+      rw (← sender, ← loss, ← shake, ← own, ← first, ← e) (right w (reportKind always) (sent noted) h)
 
 -- ---- how large
 

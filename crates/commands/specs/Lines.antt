@@ -104,12 +104,15 @@ removeOf line = unless (oneSlot line .wrong) kind.Remove (command.Item (item.Rem
 unfoldable pub showOf : List ℕ → Command
 showOf line = unless (oneSlot line .wrong) kind.Show (command.Item (item.Show (oneSlot line .slot)))
 
+abbrev pub reportKind : Bool → Kind
+reportKind always = cond always kind.Noted kind.Report
+
 -- `report SENDER LOSS SHAKE NUMBER`, and what stands behind is its note; `noted` has a note also where nothing does.
 unfoldable pub reportOf : Bool → List ℕ → Command
 reportOf always line =
     unless
     (firstFalse 1 (valueAt 1 255 line .known ∷ valueAt 2 65535 line .known ∷ valueAt 3 65535 line .known ∷ valueAt 4 4294967295 line .known ∷ true ∷ []))
-    kind.Report
+    (reportKind always)
     (command.Report (record {
       sender = valueAt 1 255 line .value;
       report = record { values = record { loss = valueAt 2 65535 line .value; shake = valueAt 3 65535 line .value }; own = valueAt 4 4294967295 line .value };

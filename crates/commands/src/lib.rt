@@ -10,7 +10,7 @@ ghost use lib.Seq.{sets};
 ghost use Rattle.items.specs.Run.{runBytes};
 ghost use Rattle.bench.specs.Bench.{framesIn};
 ghost use Rattle.lines.specs.Words.{tailAt};
-ghost use Rattle.commands.specs.Lines.{kindOf, firstFalse, valueAt, weightAt, noMore, oneSlot, windowOf, questionOf, removeOf, showOf, reportOf, commandOf, noteIn};
+ghost use Rattle.commands.specs.Lines.{kindOf, firstFalse, valueAt, weightAt, noMore, oneSlot, windowOf, questionOf, removeOf, showOf, reportKind, reportOf, commandOf, noteIn};
 ghost use Rattle.commands.specs.Items.{frameItem, itemsOf, answerOf, reportItems, reportAnswer};
 use bench::Bench;
 use items::Item;
@@ -286,7 +286,7 @@ fn one_report(line: &[u8], noted: bool) -> Command
     let wrong = first_false(sender.known, loss.known, shake.known, own.known, true);
     if wrong != 0 {
         return Command::Wrong(Fault {
-            kind: Kind::Report,
+            kind: report_kind(noted),
             word: wrong,
         });
     }
@@ -301,6 +301,13 @@ fn one_report(line: &[u8], noted: bool) -> Command
         },
         noted: has_note(line, noted),
     })
+}
+
+// Whether a line is called report or noted.
+fn report_kind(noted: bool) -> Kind
+    ensures { λ r. ⌜ r ≡ reportKind noted ⌝ }
+{
+    if noted { Kind::Noted } else { Kind::Report }
 }
 
 // ---- writing

@@ -107,8 +107,8 @@ fn faulty(fault: Fault) {
         Kind::Question => question(word),
         Kind::Remove => slot(word, b"remove SLOT\n"),
         Kind::Show => slot(word, b"show SLOT\n"),
-        Kind::Report => report(word),
-        Kind::Noted => report(word),
+        Kind::Report => report(word, b"report"),
+        Kind::Noted => report(word, b"noted"),
         Kind::Nothing => say(b"\n"),
         Kind::Unknown => say(
             b"the first word is none of window, question, remove, show, report, noted\n",
@@ -151,7 +151,7 @@ fn slot(word: u8, form: &[u8]) {
     say(form);
 }
 
-fn report(word: u8) {
+fn report(word: u8, name: &[u8]) {
     match word {
         1 => say(b"SENDER is missing or no number from 0 to 253"),
         2 => say(b"LOSS is missing or no number from 0 to 4095"),
@@ -159,5 +159,6 @@ fn report(word: u8) {
         _ => say(b"NUMBER is missing or no number from 0 to 4294967295"),
     }
     expected();
-    say(b"report SENDER LOSS SHAKE NUMBER, and perhaps a note\n");
+    say(name);
+    say(b" SENDER LOSS SHAKE NUMBER, and perhaps a note\n");
 }

@@ -22,16 +22,20 @@ value-requires-4 c κs = search needs
 first-false-requires : tie.Need-first-false-requires
 first-false-requires c κs = search needs
 
+report-kind-requires : tie.Need-report-kind-requires
+report-kind-requires c κs = search needs
+
 returns : tie.Need-returns
 returns c =
-    let f = c .before in
+    let i = c .before in
+    let f = i .before in
     let n = f .before in
     let k = n .before in
     let l = k .before in
     let s = l .before in
     let a = s .before .before .args in
     report-wrong (now (a .line)) (a .noted) (s .value .result) (l .value2 .result) (k .value3 .result) (n .value4 .result) (f .first-false .result)
-    (s .value .ensures) (l .value2 .ensures) (k .value3 .ensures) (n .value4 .ensures) (f .first-false .ensures) (c .if1 .taken)
+    (s .value .ensures) (l .value2 .ensures) (k .value3 .ensures) (n .value4 .ensures) (f .first-false .ensures) (c .report-kind .ensures) (i .if1 .taken)
 
 cast-t11 : tie.Need-cast-t11
 cast-t11 c = let v = c .before .before .before .before .before .before in omega (arith, value-most 1 255 (now (v .before .before .args .line)) (v .value .result) (v .value .ensures))
@@ -65,6 +69,7 @@ one-report-spec =
     value-requires-3
     value-requires-4
     first-false-requires
+    report-kind-requires
     returns
     cast-t11
     cast-t12

@@ -1,0 +1,23 @@
+-- `dump::is_drop` meets its contract: the first word decides.
+-- Assumes nothing.
+use mathlib.Core.Path.{_≡_, sym, ap, _∙_}
+use Rattle.dump.specs.Dump.{isDrop}
+use borrow.Author.Needs.{needs}
+use Rattle.dump.proofs.is_drop.Statement.{statement}
+use Rattle.dump.proofs.is_drop.Tie as tie
+
+word-requires : tie.Need-word-requires
+word-requires c κs = search needs
+
+slice-aggregate-equal : tie.Need-slice-aggregate-equal
+slice-aggregate-equal c = search needs
+
+equal-requires : tie.Need-equal-requires
+equal-requires c κs = search needs
+
+returns : tie.Need-returns
+unfolding isDrop
+returns c = c .equal .ensures ∙ rw (c .before .before .word .ensures)
+
+pub is-drop-spec : {M : Type 1} → statement M
+is-drop-spec = tie.close (tie.spec word-requires slice-aggregate-equal equal-requires returns)
