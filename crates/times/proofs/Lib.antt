@@ -1,6 +1,6 @@
 -- Laws that the crates above cite.
 pub mod Steps
 pub mod Mixing
--- pub mod Reached
+pub mod Reached
 -- pub mod MadeUp
 -- pub mod RoundTrip
