@@ -3,4 +3,4 @@ pub mod Steps
 pub mod Mixing
 pub mod Reached
 -- pub mod MadeUp
--- pub mod RoundTrip
+pub mod RoundTrip

@@ -168,7 +168,7 @@ pub ways : (s : Station) (f : Timed) → Fit s → Way s f
 ways s f ok = by-time s ok (f .frame) (f .time)
 
 -- Both stay fit, so a station that is fresh at first never answers 24: what it refuses is 1 to 10 or 26.
-by-fit : (o : Option ℕ) (a : Answer) (l : Last) → fitLast l ≡ true → fitLast (lastBy o a l) ≡ true
+pub by-fit : (o : Option ℕ) (a : Answer) (l : Last) → fitLast l ≡ true → fitLast (lastBy o a l) ≡ true
 by-fit none a l h = h
 by-fit (some t) a l h = after-fit a t l h
 
