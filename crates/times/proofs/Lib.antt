@@ -2,5 +2,5 @@
 pub mod Steps
 pub mod Mixing
 pub mod Reached
--- pub mod MadeUp
+pub mod MadeUp
 pub mod RoundTrip
