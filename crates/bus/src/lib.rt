@@ -100,7 +100,11 @@ fn fit_in(room: &[u8], at: usize) -> bool
     requires { ⌜ (length (now room) ≡ roomBytes) × (at + placeBytes ≤ roomBytes) ⌝ }
     ensures { λ r. ⌜ r ≡ fit (sessionAt (drop at (now (room .entry)))) ⌝ }
 {
-    joining::numbers_fit(room[at + Bus::SIZE], room[at + Bus::COUNT], room[at + Bus::NEXT])
+    joining::numbers_fit(
+        room[at + Bus::SIZE],
+        room[at + Bus::COUNT],
+        room[at + Bus::NEXT],
+    )
 }
 
 // `Bus::close` on the array as a slice.

@@ -4,3 +4,5 @@ pub mod Mixing
 pub mod Reached
 pub mod MadeUp
 pub mod RoundTrip
+pub mod Lent
+pub mod Outcomes

@@ -64,7 +64,7 @@ smooth-step : (o : Option ℕ) (s : Station) (g : Frame) (ts : List ℕ) → Fit
 smooth-step none s g ts ok k h = (refl, h)
 smooth-step (some t) s g ts ok k h =
     let n = near-first (s .last) t ts h in (
-      in-time s ok t g (not-before (s .last) t (λ e. n e .0)) (not-late (s .last) t (λ e. n e .1)),
+      in-time s (ok .last) t g (not-before (s .last) t (λ e. n e .0)) (not-late (s .last) t (λ e. n e .1)),
       rw (takes-time (soloStep (s .session) g .answer) t (s .last) k) (behind-last (s .last) t ts h),
     )
 

@@ -57,16 +57,23 @@ foreign-stays s f h = go (f .time)
     go none = rw (ne-eqb (frameRefusal (f .frame .identifier) (f .frame .data-bytes)) 0 h)
     go (some t) = rw (ne-eqb (frameRefusal (f .frame .identifier) (f .frame .data-bytes)) 0 h)
 
--- Where neither 26 nor a closing applies, the untimed rules settle it. (Where 1 to 3 do, they give them too.)
-pub in-time : (s : Station) → Fit s → (t : ℕ) (f : Frame) → isBefore (s .last) t ≡ false → isLate (s .last) t ≡ false
+-- Where neither 26 nor a closing applies, the untimed rules settle it. (Where 1 to 3 or 24 do, they give them too.)
+pub in-time : (s : Station) → fitLast (s .last) ≡ true → (t : ℕ) (f : Frame) → isBefore (s .last) t ≡ false → isLate (s .last) t ≡ false
     → timed-frame s t (f .identifier) (f .data-bytes) ≡ kept-at t (s .last) (soloStep (s .session) f)
 unfolding timed-frame take-frame
-in-time s ok t f h g = go (eqb (frameRefusal (f .identifier) (f .data-bytes)) 0) refl
+in-time s ok t f h g = go (eqb (frameRefusal (f .identifier) (f .data-bytes)) 0) (fit (s .session)) refl refl
   where
-    go : (b : Bool) → eqb (frameRefusal (f .identifier) (f .data-bytes)) 0 ≡ b
+    go : (b c : Bool) → eqb (frameRefusal (f .identifier) (f .data-bytes)) 0 ≡ b → fit (s .session) ≡ c
         → timed-frame s t (f .identifier) (f .data-bytes) ≡ kept-at t (s .last) (soloStep (s .session) f)
-    go true e = rw (e, ok .session, ok .last, h, g, ok .session)
-    go false e = rw e
+    go true true e c = rw (e, c, ok, h, g, c)
+    go true false e c = rw (e, c)
+    go false b e c = rw e
+
+-- Where 24 does.
+pub unfit-stays : (s : Station) (t : ℕ) (f : Frame) → frameRefusal (f .identifier) (f .data-bytes) ≡ 0 → (fit (s .session) && fitLast (s .last)) ≡ false
+    → timed-frame s t (f .identifier) (f .data-bytes) ≡ turned 24 s
+unfolding timed-frame
+unfit-stays s t f e h = rw (e, h)
 
 module _ (s : Station) (ok : Fit s) (t : ℕ) (f : Frame) (e : frameRefusal (f .identifier) (f .data-bytes) ≡ 0) where
   pub turned-back : isBefore (s .last) t ≡ true → timed-frame s t (f .identifier) (f .data-bytes) ≡ turned 26 s
@@ -147,7 +154,7 @@ module _ (s : Station) (ok : Fit s) (g : Frame) where
 
     by-late : code ≡ 0 → isBefore (s .last) t ≡ false → (b : Bool) → isLate (s .last) t ≡ b → Way s at
     by-late e h true l = late (settled s ok t g e h ∙ rw l)
-    by-late e h false l = straight (near (s .last) t h l) (in-time s ok t g h l)
+    by-late e h false l = straight (near (s .last) t h l) (in-time s (ok .last) t g h l)
 
     by-before : code ≡ 0 → (b : Bool) → isBefore (s .last) t ≡ b → Way s at
     by-before e true h = away 26 (inr refl) (turned-back s ok t g e h)

@@ -15,6 +15,7 @@ use Rattle.joining.specs.declared.Answer.the-variants.{Refused, Kept, Complete}
 use Rattle.joining.specs.Frame.{Frame, senderOf, frameRefusal}
 use Rattle.joining.specs.Joining.{packets, freshSession}
 use Rattle.joining.specs.Run.{senders, freshSessions, sessionOf, Announces, InSequence, joined}
+use Rattle.bus.specs.Room.{sessionsIn}
 use Rattle.times.specs.declared.Times.{Times}
 use Rattle.times.specs.Timed.{Last, noTime, timeOf, Station, Outcome, timed-frame, untimed-frame, lastOf, withLast, freshTimes}
 
@@ -68,6 +69,13 @@ stationsAfter b f = cond (ltb (sender f) senders) (withStation b (sender f) (sta
 abbrev pub timedAnswer : Stations → Timed → Answer
 timedAnswer b f =
     cond (ltb (sender f) senders) (stationStep (stationOf (sender f) b) f .answer) (Refused (frameRefusal (f .frame .identifier) (f .frame .data-bytes)))
+
+-- What stands in the bytes and numbers that a caller lends, and the frame that it hands in with a time.
+abbrev pub stationsIn : List ℕ → List Bool → List ℕ → Stations
+stationsIn room known at = record { sessions = sessionsIn room; times = record { known = known; at = at } }
+
+abbrev pub timedAt : ℕ → ℕ → List ℕ → Timed
+timedAt t id d = record { frame = record { identifier = id; data-bytes = d }; time = some t }
 
 -- A run of frames: what is there at its end, and the answers in order.
 unfoldable pub stationsAt : Stations → List Timed → Stations

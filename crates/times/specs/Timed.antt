@@ -13,6 +13,8 @@ use Rattle.joining.specs.Frame.{Frame, frameRefusal}
 use Rattle.joining.specs.Joining.{fit, closed, take-frame}
 use Rattle.joining.specs.Run.{senders}
 use Rattle.times.specs.declared.Times.{Times}
+use Rattle.times.specs.declared.Came.{Came}
+use Rattle.times.specs.declared.Came.the-variants.{InTime, Late, Before, Unfit}
 
 -- A sender's last kept time, in milliseconds: whether there is one, and which.
 pub record Last : Type 0 where
@@ -40,6 +42,10 @@ longest = 750
 unfoldable pub isLate : Last → ℕ → Bool
 isLate l t = l .known && ltb longest (t - l .at)
 
+-- How a time stands to the last one, those tests in their order.
+unfoldable pub cameAt : Last → ℕ → Came
+cameAt l t = cond (not (fitLast l)) Unfit (cond (isBefore l t) Before (cond (isLate l t) Late InTime))
+
 -- The session that a frame meets at a time: closed where the frame comes too late.
 abbrev pub metAt : Session → Last → ℕ → Session
 metAt s l t = cond (isLate l t) (closed s) s
@@ -59,10 +65,13 @@ abbrev pub turned : ℕ → Station → Outcome
 turned n s = record { answer = Refused n; station = s }
 
 -- Every frame that isn't refused is kept, also one that completes a report: it sets the time. A refused one never does.
+abbrev pub isKept : Answer → Bool
+isKept (Refused n) = false
+isKept Kept = true
+isKept (Complete r) = true
+
 abbrev pub lastAfter : Answer → ℕ → Last → Last
-lastAfter (Refused n) t l = l
-lastAfter Kept t l = timeOf t
-lastAfter (Complete r) t l = timeOf t
+lastAfter a t l = cond (isKept a) (timeOf t) l
 
 abbrev pub kept-at : ℕ → Last → Taken → Outcome
 kept-at t l u = record { answer = u .answer; station = record { session = u .session; last = lastAfter (u .answer) t l } }
