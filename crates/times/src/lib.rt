@@ -34,6 +34,7 @@ impl Times {
         let at = [0u32; Bus::SENDERS];
         Times { known, at }
     }
+
     // Takes a frame that came at a time, in milliseconds: as its sender's session does, which is closed first where more than
     // 750 ms lie between; a frame that isn't refused sets that sender's time. Nothing of other senders is touched.
     pub fn take(
@@ -150,9 +151,9 @@ fn settle(
 {
     let answer = Bus::take(room, id, data);
     if kept(answer) {
-        let k = (id % 256) as usize;
-        known[k] = true;
-        at[k] = time;
+        let i = (id % 256) as usize;
+        known[i] = true;
+        at[i] = time;
         return answer;
     }
     answer

@@ -15,8 +15,8 @@ take-requires c κs = search needs
 kept-requires : tie.Need-kept-requires
 kept-requires c κs = search needs
 
-cast-k : tie.Need-cast-k
-cast-k c = search needs
+cast-i : tie.Need-cast-i
+cast-i c = search needs
 
 element-write-known : tie.Need-element-write-known
 element-write-known c = search needs
@@ -46,7 +46,7 @@ settle-spec =
     (tie.spec
     take-requires
     kept-requires
-    cast-k
+    cast-i
     element-write-known
     mul-at
     element-write-at
