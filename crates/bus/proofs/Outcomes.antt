@@ -9,6 +9,10 @@ use Rattle.bus.proofs.Bus.fresh.Kinds as fresh-kinds
 use Rattle.bus.proofs.Bus.fresh.Reads as fresh-reads
 use Rattle.bus.proofs.Bus.take.Kinds as take-kinds
 use Rattle.bus.proofs.Bus.take.Reads as take-reads
+use Rattle.bus.proofs.Bus.fit.Kinds as fit-kinds
+use Rattle.bus.proofs.Bus.fit.Reads as fit-reads
+use Rattle.bus.proofs.Bus.close.Kinds as close-kinds
+use Rattle.bus.proofs.Bus.close.Reads as close-reads
 use Rattle.bus.proofs.Bus.fill.Kinds as fill-kinds
 use Rattle.bus.proofs.Bus.fill.Reads as fill-reads
 use Rattle.bus.proofs.Bus.read.Kinds as read-kinds
@@ -22,6 +26,12 @@ take-once κs a x y s t p q = p .0 ∙ sym (q .0)
 
 take-leaves-once : OneLeft 2 take-kinds.ps take-kinds.r take-reads.Post (List ℕ) (λ κs s. now (s .0))
 take-leaves-once κs a x y s t p q = p .1 ∙ sym (q .1)
+
+fit-once : OneAnswer 1 fit-kinds.ps fit-kinds.r fit-reads.Post
+fit-once κs a x y s t p q = p ∙ sym q
+
+close-leaves-once : OneLeft 1 close-kinds.ps close-kinds.r close-reads.Post (List ℕ) (λ κs s. now (s .0))
+close-leaves-once κs a x y s t p q = p ∙ sym q
 
 fill-leaves-once : OneLeft 1 fill-kinds.ps fill-kinds.r fill-reads.Post (List ℕ) (λ κs s. now (s .0))
 fill-leaves-once κs a x y s t p q = p .0 ∙ sym (q .0)

@@ -2,25 +2,26 @@
 -- Assumes nothing.
 use mathlib.Core.Path.{_≡_, refl, sym, _∙_, ap}
 use mathlib.Core.Bool.{Bool, true, false, cond}
-use mathlib.Core.List.{List, _++_}
-use Prim.Native.Nat.{ℕ, _+_, _-_, _*_, _<_}
+use mathlib.Core.List.{List, [], _∷_, _++_}
+use Prim.Native.Nat.{ℕ, zero, suc, _+_, _-_, _*_, _≤_, _<_}
 use native.Mathlib.Omega.{arith}
 use borrow.Author.Tests.{lt-ltb, ne-eqb}
 use lib.Dec.{ltb}
 use lib.ListN.{length, getD, take, drop, set, length-take}
-use lib.Seq.{sets, set-getD, length-sets}
+use lib.Seq.{sets, set-getD, set-out, getD-drop, length-sets}
 use Rattle.joining.specs.declared.Session.{Session}
 use Rattle.joining.specs.declared.Answer.{Answer}
 use Rattle.joining.specs.declared.Answer.the-variants.{Refused}
 use Rattle.joining.specs.declared.Taken.{Taken}
 use Rattle.joining.specs.Frame.{Frame, senderOf, frameRefusal}
-use Rattle.joining.specs.Joining.{place, stored, refused, take-frame}
-use Rattle.joining.specs.Run.{nobody, sessionsAfter, answerTo}
+use Rattle.joining.specs.Joining.{place, isClosed, fit, closed, stored, refused, take-frame}
+use Rattle.joining.specs.Run.{nobody, sessionOf, sessionsAfter, answerTo}
 use Rattle.joining.proofs.Fitness.{Open}
 use Rattle.joining.proofs.Frames.{sound-frame}
-use Rattle.joining.proofs.Steps.{due}
+use Rattle.joining.proofs.Steps.{due, fit-numbers}
 use Rattle.bus.specs.Room.{sessionAt, sessionBytes, sessionsIn, roomOf}
 use Rattle.bus.proofs.Places.{take-sets, session-of, put-session, room-of-sessions}
+use Rattle.bus.proofs.Rooms.{sessions-many}
 
 -- A step's answer and bytes, where the step is known.
 pub step : {t u : Taken} {r : Answer} {p : List ℕ} → t ≡ u → r ≡ u .answer → p ≡ sessionBytes (u .session) → (r ≡ t .answer) × (p ≡ sessionBytes (t .session))
@@ -82,3 +83,35 @@ module _ (room : List ℕ) (id : ℕ) (d : List ℕ) (long : length room ≡ 220
       let same = session-of 254 (senderOf id) room own in
       let put = put-session 254 (senderOf id) room (take-frame (sessionAt (drop (87 * senderOf id) room)) id d .session) own long in
       rw (lt-ltb (senderOf id) 254 own, same) (a, b ∙ sym put)
+
+-- Fitness, read off the numbers where they stand.
+pub fit-read : (room : List ℕ) (at : ℕ)
+    → fit (record { bytes = []; size = getD room (at + 84) 0; count = getD room (at + 85) 0; next = getD room (at + 86) 0 }) ≡ fit (sessionAt (drop at room))
+fit-read room at =
+    let size = sym (getD-drop at room 84 0) in
+    let count = sym (getD-drop at room 85 0) in
+    let next = sym (getD-drop at room 86 0) in
+    (λ i. fit (record { bytes = []; size = size i; count = count i; next = next i })) ∙ fit-numbers (sessionAt (drop at room))
+
+-- A closing in a room: it changes its sender's session, and for senders 254 and 255 there is none.
+module _ (room : List ℕ) (k : ℕ) where
+  pub closing : length room ≡ 22098 → k < 254 → {q : List ℕ}
+      → q ≡ (take (87 * k) room ++ sessionBytes (closed (sessionAt (drop (87 * k) room)))) ++ drop (87 * k + 87) room
+      → q ≡ roomOf (set (sessionsIn room) k (closed (sessionOf k (sessionsIn room))))
+  closing long own e =
+      e
+      ∙ sym (put-session 254 k room (closed (sessionAt (drop (87 * k) room))) own long)
+      ∙ ap (λ (s : Session). roomOf (set (sessionsIn room) k (closed s))) (sym (session-of 254 k room own))
+
+  pub none-there : length room ≡ 22098 → 254 ≤ k → (s : Session) → room ≡ roomOf (set (sessionsIn room) k s)
+  none-there long past s =
+      sym (room-of-sessions 254 room long) ∙ ap roomOf (sym (set-out (sessionsIn room) k s (rw (sessions-many 254 room) past)))
+
+  pub none-unfit : 254 ≤ k → true ≡ fit (sessionOf k (sessionsIn room))
+  unfolding fit isClosed
+  none-unfit past = sym (ap fit (getD-out (sessionsIn room) k (rw (sessions-many 254 room) past)))
+    where
+      getD-out : (ss : List Session) (i : ℕ) → length ss ≤ i → getD ss i nobody ≡ nobody
+      getD-out [] i h = refl
+      getD-out (s ∷ ss) zero h = absurd (omega (arith, h))
+      getD-out (s ∷ ss) (suc i) h = getD-out ss i (omega arith)

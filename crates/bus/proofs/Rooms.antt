@@ -98,6 +98,17 @@ put-there room k s h l long =
     ap sessionsIn (sym (put-session 254 k room s h l))
     ∙ read-back (set (sessionsIn room) k s) (sized-set (sessionsIn room) k s (sessions-sized 254 room l) long) (length-set (sessionsIn room) k s ∙ sessions-many 254 room)
 
+-- A session of 84 bytes in another's place: the bytes are a room again, and it holds that session.
+pub set-room : (room : List ℕ) (k : ℕ) (s : Session) → length room ≡ 22098 → length (s .bytes) ≡ 84
+    → (length (roomOf (set (sessionsIn room) k s)) ≡ 22098) × (sessionsIn (roomOf (set (sessionsIn room) k s)) ≡ set (sessionsIn room) k s)
+set-room room k s l long =
+    let sized = sized-set (sessionsIn room) k s (sessions-sized 254 room l) long in
+    let many = length-set (sessionsIn room) k s ∙ sessions-many 254 room in
+    (omega (arith, room-long (set (sessionsIn room) k s) sized, many), read-back (set (sessionsIn room) k s) sized many)
+
+pub session-long : (room : List ℕ) (k : ℕ) → length room ≡ 22098 → k < 254 → length (getD (sessionsIn room) k nobody .bytes) ≡ 84
+session-long room k l h = sized-get (sessionsIn room) k (sessions-sized 254 room l) (rw (sessions-many 254 room) h)
+
 -- The sessions that a frame leaves are 254 of 84 bytes again.
 after-sized : (ss : List Session) (f : Frame) → Sized ss → length ss ≡ 254 → Sized (sessionsAfter ss f) × (length (sessionsAfter ss f) ≡ 254)
 after-sized ss f h l = go (ltb (senderOf (f .identifier)) 254) refl

@@ -3,12 +3,12 @@ ghost use mathlib.Core.Path.{_≡_};
 ghost use mathlib.Core.Bool.{true};
 ghost use mathlib.Core.List.{[], _∷_, _++_};
 ghost use Prim.Native.Nat.{_+_, _≤_};
-ghost use lib.ListN.{length, take, drop, replicate};
+ghost use lib.ListN.{length, take, drop, set, replicate};
 ghost use lib.Seq.{sets};
 ghost use Rattle.report.specs.Payload.{largest};
 ghost use Rattle.joining.specs.Frame.{frameRefusal};
 ghost use Rattle.joining.specs.Joining.{fit, closed, opened, finishes, announce, packet, take-frame};
-ghost use Rattle.joining.specs.Run.{freshSessions, sessionsAfter, answerTo};
+ghost use Rattle.joining.specs.Run.{freshSessions, sessionOf, sessionsAfter, answerTo};
 ghost use Rattle.bus.specs.Room.{placeBytes, roomBytes, sessionAt, sessionBytes, sessionsIn, roomOf};
 use joining::Answer;
 use joining::Frame;
@@ -72,6 +72,51 @@ impl Bus {
             k += 1;
         }
         sessions
+    }
+}
+
+impl Bus {
+    // Whether a sender's session is fit, without a frame. Senders 254 and 255 have none that could be unfit.
+    pub fn fit(room: &[u8; Bus::ROOM], sender: u8) -> bool
+        ensures { λ r. ⌜ r ≡ fit (sessionOf sender (sessionsIn (now (room .entry)))) ⌝ }
+    {
+        let k = sender as usize;
+        if Bus::SENDERS <= k {
+            return true;
+        }
+        fit_in(room, Bus::PLACE * k)
+    }
+
+    // Closes a sender's session where it stands; its payload bytes stay. Other bytes are not touched.
+    pub fn close(room: &mut [u8; Bus::ROOM], sender: u8)
+        ensures { λ _. ⌜ now (room .exit) ≡ roomOf (set (sessionsIn (now (room .entry))) sender (closed (sessionOf sender (sessionsIn (now (room .entry)))))) ⌝ }
+    {
+        close_in(room, sender);
+    }
+}
+
+// Whether the session in the 87 bytes from `at` on is fit.
+fn fit_in(room: &[u8], at: usize) -> bool
+    requires { ⌜ (length (now room) ≡ roomBytes) × (at + placeBytes ≤ roomBytes) ⌝ }
+    ensures { λ r. ⌜ r ≡ fit (sessionAt (drop at (now (room .entry)))) ⌝ }
+{
+    joining::numbers_fit(
+        room[at + Bus::SIZE],
+        room[at + Bus::COUNT],
+        room[at + Bus::NEXT],
+    )
+}
+
+// `Bus::close` on the array as a slice.
+fn close_in(room: &mut [u8], sender: u8)
+    requires { ⌜ length (now room) ≡ roomBytes ⌝ }
+    ensures { λ _. ⌜ now (room .exit) ≡ roomOf (set (sessionsIn (now (room .entry))) sender (closed (sessionOf sender (sessionsIn (now (room .entry)))))) ⌝ }
+{
+    let k = sender as usize;
+    if k < Bus::SENDERS {
+        let at = Bus::PLACE * k;
+        let end = at + Bus::PLACE;
+        close_at(&mut room[at..end]);
     }
 }
 

@@ -29,16 +29,16 @@ use Rattle.joining.proofs.Cases.{Case, passed, shut, stray, good, next,
 use Rattle.joining.proofs.Reached.{fit-open, step-fit, solo-fit, fresh-of}
 
 -- What an open session holds of the frames h that its sender has sent, those refused 1 to 4 left out.
-record Opening (s : Session) (h : List Frame) : Type 0 where
-  before : List Frame
-  announced : Frame
-  middle : List Frame
-  since : h ≡ before ++ (announced ∷ middle)
-  announces : Announces (s .size) announced
-  sequence : InSequence 1 middle
-  due : s .next ≡ suc (length middle)
-  long : length (s .bytes) ≡ 84
-  holds : take (7 * length middle) (s .bytes) ≡ joined middle
+pub record Opening (s : Session) (h : List Frame) : Type 0 where
+  pub before : List Frame
+  pub announced : Frame
+  pub middle : List Frame
+  pub since : h ≡ before ++ (announced ∷ middle)
+  pub announces : Announces (s .size) announced
+  pub sequence : InSequence 1 middle
+  pub due : s .next ≡ suc (length middle)
+  pub long : length (s .bytes) ≡ 84
+  pub holds : take (7 * length middle) (s .bytes) ≡ joined middle
 
 abbrev Traced : Session → List Frame → Type 0
 Traced s h = (s .size ≡ 0) ⊎ Opening s h
@@ -65,7 +65,7 @@ length-last fs f = omega (arith, length-append fs (f ∷ []))
 
 -- The expected packet f, and the session that expects it.
 module _ (s : Session) (h : List Frame) (f : Frame) (o : Open s) (t : Opening s h) (n : Numbered (s .next) f) where
-  abbrev then : List Frame
+  abbrev pub then : List Frame
   then = t .middle ++ (f ∷ [])
 
   -- What of its bytes is stored.
@@ -92,17 +92,17 @@ module _ (s : Session) (h : List Frame) (f : Frame) (o : Open s) (t : Opening s 
   unfolding new
   front = sets-front (s .bytes) (place s) new (rw (t .long) room) ∙ ap (λ (l : List ℕ). l ++ new) held
 
-  in-order : InSequence 1 then
+  pub in-order : InSequence 1 then
   in-order = sequence-last 1 (t .middle) f (t .sequence) (omega (arith, t .due)) n
 
   whole : joined then ≡ joined (t .middle) ++ drop 1 (f .data-bytes)
   whole = joined-last (t .middle) f
 
-  count : length then ≡ s .next
+  pub count : length then ≡ s .next
   count = length-last (t .middle) f ∙ sym (t .due)
 
   -- Before the last packet all seven bytes are stored ...
-  kept : s .next < s .count → take (7 * length then) (stored s (f .data-bytes)) ≡ joined then
+  pub kept : s .next < s .count → take (7 * length then) (stored s (f .data-bytes)) ≡ joined then
   unfolding new
   kept m =
       let all : new ≡ drop 1 (f .data-bytes) = take-all (s .size - place s) (drop 1 (f .data-bytes)) (omega (arith, o .count, seven)) in
@@ -110,7 +110,7 @@ module _ (s : Session) (h : List Frame) (f : Frame) (o : Open s) (t : Opening s 
       ap (λ (k : ℕ). take k (stored s (f .data-bytes))) reach ∙ front ∙ ap (λ (l : List ℕ). joined (t .middle) ++ l) all ∙ sym whole
 
   -- ... and of the last packet's those within the size.
-  ended : s .count ≤ s .next → take (s .size) (stored s (f .data-bytes)) ≡ take (s .size) (joined then)
+  pub ended : s .count ≤ s .next → take (s .size) (stored s (f .data-bytes)) ≡ take (s .size) (joined then)
   unfolding new
   ended m =
       let reach : s .size ≡ place s + length new =
@@ -121,7 +121,7 @@ module _ (s : Session) (h : List Frame) (f : Frame) (o : Open s) (t : Opening s 
       ∙ sym (take-append-add (joined (t .middle)) (drop 1 (f .data-bytes)) (s .size - place s))
       ∙ ap₂ (λ (k : ℕ) (l : List ℕ). take k l) (sym past) (sym whole)
 
-  goes-on : s .next < s .count → Opening (advanced s (f .data-bytes)) (h ++ (f ∷ []))
+  unfoldable pub goes-on : s .next < s .count → Opening (advanced s (f .data-bytes)) (h ++ (f ∷ []))
   goes-on m =
       record {
         before = t .before;
@@ -135,14 +135,14 @@ module _ (s : Session) (h : List Frame) (f : Frame) (o : Open s) (t : Opening s 
         holds = kept m;
       }
 
-  all-packets : s .count ≤ s .next → length then ≡ packets (s .size)
+  pub all-packets : s .count ≤ s .next → length then ≡ packets (s .size)
   all-packets m = omega (arith, count, o .last, o .count)
 
-joined-none : [] ≡ joined []
+pub joined-none : [] ≡ joined []
 unfolding joined
 joined-none = refl
 
-starts : (n : ℕ) (h : List Frame) (f : Frame) → Announces n f → Opening (opened n) (h ++ (f ∷ []))
+unfoldable pub starts : (n : ℕ) (h : List Frame) (f : Frame) → Announces n f → Opening (opened n) (h ++ (f ∷ []))
 starts n h f a =
     record {
       before = h;

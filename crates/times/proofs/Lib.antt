@@ -1,0 +1,8 @@
+-- Laws that the crates above cite.
+pub mod Steps
+pub mod Mixing
+pub mod Reached
+pub mod MadeUp
+pub mod RoundTrip
+pub mod Lent
+pub mod Outcomes

@@ -1,0 +1,74 @@
+-- What frames with and without times lead to from fresh sessions and no times is fit, station by station; so no frame is ever refused 24.
+-- Assumes nothing.
+use mathlib.Core.Path.{_≡_, refl, sym, _∙_, ap, subst}
+use mathlib.Core.Bool.{Bool, true, false, cond}
+use mathlib.Core.Logic.{_⊎_, inl, inr}
+use mathlib.Core.List.{List, [], _∷_}
+use Prim.Native.Nat.{ℕ, _≤_, _<_}
+use native.Mathlib.Omega.{arith}
+use borrow.Author.Tests.{ltb-true, ltb-false, lt-ltb}
+use lib.Dec.{ltb}
+use lib.ListN.{length-replicate, getD-replicate}
+use Rattle.laws.proofs.Tests.{clash, either}
+use Rattle.joining.specs.declared.Answer.{Answer}
+use Rattle.joining.specs.declared.Answer.the-variants.{Refused, Kept, Complete}
+use Rattle.joining.specs.Frame.{senderOf, malformed, foreign, frameRefusal}
+use Rattle.joining.specs.Joining.{freshSession, fit}
+use Rattle.joining.specs.Run.{sessionOf}
+use Rattle.joining.proofs.Reached.{fresh-fit, fresh-of}
+use Rattle.times.specs.Timed.{fitLast, Station}
+use Rattle.times.specs.Run.{Timed, sender, stationStep, stationAt, Stations, stationOf, freshStation, freshStations, timedAnswer, stationsAt, ownTimed}
+use Rattle.times.proofs.Steps.{Fit, step-stays-fit, Named, step-named, frame-refusals}
+use Rattle.times.proofs.Mixing.{Whole, mixing}
+
+pub fresh-whole : Whole freshStations
+fresh-whole =
+    record { sessions = length-replicate 254 freshSession; known = length-replicate 254 false; at = length-replicate {A = ℕ} 254 0 }
+
+pub fresh-station : (k : ℕ) → k < 254 → stationOf k freshStations ≡ freshStation
+fresh-station k h =
+    let session = fresh-of k h in
+    let known = getD-replicate 254 k false false h in
+    let at = getD-replicate {A = ℕ} 254 k 0 0 h in
+    λ i. record { session = session i; last = record { known = known i; at = at i } }
+
+pub fresh-is-fit : Fit freshStation
+unfolding fitLast
+fresh-is-fit = record { session = fresh-fit; last = refl }
+
+pub run-fit : (s : Station) (fs : List Timed) → Fit s → Fit (stationAt s fs)
+unfolding stationAt
+run-fit s [] ok = ok
+run-fit s (f ∷ fs) ok = run-fit (stationStep s f .station) fs (step-stays-fit s f ok)
+
+-- Whatever is sent by whom and when, every session and last time that fresh ones come to is fit.
+pub reached-fit : (fs : List Timed) (k : ℕ) → k < 254 → Fit (stationOf k (stationsAt freshStations fs))
+reached-fit fs k h = rw (mixing k h freshStations fs fresh-whole .0, fresh-station k h) (run-fit freshStation (ownTimed k fs) fresh-is-fit)
+
+unheard-refused : (id : ℕ) (d : List ℕ) → 254 ≤ senderOf id → 1 ≤ frameRefusal id d
+unfolding frameRefusal
+unheard-refused id d h = go (malformed id d) (foreign id) (ltb 253 (senderOf id)) (lt-ltb 253 (senderOf id) h)
+  where
+    go : (x y z : Bool) → z ≡ true → 1 ≤ cond x 1 (cond y 2 (cond z 3 0))
+    go true y z e = omega arith
+    go false true z e = omega arith
+    go false false true e = omega arith
+    go false false false e = clash {b = false} e refl
+
+-- So what a frame is refused there is 1 to 10 or 26 ...
+pub reached-named : (fs : List Timed) (f : Timed) → Named (timedAnswer (stationsAt freshStations fs) f)
+reached-named fs f =
+    either Named (ltb (sender f) 254)
+    (λ t. step-named (stationOf (sender f) (stationsAt freshStations fs)) f (reached-fit fs (sender f) (ltb-true (sender f) 254 t)))
+    (λ t.
+    let low = unheard-refused (f .frame .identifier) (f .frame .data-bytes) (ltb-false (sender f) 254 t) in
+    let high = frame-refusals (f .frame .identifier) (f .frame .data-bytes) in
+    inl (low, omega arith))
+
+-- ... and never 24.
+pub never-unfit : (fs : List Timed) (f : Timed) → timedAnswer (stationsAt freshStations fs) f ≡ Refused 24 → ⊥
+never-unfit fs f e = go (subst Named e (reached-named fs f))
+  where
+    go : Named (Refused 24) → ⊥
+    go (inl w) = omega arith
+    go (inr w) = omega arith

@@ -1,0 +1,3 @@
+-- Frames with times: what the functions of `times` are held to.
+pub mod Timed
+pub mod Run

@@ -1,0 +1,104 @@
+-- A sender's last kept time, and what a frame with a time does to its session and to that time (change 2026-04).
+use Prim.Native.Nat.{ℕ, _-_}
+use mathlib.Core.Bool.{Bool, true, false, cond, not, _&&_, _||_}
+use mathlib.Core.Option.{Option, none, some}
+use mathlib.Core.List.{List}
+use lib.ListN.{getD, set, replicate}
+use lib.Dec.{ltb, eqb}
+use Rattle.joining.specs.declared.Session.{Session}
+use Rattle.joining.specs.declared.Answer.{Answer}
+use Rattle.joining.specs.declared.Answer.the-variants.{Refused, Kept, Complete}
+use Rattle.joining.specs.declared.Taken.{Taken}
+use Rattle.joining.specs.Frame.{Frame, frameRefusal}
+use Rattle.joining.specs.Joining.{fit, closed, take-frame}
+use Rattle.joining.specs.Run.{senders}
+use Rattle.times.specs.declared.Times.{Times}
+use Rattle.times.specs.declared.Came.{Came}
+use Rattle.times.specs.declared.Came.the-variants.{InTime, Late, Before, Unfit}
+
+-- A sender's last kept time, in milliseconds: whether there is one, and which.
+pub record Last : Type 0 where
+  pub known : Bool
+  pub at : ℕ
+
+abbrev pub noTime : Last
+noTime = record { known = false; at = 0 }
+
+abbrev pub timeOf : ℕ → Last
+timeOf t = record { known = true; at = t }
+
+-- No time, and yet one that isn't 0: unfit.
+unfoldable pub fitLast : Last → Bool
+fitLast l = l .known || eqb (l .at) 0
+
+-- Refusal 26: there is a last time, and this one is before it.
+unfoldable pub isBefore : Last → ℕ → Bool
+isBefore l t = l .known && ltb t (l .at)
+
+-- There is a last time, and more than 750 ms lie between. 750 is in time.
+abbrev pub longest : ℕ
+longest = 750
+
+unfoldable pub isLate : Last → ℕ → Bool
+isLate l t = l .known && ltb longest (t - l .at)
+
+-- How a time stands to the last one, those tests in their order.
+unfoldable pub cameAt : Last → ℕ → Came
+cameAt l t = cond (not (fitLast l)) Unfit (cond (isBefore l t) Before (cond (isLate l t) Late InTime))
+
+-- The session that a frame meets at a time: closed where the frame comes too late.
+abbrev pub metAt : Session → Last → ℕ → Session
+metAt s l t = cond (isLate l t) (closed s) s
+
+-- One sender's session and last kept time.
+pub record Station : Type 0 where
+  pub session : Session
+  pub last : Last
+
+-- What a frame is answered, and what it leaves.
+pub record Outcome : Type 0 where
+  pub answer : Answer
+  pub station : Station
+
+-- A refusal that changes nothing.
+abbrev pub turned : ℕ → Station → Outcome
+turned n s = record { answer = Refused n; station = s }
+
+-- Every frame that isn't refused is kept, also one that completes a report: it sets the time. A refused one never does.
+abbrev pub isKept : Answer → Bool
+isKept (Refused n) = false
+isKept Kept = true
+isKept (Complete r) = true
+
+abbrev pub lastAfter : Answer → ℕ → Last → Last
+lastAfter a t l = cond (isKept a) (timeOf t) l
+
+abbrev pub kept-at : ℕ → Last → Taken → Outcome
+kept-at t l u = record { answer = u .answer; station = record { session = u .session; last = lastAfter (u .answer) t l } }
+
+-- A frame with a time, its refusals in their order: 1, 2, 3, 24, 26; then the session is closed if the frame comes too late, and the untimed rules settle the rest.
+unfoldable pub timed-frame : Station → ℕ → ℕ → List ℕ → Outcome
+timed-frame s t id d =
+    cond (not (eqb (frameRefusal id d) 0)) (turned (frameRefusal id d) s)
+    (cond (not (fit (s .session) && fitLast (s .last))) (turned 24 s)
+    (cond (isBefore (s .last) t) (turned 26 s)
+    (kept-at t (s .last) (take-frame (metAt (s .session) (s .last) t) id d))))
+
+-- A frame without a time: the untimed rules, and the last time is neither tested nor set.
+abbrev pub untimed-frame : Station → ℕ → List ℕ → Outcome
+untimed-frame s id d =
+    record {
+      answer = take-frame (s .session) id d .answer;
+      station = record { session = take-frame (s .session) id d .session; last = s .last };
+    }
+
+-- The last time of sender k, and another in its place.
+abbrev pub lastOf : ℕ → Times → Last
+lastOf k ts = record { known = getD (ts .known) k false; at = getD (ts .at) k 0 }
+
+abbrev pub withLast : Times → ℕ → Last → Times
+withLast ts k l = record { known = set (ts .known) k (l .known); at = set (ts .at) k (l .at) }
+
+-- No time for any sender.
+abbrev pub freshTimes : Times
+freshTimes = record { known = replicate senders false; at = replicate senders 0 }
