@@ -2,28 +2,28 @@
 -- Assumes nothing.
 use mathlib.Core.Path.{_≡_, refl, sym, _∙_, ap}
 use mathlib.Core.Bool.{Bool, true, false, cond, not, _&&_, and-false}
+use mathlib.Core.Option.{Option, none, some}
 use mathlib.Core.List.{List}
 use Prim.Native.Nat.{ℕ, _≤_, _<_}
-use native.Mathlib.Omega.{arith}
-use borrow.Author.Tests.{lt-ltb, ltb-true, ltb-false}
-use lib.Dec.{ltb}
+use borrow.Author.Tests.{lt-ltb, le-ltb, ltb-true, eqb-true, eqb-false}
+use lib.Dec.{ltb, eqb}
 use lib.ListN.{length, getD, set}
 use lib.Seq.{set-getD, set-set, getD-set-same}
+use Rattle.laws.proofs.Tests.{either}
 use Rattle.joining.specs.declared.Session.{Session}
 use Rattle.joining.specs.declared.Answer.{Answer}
 use Rattle.joining.specs.declared.Answer.the-variants.{Refused}
 use Rattle.joining.specs.Frame.{Frame, senderOf, frameRefusal}
 use Rattle.joining.specs.Joining.{fit, closed, take-frame}
 use Rattle.joining.specs.Run.{nobody, sessionOf, sessionsAfter, answerTo}
-use Rattle.joining.proofs.Frames.{sound-frame}
 use Rattle.bus.specs.Room.{sessionsIn, roomOf}
 use Rattle.bus.proofs.Places.{room-of-sessions}
-use Rattle.bus.proofs.Rooms.{sessions-many, set-room, session-long}
+use Rattle.bus.proofs.Rooms.{step-long, sessions-many, set-room, session-long}
 use Rattle.times.specs.declared.Times.{Times}
 use Rattle.times.specs.declared.Came.{Came}
 use Rattle.times.specs.declared.Came.the-variants.{InTime, Late, Before, Unfit}
-use Rattle.times.specs.Timed.{Last, fitLast, isBefore, isLate, cameAt, Station, Outcome, turned, lastAfter, kept-at, timed-frame, lastOf, withLast}
-use Rattle.times.specs.Run.{Timed, stationStep, Stations, stationOf, withStation, stationsAfter, timedAnswer, stationsIn, timedAt}
+use Rattle.times.specs.Timed.{Last, fitLast, isBefore, isLate, cameAt, metAt, Station, Outcome, turned, lastAfter, kept-at, timed-frame, lastOf, withLast}
+use Rattle.times.specs.Run.{Timed, sender, frameAt, stationStep, Stations, stationOf, withStation, stationsAfter, timedAnswer, stationsIn, timedAt}
 use Rattle.times.proofs.Steps.{Fit, foreign-stays, in-time, unfit-stays, turned-back, settled}
 
 -- What each way to come says of the tests.
@@ -56,9 +56,6 @@ module _ (room : List ℕ) (known : List Bool) (at : List ℕ) (t id : ℕ) (d :
   abbrev times : Times
   times = record { known = known; at = at }
 
-  abbrev k : ℕ
-  k = senderOf id
-
   abbrev own : Station
   own = stationOf (senderOf id) lent
 
@@ -69,9 +66,6 @@ module _ (room : List ℕ) (known : List Bool) (at : List ℕ) (t id : ℕ) (d :
       × ((q ≡ roomOf (stationsAfter lent timed .sessions))
       × ((ks ≡ stationsAfter lent timed .times .known)
       × (ts ≡ stationsAfter lent timed .times .at)))
-
-  pub known-sender : frameRefusal id d ≡ 0 → senderOf id < 254
-  known-sender e = omega (arith, sound-frame id d e .sender)
 
   -- Where a frame changes nothing.
   same : length room ≡ 22098 → stationsAfter lent timed ≡ lent → {r : Answer} → r ≡ timedAnswer lent timed → Does r room known at
@@ -91,38 +85,41 @@ module _ (room : List ℕ) (known : List Bool) (at : List ℕ) (t id : ℕ) (d :
       same long (rw (lt-ltb (senderOf id) 254 h) (ap (λ (o : Outcome). withStation lent (senderOf id) (o .station)) e ∙ put-back))
       (rw (lt-ltb (senderOf id) 254 h) (ap (λ (o : Outcome). o .answer) (sym e)))
 
-  -- ... and refusals 1 to 3, of whatever sender.
-  pub unheard : length room ≡ 22098 → {n : ℕ} → n ≡ frameRefusal id d → (n ≡ 0 → ⊥) → Does (Refused n) room known at
-  unheard long {n} e h = go (ltb (senderOf id) 254) refl
-    where
-      away : frameRefusal id d ≡ 0 → ⊥
-      away z = h (e ∙ z)
+  -- ... refusals 1 to 3 among them.
+  pub unheard : length room ≡ 22098 → senderOf id < 254 → {n : ℕ} → n ≡ frameRefusal id d → (n ≡ 0 → ⊥) → Does (Refused n) room known at
+  unheard long h e given = rw e (stays long (frameRefusal id d) h (foreign-stays own timed (λ z. given (e ∙ z))))
 
-      go : (b : Bool) → ltb (senderOf id) 254 ≡ b → Does (Refused n) room known at
-      go true g = rw e (stays long (frameRefusal id d) (ltb-true _ _ g) (foreign-stays own timed away))
-      go false g = same long (rw g) (ap Refused e ∙ rw g)
+  -- A sender that has no session.
+  pub no-session : length room ≡ 22098 → 254 ≤ senderOf id → {n : ℕ} → n ≡ frameRefusal id d → Does (Refused n) room known at
+  no-session long h e = same long (rw (le-ltb (senderOf id) 254 h)) (ap Refused e ∙ rw (le-ltb (senderOf id) 254 h))
 
-  module _ (long : length room ≡ 22098) (e : frameRefusal id d ≡ 0) where
-    -- A last time that is unfit.
-    pub unfit-time : Unfit ≡ cameAt (lastOf (senderOf id) times) t → Does (Refused 24) room known at
-    unfit-time w =
-        stays long 24 (known-sender e)
-        (unfit-stays own t frame e (ap (λ (b : Bool). fit (own .session) && b) (tests _ t w) ∙ and-false (fit (own .session))))
-
-    -- A time before the last one.
-    pub turned-away : Before ≡ cameAt (lastOf (senderOf id) times) t → {r : Answer} → r ≡ Refused (cond (fit (sessionOf (senderOf id) (sessionsIn room))) 26 24)
-        → Does r room known at
-    turned-away w a = rw a (go (fit (own .session)) refl)
+  module _ (long : length room ≡ 22098) (h : senderOf id < 254) where
+    -- What the last time refuses: 1 to 3 and an unfit session's 24 come first.
+    turns : (code : ℕ) → (frameRefusal id d ≡ 0 → fit (own .session) ≡ true → stationStep own timed ≡ turned code own)
+        → {r : Answer} → r ≡ Refused (cond (eqb (frameRefusal id d) 0) (cond (fit (own .session)) code 24) (frameRefusal id d)) → Does r room known at
+    turns code step a = rw a (go (eqb (frameRefusal id d) 0) (fit (own .session)) refl refl)
       where
-        go : (b : Bool) → fit (own .session) ≡ b → Does (Refused (cond b 26 24)) room known at
-        go true f =
-            let x = tests (lastOf (senderOf id) times) t w in
-            stays long 26 (known-sender e) (turned-back own (record { session = f; last = x .0 }) t frame e (x .1))
-        go false f = stays long 24 (known-sender e) (unfit-stays own t frame e (rw f))
+        go : (x y : Bool) → eqb (frameRefusal id d) 0 ≡ x → fit (own .session) ≡ y → Does (Refused (cond x (cond y code 24) (frameRefusal id d))) room known at
+        go true true e f = stays long code h (step (eqb-true _ _ e) f)
+        go true false e f = stays long 24 h (unfit-stays own t frame (eqb-true _ _ e) (rw f))
+        go false y e f = stays long (frameRefusal id d) h (foreign-stays own timed (eqb-false _ _ e))
+
+    -- A time before the last one, ...
+    pub turned-back-there : Before ≡ cameAt (lastOf (senderOf id) times) t
+        → {r : Answer} → r ≡ Refused (cond (eqb (frameRefusal id d) 0) (cond (fit (own .session)) 26 24) (frameRefusal id d)) → Does r room known at
+    turned-back-there w =
+        let x = tests (lastOf (senderOf id) times) t w in
+        turns 26 (λ e f. turned-back own (record { session = f; last = x .0 }) t frame e (x .1))
+
+    -- ... and a last time that is unfit.
+    pub unfit-there : Unfit ≡ cameAt (lastOf (senderOf id) times) t
+        → {r : Answer} → r ≡ Refused (cond (eqb (frameRefusal id d) 0) (cond (fit (own .session)) 24 24) (frameRefusal id d)) → Does r room known at
+    unfit-there w =
+        turns 24 (λ e f. unfit-stays own t frame e (ap (λ (b : Bool). fit (own .session) && b) (tests _ t w) ∙ and-false (fit (own .session))))
 
     -- One too late at a session that is unfit.
-    pub unfit-session : {b : Bool} → b ≡ fit (sessionOf (senderOf id) (sessionsIn room)) → b ≡ false → Does (Refused 24) room known at
-    unfit-session f g = stays long 24 (known-sender e) (unfit-stays own t frame e (rw (sym f ∙ g)))
+    pub unfit-session : frameRefusal id d ≡ 0 → {b : Bool} → b ≡ fit (sessionOf (senderOf id) (sessionsIn room)) → b ≡ false → Does (Refused 24) room known at
+    unfit-session e f g = stays long 24 h (unfit-stays own t frame e (rw (sym f ∙ g)))
 
   -- The untimed rules, at sessions ss that are the lent ones but perhaps for the sender's own, x.
   module _ (h : senderOf id < 254) (ss : List Session) (x : Session) (there : sessionOf (senderOf id) ss ≡ x)
@@ -157,22 +154,21 @@ module _ (room : List ℕ) (known : List Bool) (at : List ℕ) (t id : ℕ) (d :
           ),
         )
 
-  module _ (e : frameRefusal id d ≡ 0) {r : Answer} {q : List ℕ} {ks : List Bool} {ts : List ℕ}
+  module _ (h : senderOf id < 254) {r : Answer} {q : List ℕ} {ks : List Bool} {ts : List ℕ}
       (c : ks ≡ withLast times (senderOf id) (lastAfter r t (lastOf (senderOf id) times)) .known)
       (f : ts ≡ withLast times (senderOf id) (lastAfter r t (lastOf (senderOf id) times)) .at) where
     -- In time: the lent sessions as they are, ...
     pub straight : InTime ≡ cameAt (lastOf (senderOf id) times) t → r ≡ answerTo (sessionsIn room) frame → q ≡ roomOf (sessionsAfter (sessionsIn room) frame) → Does r q ks ts
     straight w a b =
         let x = tests (lastOf (senderOf id) times) t w in
-        settles (known-sender e) (sessionsIn room) (own .session) refl (λ y. refl) (in-time own (x .0) t frame (x .1) (x .2)) a b c f
+        settles h (sessionsIn room) (own .session) refl (λ y. refl) (in-time own (x .0) t frame (x .1) (x .2)) a b c f
 
     -- ... and too late: those that the closing left.
-    pub late : length room ≡ 22098 → Late ≡ cameAt (lastOf (senderOf id) times) t → {b : Bool} → b ≡ fit (sessionOf (senderOf id) (sessionsIn room)) → b ≡ true
+    pub late : length room ≡ 22098 → frameRefusal id d ≡ 0 → Late ≡ cameAt (lastOf (senderOf id) times) t → {b : Bool} → b ≡ fit (sessionOf (senderOf id) (sessionsIn room)) → b ≡ true
         → {mid : List ℕ} → mid ≡ roomOf (set (sessionsIn room) (senderOf id) (closed (sessionOf (senderOf id) (sessionsIn room))))
         → r ≡ answerTo (sessionsIn mid) frame → q ≡ roomOf (sessionsAfter (sessionsIn mid) frame) → Does r q ks ts
-    late long w g u {mid} m a b =
+    late long e w g u {mid} m a b =
         let x = tests (lastOf (senderOf id) times) t w in
-        let h = known-sender e in
         let shut = closed (own .session) in
         let ss : sessionsIn mid ≡ set (sessionsIn room) (senderOf id) shut =
         ap sessionsIn m ∙ set-room room (senderOf id) shut long (session-long room (senderOf id) long h) .1 in
@@ -182,3 +178,37 @@ module _ (room : List ℕ) (known : List Bool) (at : List ℕ) (t id : ℕ) (d :
         (λ y. ap (λ (l : List Session). set l (senderOf id) y) ss ∙ set-set (sessionsIn room) (senderOf id) shut y)
         (settled own ok t frame e (x .1) ∙ rw (x .2))
         a b c f
+
+-- A frame keeps the payload's length, whatever the session and the last time are.
+station-long : (s : Station) (f : Timed) → length (s .session .bytes) ≡ 84 → length (stationStep s f .station .session .bytes) ≡ 84
+unfolding timed-frame
+station-long s f long = go (f .time)
+  where
+    met : (l : Last) (t : ℕ) → length (metAt (s .session) l t .bytes) ≡ 84
+    met l t = either (λ (x : Session). length (x .bytes) ≡ 84) (isLate l t) (λ e. long) (λ e. long)
+
+    go : (o : Option ℕ) → length (frameAt o s (f .frame) .station .session .bytes) ≡ 84
+    go none = step-long (s .session) (f .frame) long
+    go (some t) =
+        either (λ (o : Outcome). length (o .station .session .bytes) ≡ 84) (not (eqb (frameRefusal (f .frame .identifier) (f .frame .data-bytes)) 0)) (λ e. long)
+        (λ e. either (λ (o : Outcome). length (o .station .session .bytes) ≡ 84) (not (fit (s .session) && fitLast (s .last))) (λ e. long)
+        (λ e. either (λ (o : Outcome). length (o .station .session .bytes) ≡ 84) (isBefore (s .last) t) (λ e. long) (λ e. step-long (metAt (s .session) (s .last) t) (f .frame) (met (s .last) t))))
+
+-- What `Times::take` leaves is a room again, and it holds those sessions.
+pub next-room : (room : List ℕ) (ts : Times) (f : Timed) → length room ≡ 22098
+    → (length (roomOf (stationsAfter (record { sessions = sessionsIn room; times = ts }) f .sessions)) ≡ 22098)
+    × (sessionsIn (roomOf (stationsAfter (record { sessions = sessionsIn room; times = ts }) f .sessions)) ≡ stationsAfter (record { sessions = sessionsIn room; times = ts }) f .sessions)
+next-room room ts f long = go (ltb (sender f) 254) refl
+  where
+    b : Stations
+    b = record { sessions = sessionsIn room; times = ts }
+
+    Holds : Stations → Type 0
+    Holds c = (length (roomOf (c .sessions)) ≡ 22098) × (sessionsIn (roomOf (c .sessions)) ≡ c .sessions)
+
+    s : Station
+    s = stationStep (stationOf (sender f) b) f .station
+
+    go : (t : Bool) → ltb (sender f) 254 ≡ t → Holds (cond t (withStation b (sender f) s) b)
+    go true e = set-room room (sender f) (s .session) long (station-long (stationOf (sender f) b) f (session-long room (sender f) long (ltb-true _ _ e)))
+    go false e = (ap length (room-of-sessions 254 room long) ∙ long, ap sessionsIn (room-of-sessions 254 room long))

@@ -5,4 +5,5 @@ pub mod Reached
 pub mod MadeUp
 pub mod RoundTrip
 pub mod Lent
+pub mod Examples
 pub mod Outcomes

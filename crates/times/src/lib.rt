@@ -3,10 +3,12 @@ ghost use mathlib.Core.Path.{_≡_};
 ghost use mathlib.Core.Bool.{cond};
 ghost use Prim.Native.Nat.{_<_};
 ghost use lib.ListN.{length};
-ghost use Rattle.joining.specs.Frame.{senderOf};
+ghost use lib.Dec.{eqb};
+ghost use Rattle.joining.specs.Frame.{senderOf, frameRefusal};
 ghost use Rattle.joining.specs.Joining.{fit};
 ghost use Rattle.joining.specs.Run.{senders, sessionOf, sessionsAfter, answerTo};
 ghost use Rattle.bus.specs.Room.{roomBytes, sessionsIn, roomOf};
+ghost use Rattle.times.specs.declared.Came.the-variants.{Late};
 ghost use Rattle.times.specs.Timed.{isKept, cameAt, lastAfter, lastOf, withLast, freshTimes};
 ghost use Rattle.times.specs.Run.{stationsAfter, timedAnswer, stationsIn, timedAt};
 use bus::Bus;
@@ -76,24 +78,16 @@ fn timed(
     ensures { λ _. ⌜ now (known .exit) ≡ stationsAfter (stationsIn (now (room .entry)) (now (known .entry)) (now (at .entry))) (timedAt time id (now («data» .entry))) .times .known ⌝ }
     ensures { λ _. ⌜ now (at .exit) ≡ stationsAfter (stationsIn (now (room .entry)) (now (known .entry)) (now (at .entry))) (timedAt time id (now («data» .entry))) .times .at ⌝ }
 {
-    let n = joining::frame_refusal(id, data);
-    if n != 0 {
-        return Answer::Refused(n);
-    }
     let k = (id % 256) as usize;
+    if Bus::SENDERS <= k {
+        return Answer::Refused(joining::frame_refusal(id, data));
+    }
     let came = compared(known[k], at[k], time);
     match came {
         Came::InTime => settle(room, known, at, time, id, data),
-        Came::Unfit => Answer::Refused(Session::UNFIT),
-        Came::Before => before(room, (id % 256) as u8),
-        Came::Late => {
-            let sender = (id % 256) as u8;
-            if !Bus::fit(room, sender) {
-                return Answer::Refused(Session::UNFIT);
-            }
-            Bus::close(room, sender);
-            settle(room, known, at, time, id, data)
-        }
+        Came::Late => late(room, known, at, time, id, data),
+        Came::Before => turned(room, id, data, Times::BEFORE),
+        Came::Unfit => turned(room, id, data, Session::UNFIT),
     }
 }
 
@@ -159,12 +153,43 @@ fn settle(
     answer
 }
 
-// The refusal of a frame whose time is before its sender's last kept one.
-fn before(room: &[u8; Bus::ROOM], sender: u8) -> Answer
-    ensures { λ r. ⌜ r ≡ Answer.Refused (cond (fit (sessionOf sender (sessionsIn (now (room .entry))))) 26 24) ⌝ }
+// Takes a frame that came too late: where it is refused neither 1 to 3 nor 24, its session is closed first.
+fn late(
+    room: &mut [u8; Bus::ROOM],
+    known: &mut [bool; Bus::SENDERS],
+    at: &mut [u32; Bus::SENDERS],
+    time: u32,
+    id: u32,
+    data: &[u8],
+) -> Answer
+    requires { ⌜ (length (now room) ≡ roomBytes) × (Late ≡ cameAt (lastOf (senderOf id) (record { known = now known; at = now at })) time) × (senderOf id < senders) ⌝ }
+    ensures { λ r. ⌜ r ≡ timedAnswer (stationsIn (now (room .entry)) (now (known .entry)) (now (at .entry))) (timedAt time id (now («data» .entry))) ⌝ }
+    ensures { λ _. ⌜ now (room .exit) ≡ roomOf (stationsAfter (stationsIn (now (room .entry)) (now (known .entry)) (now (at .entry))) (timedAt time id (now («data» .entry))) .sessions) ⌝ }
+    ensures { λ _. ⌜ now (known .exit) ≡ stationsAfter (stationsIn (now (room .entry)) (now (known .entry)) (now (at .entry))) (timedAt time id (now («data» .entry))) .times .known ⌝ }
+    ensures { λ _. ⌜ now (at .exit) ≡ stationsAfter (stationsIn (now (room .entry)) (now (known .entry)) (now (at .entry))) (timedAt time id (now («data» .entry))) .times .at ⌝ }
 {
-    if Bus::fit(room, sender) {
-        return Answer::Refused(Times::BEFORE);
+    let n = joining::frame_refusal(id, data);
+    if n != 0 {
+        return Answer::Refused(n);
+    }
+    let sender = (id % 256) as u8;
+    if !Bus::fit(room, sender) {
+        return Answer::Refused(Session::UNFIT);
+    }
+    Bus::close(room, sender);
+    settle(room, known, at, time, id, data)
+}
+
+// The refusal of a frame that the last time refuses with this number: those that come first are 1 to 3, and 24 for an unfit session.
+fn turned(room: &[u8; Bus::ROOM], id: u32, data: &[u8], code: u8) -> Answer
+    ensures { λ r. ⌜ r ≡ Answer.Refused (cond (eqb (frameRefusal id (now («data» .entry))) 0) (cond (fit (sessionOf (senderOf id) (sessionsIn (now (room .entry))))) code 24) (frameRefusal id (now («data» .entry)))) ⌝ }
+{
+    let n = joining::frame_refusal(id, data);
+    if n != 0 {
+        return Answer::Refused(n);
+    }
+    if Bus::fit(room, (id % 256) as u8) {
+        return Answer::Refused(code);
     }
     Answer::Refused(Session::UNFIT)
 }

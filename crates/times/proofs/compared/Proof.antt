@@ -1,5 +1,7 @@
 -- `times::compared` meets its contract: its tests are those of the definition.
 -- Assumes nothing.
+use Prim.Native.Nat.{_-_}
+use native.Mathlib.Omega.{arith}
 use borrow.Author.Tests.{lt-ltb, le-ltb, ne-eqb}
 use Rattle.times.specs.Timed.{fitLast, isBefore, isLate, cameAt}
 use Rattle.times.proofs.compared.Statement.{statement}
@@ -7,15 +9,21 @@ use Rattle.times.proofs.compared.Tie as tie
 
 returns : tie.Need-returns
 unfolding cameAt fitLast isBefore isLate
-returns c = rw (c .before .if1 .taken, lt-ltb _ _ (c .if2 .taken))
+returns c =
+    let a = c .before .before .args in
+    rw (c .before .if1 .taken, lt-ltb (a .time) (a .last) (omega arith))
 
 returns-2 : tie.Need-returns-2
 unfolding cameAt fitLast isBefore isLate
-returns-2 c = rw (c .before .before .if1 .taken, le-ltb _ _ (c .before .if2 .left), lt-ltb _ _ (c .if3 .taken))
+returns-2 c =
+    let a = c .before .before .before .args in
+    rw (c .before .before .if1 .taken, le-ltb (a .time) (a .last) (omega arith), lt-ltb 750 (a .time - a .last) (omega arith))
 
 returns-3 : tie.Need-returns-3
 unfolding cameAt fitLast isBefore isLate
-returns-3 c = rw (c .before .before .if1 .taken, le-ltb _ _ (c .before .if2 .left), le-ltb _ _ (c .if3 .left))
+returns-3 c =
+    let a = c .before .before .before .args in
+    rw (c .before .before .if1 .taken, le-ltb (a .time) (a .last) (omega arith), le-ltb 750 (a .time - a .last) (omega arith))
 
 returns-4 : tie.Need-returns-4
 unfolding cameAt fitLast isBefore isLate
