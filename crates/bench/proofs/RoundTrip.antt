@@ -22,7 +22,7 @@ use Rattle.joining.specs.declared.Answer.the-variants.{Kept, Complete}
 use Rattle.joining.specs.Frame.{Frame, senderOf}
 use Rattle.joining.specs.Joining.{packets, carries, fit, payloadHeld}
 use Rattle.bench.specs.Bench.{identifier, carrier, opening, packetsFrom, frames, frameBytes, framesIn, roomFor, sendRefusal, sent}
-use Rattle.joining.specs.Run.{sessionOf, sessionsAt, answersAt, soloSession, soloAnswers, ownFrames, ownAnswers}
+use Rattle.joining.specs.Run.{sessionOf, sessionsAfterAll, answersToAll, soloSession, soloAnswers, ownFrames, ownAnswers}
 use Rattle.joining.proofs.Mixing.{mixing}
 use Rattle.bench.proofs.Sending.{length-data, length-announcement}
 use Rattle.bench.proofs.Joins.{padded, joins}
@@ -72,10 +72,10 @@ module _ (sender : ℕ) (known : sender ≤ 253) (r : Report) (note : Option (Li
 module _ (sender : ℕ) (known : sender ≤ 253) (r : Report) (note : Option (List ℕ)) (may : Permitted r note)
     (ss : List Session) (all : length ss ≡ 254) (ready : fit (sessionOf sender ss) ≡ true)
     (fs : List Frame) (own : ownFrames sender fs ≡ frames sender (payload r note)) where
-  pub mixed-report : ownAnswers sender fs (answersAt ss fs) ≡ replicate (packets (size note)) Kept ++ (Complete r ∷ [])
+  pub mixed-report : ownAnswers sender fs (answersToAll ss fs) ≡ replicate (packets (size note)) Kept ++ (Complete r ∷ [])
   mixed-report = mixing sender (omega arith) ss fs all .1 ∙ rw own (same-report sender known r note may (sessionOf sender ss) ready)
 
-  pub mixed-payload : payloadHeld (sessionOf sender (sessionsAt ss fs) .bytes) ≡ payload r note
+  pub mixed-payload : payloadHeld (sessionOf sender (sessionsAfterAll ss fs) .bytes) ≡ payload r note
   mixed-payload = rw (mixing sender (omega arith) ss fs all .0, own) (same-payload sender known r note may (sessionOf sender ss) ready)
 
 -- The sender's frames are its own.

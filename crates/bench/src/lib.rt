@@ -5,7 +5,7 @@ ghost use Prim.Native.Nat.{_+_, _-_, _*_, _≤_};
 ghost use lib.ListN.{length};
 ghost use lib.Seq.{sets};
 ghost use Rattle.wire.specs.Bytes.{bytes};
-ghost use Rattle.report.specs.Payload.{largest, given};
+ghost use Rattle.report.specs.Payload.{largestPayload, given};
 ghost use Rattle.joining.specs.Joining.{packets};
 ghost use Rattle.bench.specs.Bench.{identifier, announcement, packetData, packetsFrom, frames, frameBytes, sendAnswer, sent};
 use joining::Frame;
@@ -58,7 +58,7 @@ impl Bench {
 
 // Stores a payload's frames from the front on.
 fn fill(room: &mut [u8], sender: u8, p: &[u8])
-    requires { ⌜ length (now p) ≤ largest ⌝ }
+    requires { ⌜ length (now p) ≤ largestPayload ⌝ }
     ensures { λ _. ⌜ now (room .exit) ≡ sets (now (room .entry)) 0 (frameBytes (frames sender (now (p .entry)))) ⌝ }
 {
     let opening = announcement(p.len() as u16);
@@ -95,7 +95,7 @@ fn put_packet(room: &mut [u8], sender: u8, p: &[u8], i: u8)
 
 // An announcement's data.
 fn announcement(size: u16) -> [u8; 8]
-    requires { ⌜ size ≤ largest ⌝ }
+    requires { ⌜ size ≤ largestPayload ⌝ }
     ensures { λ r. ⌜ r ≡ announcement size ⌝ }
 {
     let group = Session::GROUP;

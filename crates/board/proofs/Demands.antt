@@ -211,7 +211,7 @@ module _ {n : ℕ} {past : List Values} {b : Board} (reached : Reached n past b)
       let may = enterable (b .window .counts) v taken in
       let after = added (b .window) v in
       let fit-after = next-fit (b .window) (reached-window reached) (kept reached .since .whole) v (may .permitted) (may .room) in
-      let range : (1 ≤ slotAt b slot .k) × (slotAt b slot .k ≤ 16) = ⊎-elim (λ no. absurd (no again)) (λ s. subst (λ q. (1 ≤ q .k) × (q .k ≤ 16)) (sym (s .is)) (s .asks .some, s .asks .small)) slot-now in
+      let range : (1 ≤ slotAt b slot .k) × (slotAt b slot .k ≤ 16) = ⊎-elim (λ no. absurd (no again)) (λ s. subst (λ q. (1 ≤ q .k) × (q .k ≤ 16)) (sym (s .is)) (s .asks .positive, s .asks .small)) slot-now in
       let e = one.turn-exact after fit-after (slotAt b slot) new (outgoing (b .window)) (range .0) (range .1) again in
       subst (λ m. Exactly after (slotAt b slot .k) (slotAt b slot .rule) m (slotAt (enterCall b v .board) slot)) (sym (a .steps-of))
       (subst (Exactly after (slotAt b slot .k) (slotAt b slot .rule) (turned (b .window) v (slotAt b slot) .steps)) (sym (a .left-as)) e)

@@ -77,13 +77,13 @@ module _ (w : Window) (fit : fitWindow w ≡ true) (whole : window.Whole w) (v :
       old r m h (inr over) =
           let full : w .counts .held ≡ w .counts .size = omega (arith, ranges .ring .has-rows) in
           let first : w .counts .held + 1 - w .counts .size ≡ 1 = omega arith in
-          let some : 1 ≤ w .counts .held = omega (arith, ranges .ring .some) in
+          let positive : 1 ≤ w .counts .held = omega (arith, ranges .ring .positive) in
           let gone = gone-is .1 over in
           subst (λ n. r ∈ drop n (heldReports w)) (sym first)
           (⊎-elim
           (λ e. let it : r .number ≡ w .counts .entered - w .counts .held + 1 = ap (λ (x : Held). x .number) e in absurd (omega (arith, gone)))
           (λ k. k)
-          (List·Memᴰ·cases-cons (subst (λ l. r ∈ l) (oldest-first w some) m)))
+          (List·Memᴰ·cases-cons (subst (λ l. r ∈ l) (oldest-first w positive) m)))
 
       stays : (r : Held) → r ∈ new ∷ heldReports w → outgoing w < r .number → r ∈ heldReports (added w v)
       stays r m h =

@@ -296,13 +296,13 @@ pub record Examples : Type 0 where
 pub examples : Examples
 unfolding steps visiting before bestScore score cell above goesFirst entries leaving enterRefusal inRange
 examples =
-    let nine = third-says (pair 10 10) (pair 5 5) (pair 1 1) refl refl refl in
+    let p9 = third-says (pair 10 10) (pair 5 5) (pair 1 1) refl refl refl in
     let ten = third-says (pair 1 1) (pair 5 5) (pair 1 2) refl refl refl in
     let eleven = third-says (pair 9 9) (pair 1 1) (pair 9 9) refl refl refl in
     record {
-      p9-searches = nine .searched-is;
-      p9-steps = nine .steps-are refl;
-      p9-list = nine .list-is;
+      p9-searches = p9 .searched-is;
+      p9-steps = p9 .steps-are refl;
+      p9-list = p9 .list-is;
       p10-searches = ten .searched-is;
       p10-list = ten .list-is;
       p11-searches = eleven .searched-is;

@@ -14,14 +14,14 @@ use Rattle.board.proofs.Board.read.Kinds as read-kinds
 use Rattle.board.proofs.Board.read.Reads as read-reads
 use Rattle.board.proofs.Board.enter.Kinds as enter-kinds
 use Rattle.board.proofs.Board.enter.Reads as enter-reads
-use Rattle.board.proofs.Board.set_known.Kinds as set-known-kinds
-use Rattle.board.proofs.Board.set_known.Reads as set-known-reads
-use Rattle.board.proofs.Board.remove_known.Kinds as remove-known-kinds
-use Rattle.board.proofs.Board.remove_known.Reads as remove-known-reads
-use Rattle.board.proofs.Board.read_known.Kinds as read-known-kinds
-use Rattle.board.proofs.Board.read_known.Reads as read-known-reads
-use Rattle.board.proofs.Board.enter_known.Kinds as enter-known-kinds
-use Rattle.board.proofs.Board.enter_known.Reads as enter-known-reads
+use Rattle.board.proofs.Board.set_work.Kinds as set-work-kinds
+use Rattle.board.proofs.Board.set_work.Reads as set-work-reads
+use Rattle.board.proofs.Board.remove_work.Kinds as remove-work-kinds
+use Rattle.board.proofs.Board.remove_work.Reads as remove-work-reads
+use Rattle.board.proofs.Board.read_work.Kinds as read-work-kinds
+use Rattle.board.proofs.Board.read_work.Reads as read-work-reads
+use Rattle.board.proofs.Board.enter_work.Kinds as enter-work-kinds
+use Rattle.board.proofs.Board.enter_work.Reads as enter-work-reads
 use Rattle.board.proofs.Arrival.of.Kinds as arrival-kinds
 use Rattle.board.proofs.Arrival.of.Reads as arrival-reads
 
@@ -43,17 +43,17 @@ read-once κs a x y s t p q = p ∙ sym q
 enter-once : OneAnswer 0 enter-kinds.ps enter-kinds.r enter-reads.Post
 enter-once κs a x y s t p q = p ∙ sym q
 
-set-known-once : OneAnswer 0 set-known-kinds.ps set-known-kinds.r set-known-reads.Post
-set-known-once κs a x y s t p q = p ∙ sym q
+set-work-once : OneAnswer 0 set-work-kinds.ps set-work-kinds.r set-work-reads.Post
+set-work-once κs a x y s t p q = p ∙ sym q
 
-remove-known-once : OneAnswer 0 remove-known-kinds.ps remove-known-kinds.r remove-known-reads.Post
-remove-known-once κs a x y s t p q = p ∙ sym q
+remove-work-once : OneAnswer 0 remove-work-kinds.ps remove-work-kinds.r remove-work-reads.Post
+remove-work-once κs a x y s t p q = p ∙ sym q
 
-read-known-once : OneAnswer 0 read-known-kinds.ps read-known-kinds.r read-known-reads.Post
-read-known-once κs a x y s t p q = p ∙ sym q
+read-work-once : OneAnswer 0 read-work-kinds.ps read-work-kinds.r read-work-reads.Post
+read-work-once κs a x y s t p q = p ∙ sym q
 
-enter-known-once : OneAnswer 0 enter-known-kinds.ps enter-known-kinds.r enter-known-reads.Post
-enter-known-once κs a x y s t p q = p ∙ sym q
+enter-work-once : OneAnswer 0 enter-work-kinds.ps enter-work-kinds.r enter-work-reads.Post
+enter-work-once κs a x y s t p q = p ∙ sym q
 
 arrival-once : OneAnswer 0 arrival-kinds.ps arrival-kinds.r arrival-reads.Post
 arrival-once κs a x y s t p q = p ∙ sym q

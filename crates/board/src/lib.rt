@@ -97,7 +97,7 @@ impl Board {
         ensures { λ r. ⌜ r ≡ setCall self slot k rule ⌝ }
     {
         if self.fit() {
-            return self.set_known(slot, k, rule);
+            return self.set_work(slot, k, rule);
         }
         Placed {
             refusal: Board::UNFIT,
@@ -111,7 +111,7 @@ impl Board {
         ensures { λ r. ⌜ r ≡ removeCall self slot ⌝ }
     {
         if self.fit() {
-            return self.remove_known(slot);
+            return self.remove_work(slot);
         }
         Removed {
             refusal: Board::UNFIT,
@@ -124,7 +124,7 @@ impl Board {
         ensures { λ r. ⌜ r ≡ readCall self slot ⌝ }
     {
         if self.fit() {
-            return self.read_known(slot);
+            return self.read_work(slot);
         }
         Shown::refused(Board::UNFIT)
     }
@@ -134,13 +134,13 @@ impl Board {
         ensures { λ r. ⌜ r ≡ enterCall self values ⌝ }
     {
         if self.fit() {
-            return self.enter_known(values);
+            return self.enter_work(values);
         }
         self.not_entered(Board::UNFIT)
     }
 
     // Sets a question on a board that is known to be fit: it is searched over the held reports.
-    pub fn set_known(self, slot: u8, k: u8, rule: Rule) -> Placed
+    pub fn set_work(self, slot: u8, k: u8, rule: Rule) -> Placed
         ensures { λ r. ⌜ r ≡ setWork self slot k rule ⌝ }
     {
         if Board::SLOTS <= slot {
@@ -171,7 +171,7 @@ impl Board {
     }
 
     // Empties a slot of a board that is known to be fit.
-    pub fn remove_known(self, slot: u8) -> Removed
+    pub fn remove_work(self, slot: u8) -> Removed
         ensures { λ r. ⌜ r ≡ removeWork self slot ⌝ }
     {
         if Board::SLOTS <= slot {
@@ -190,7 +190,7 @@ impl Board {
     }
 
     // The list of a slot of a board that is known to be fit.
-    pub fn read_known(self, slot: u8) -> Shown
+    pub fn read_work(self, slot: u8) -> Shown
         ensures { λ r. ⌜ r ≡ readWork self slot ⌝ }
     {
         if Board::SLOTS <= slot {
@@ -203,7 +203,7 @@ impl Board {
 
     // Enters a report on a board that is known to be fit: each question lists it as its marks say, then the oldest leaves, and
     // each that lists that one is searched afresh.
-    pub fn enter_known(self, values: Values) -> Entered
+    pub fn enter_work(self, values: Values) -> Entered
         ensures { λ r. ⌜ r ≡ enterWork self values ⌝ }
     {
         let window = self.window;
@@ -224,7 +224,7 @@ impl Board {
         let counts = before.counts;
         let number = counts.entered + 1;
         let gone = leaving(counts);
-        let window = before.with(values);
+        let window = before.added(values);
         let mut slots = self.slots;
         let mut searched = [false; Gauge::SLOTS];
         let mut steps = [0u16; Gauge::SLOTS];

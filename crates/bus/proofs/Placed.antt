@@ -19,7 +19,7 @@ use Rattle.joining.specs.Run.{nobody, sessionOf, sessionsAfter, answerTo}
 use Rattle.joining.proofs.Fitness.{Open}
 use Rattle.joining.proofs.Frames.{sound-frame}
 use Rattle.joining.proofs.Steps.{due, fit-numbers}
-use Rattle.bus.specs.Room.{sessionAt, sessionBytes, sessionsIn, roomOf}
+use Rattle.bus.specs.Room.{sessionIn, sessionBytes, sessionsIn, roomOf}
 use Rattle.bus.proofs.Places.{take-sets, session-of, put-session, room-of-sessions}
 use Rattle.bus.proofs.Rooms.{sessions-many}
 
@@ -28,18 +28,18 @@ pub step : {t u : Taken} {r : Answer} {p : List ℕ} → t ≡ u → r ≡ u .an
 step e a b = rw e (a, b)
 
 -- The expected packet's bytes, stored where the session stands.
-pub stored-at : (p d : List ℕ) → Open (sessionAt p) → {q : List ℕ}
-    → q ≡ sets p (place (sessionAt p)) (take (sessionAt p .size - place (sessionAt p)) (drop 1 d))
-    → take 84 q ≡ stored (sessionAt p) d
+pub stored-at : (p d : List ℕ) → Open (sessionIn p) → {q : List ℕ}
+    → q ≡ sets p (place (sessionIn p)) (take (sessionIn p .size - place (sessionIn p)) (drop 1 d))
+    → take 84 q ≡ stored (sessionIn p) d
 stored-at p d o e =
-    let s = sessionAt p in
+    let s = sessionIn p in
     let new = take (s .size - place s) (drop 1 d) in
     ap (take 84) e ∙ take-sets 84 p (place s) new (omega (arith, length-take (s .size - place s) (drop 1 d), due s o, o .high))
 
 pub stored-long : (p d : List ℕ) → length p ≡ 87 → {q : List ℕ}
-    → q ≡ sets p (place (sessionAt p)) (take (sessionAt p .size - place (sessionAt p)) (drop 1 d)) → length q ≡ 87
+    → q ≡ sets p (place (sessionIn p)) (take (sessionIn p .size - place (sessionIn p)) (drop 1 d)) → length q ≡ 87
 stored-long p d h e =
-    let s = sessionAt p in
+    let s = sessionIn p in
     ap length e ∙ length-sets p (place s) (take (s .size - place s) (drop 1 d)) ∙ h
 
 -- A frame in a room: one that is refused at once changes no byte, and another changes its sender's session.
@@ -75,32 +75,32 @@ module _ (room : List ℕ) (id : ℕ) (d : List ℕ) (long : length room ≡ 220
       let p = passed-over (ltb (senderOf id) 254) (λ z. h (e ∙ z)) in
       (ap Refused e ∙ p .0, p .1)
 
-  pub heard : {r : Answer} {q : List ℕ} → frameRefusal id d ≡ 0 → r ≡ take-frame (sessionAt (drop (87 * senderOf id) room)) id d .answer
-      → q ≡ (take (87 * senderOf id) room ++ sessionBytes (take-frame (sessionAt (drop (87 * senderOf id) room)) id d .session)) ++ drop (87 * senderOf id + 87) room
+  pub heard : {r : Answer} {q : List ℕ} → frameRefusal id d ≡ 0 → r ≡ take-frame (sessionIn (drop (87 * senderOf id) room)) id d .answer
+      → q ≡ (take (87 * senderOf id) room ++ sessionBytes (take-frame (sessionIn (drop (87 * senderOf id) room)) id d .session)) ++ drop (87 * senderOf id + 87) room
       → (r ≡ answerTo sessions frame) × (q ≡ roomOf (sessionsAfter sessions frame))
   heard e a b =
       let own : senderOf id < 254 = omega (arith, sound-frame id d e .sender) in
       let same = session-of 254 (senderOf id) room own in
-      let put = put-session 254 (senderOf id) room (take-frame (sessionAt (drop (87 * senderOf id) room)) id d .session) own long in
+      let put = put-session 254 (senderOf id) room (take-frame (sessionIn (drop (87 * senderOf id) room)) id d .session) own long in
       rw (lt-ltb (senderOf id) 254 own, same) (a, b ∙ sym put)
 
 -- Fitness, read off the numbers where they stand.
 pub fit-read : (room : List ℕ) (at : ℕ)
-    → fit (record { bytes = []; size = getD room (at + 84) 0; count = getD room (at + 85) 0; next = getD room (at + 86) 0 }) ≡ fit (sessionAt (drop at room))
+    → fit (record { bytes = []; size = getD room (at + 84) 0; count = getD room (at + 85) 0; next = getD room (at + 86) 0 }) ≡ fit (sessionIn (drop at room))
 fit-read room at =
     let size = sym (getD-drop at room 84 0) in
     let count = sym (getD-drop at room 85 0) in
     let next = sym (getD-drop at room 86 0) in
-    (λ i. fit (record { bytes = []; size = size i; count = count i; next = next i })) ∙ fit-numbers (sessionAt (drop at room))
+    (λ i. fit (record { bytes = []; size = size i; count = count i; next = next i })) ∙ fit-numbers (sessionIn (drop at room))
 
 -- A closing in a room: it changes its sender's session, and for senders 254 and 255 there is none.
 module _ (room : List ℕ) (k : ℕ) where
   pub closing : length room ≡ 22098 → k < 254 → {q : List ℕ}
-      → q ≡ (take (87 * k) room ++ sessionBytes (closed (sessionAt (drop (87 * k) room)))) ++ drop (87 * k + 87) room
+      → q ≡ (take (87 * k) room ++ sessionBytes (closed (sessionIn (drop (87 * k) room)))) ++ drop (87 * k + 87) room
       → q ≡ roomOf (set (sessionsIn room) k (closed (sessionOf k (sessionsIn room))))
   closing long own e =
       e
-      ∙ sym (put-session 254 k room (closed (sessionAt (drop (87 * k) room))) own long)
+      ∙ sym (put-session 254 k room (closed (sessionIn (drop (87 * k) room))) own long)
       ∙ ap (λ (s : Session). roomOf (set (sessionsIn room) k (closed s))) (sym (session-of 254 k room own))
 
   pub none-there : length room ≡ 22098 → 254 ≤ k → (s : Session) → room ≡ roomOf (set (sessionsIn room) k s)

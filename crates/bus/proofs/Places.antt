@@ -11,7 +11,7 @@ use Rattle.wire.specs.Bytes.{part}
 use Rattle.wire.proofs.Stores.{sets-append}
 use Rattle.joining.specs.declared.Session.{Session}
 use Rattle.joining.specs.Run.{nobody}
-use Rattle.bus.specs.Room.{sessionAt, sessionBytes, sessionsOf, roomOf}
+use Rattle.bus.specs.Room.{sessionIn, sessionBytes, firstSessionsIn, roomOf}
 
 drop-end : (p : List ℕ) (n : ℕ) → length p ≡ n → drop n p ≡ []
 drop-end p n h = ap (λ (k : ℕ). drop k p) (sym h) ∙ drop-length p
@@ -30,10 +30,10 @@ numbers p h =
     (drop-cons p 85 0 (omega arith) ∙ ap (λ (r : List ℕ). getD p 85 0 ∷ r) (drop-cons p 86 0 (omega arith)))
 
 -- The session at the front, as bytes, is the first 87 bytes.
-pub front : (p : List ℕ) → 87 ≤ length p → sessionBytes (sessionAt p) ≡ take 87 p
+pub front : (p : List ℕ) → 87 ≤ length p → sessionBytes (sessionIn p) ≡ take 87 p
 front p h = sym (take-add 84 3 p ∙ ap (λ (r : List ℕ). take 84 p ++ take 3 r) (numbers p h))
 
-pub whole : (p : List ℕ) → length p ≡ 87 → sessionBytes (sessionAt p) ≡ p
+pub whole : (p : List ℕ) → length p ≡ 87 → sessionBytes (sessionIn p) ≡ p
 whole p h = front p (omega arith) ∙ ap (λ (k : ℕ). take k p) (sym h) ∙ take-length p
 
 -- The other way: bytes that start with a session's hold that session.
@@ -44,7 +44,7 @@ module _ (s : Session) (rest : List ℕ) (long : length (s .bytes) ≡ 84) where
   tail : drop 84 (sessionBytes s ++ rest) ≡ s .size ∷ s .count ∷ s .next ∷ rest
   tail = ap (drop 84) together ∙ drop-at (s .bytes) (s .size ∷ s .count ∷ s .next ∷ rest) 84 long
 
-  pub stands : sessionAt (sessionBytes s ++ rest) ≡ s
+  pub stands : sessionIn (sessionBytes s ++ rest) ≡ s
   stands =
       let p = sessionBytes s ++ rest in
       let bytes = ap (take 84) together ∙ take-at (s .bytes) (s .size ∷ s .count ∷ s .next ∷ rest) 84 long in
@@ -61,37 +61,37 @@ abbrev pub Sized : List Session → Type 0
 Sized [] = Unit
 Sized (s ∷ ss) = (length (s .bytes) ≡ 84) × Sized ss
 
-pub sessions-of-room : (ss : List Session) → Sized ss → sessionsOf (length ss) (roomOf ss) ≡ ss
-unfolding sessionsOf roomOf
+pub sessions-of-room : (ss : List Session) → Sized ss → firstSessionsIn (length ss) (roomOf ss) ≡ ss
+unfolding firstSessionsIn roomOf
 sessions-of-room [] h = refl
 sessions-of-room (s ∷ ss) h =
     let first = stands s (roomOf ss) (h .0) in
-    let others = ap (sessionsOf (length ss)) (behind s (roomOf ss) (h .0)) ∙ sessions-of-room ss (h .1) in
+    let others = ap (firstSessionsIn (length ss)) (behind s (roomOf ss) (h .0)) ∙ sessions-of-room ss (h .1) in
     λ i. first i ∷ others i
 
-pub room-of-sessions : (n : ℕ) (room : List ℕ) → length room ≡ 87 * n → roomOf (sessionsOf n room) ≡ room
-unfolding sessionsOf roomOf
+pub room-of-sessions : (n : ℕ) (room : List ℕ) → length room ≡ 87 * n → roomOf (firstSessionsIn n room) ≡ room
+unfolding firstSessionsIn roomOf
 room-of-sessions zero [] h = refl
 room-of-sessions zero (b ∷ room) h = absurd (omega (arith, h))
 room-of-sessions (suc n) room h =
-    ap (λ (r : List ℕ). sessionBytes (sessionAt room) ++ r) (room-of-sessions n (drop 87 room) (omega (arith, length-drop 87 room)))
+    ap (λ (r : List ℕ). sessionBytes (sessionIn room) ++ r) (room-of-sessions n (drop 87 room) (omega (arith, length-drop 87 room)))
     ∙ ap (λ (r : List ℕ). r ++ drop 87 room) (front room (omega arith))
     ∙ take-append-drop 87 room
 
 -- The session of sender k.
-pub session-of : (n k : ℕ) (room : List ℕ) → k < n → getD (sessionsOf n room) k nobody ≡ sessionAt (drop (87 * k) room)
-unfolding sessionsOf
+pub session-of : (n k : ℕ) (room : List ℕ) → k < n → getD (firstSessionsIn n room) k nobody ≡ sessionIn (drop (87 * k) room)
+unfolding firstSessionsIn
 session-of zero k room h = absurd (omega (arith, h))
 session-of (suc n) zero room h = refl
 session-of (suc n) (suc k) room h =
     let place : 87 + 87 * k ≡ 87 * suc k = omega arith in
     session-of n k (drop 87 room) (omega arith)
-    ∙ ap sessionAt (drop-drop (87 * k) 87 room ∙ ap (λ (m : ℕ). drop m room) place)
+    ∙ ap sessionIn (drop-drop (87 * k) 87 room ∙ ap (λ (m : ℕ). drop m room) place)
 
 -- A session put in its place: the bytes before and behind it stay.
 pub put-session : (n k : ℕ) (room : List ℕ) (s : Session) → k < n → length room ≡ 87 * n
-    → roomOf (set (sessionsOf n room) k s) ≡ (take (87 * k) room ++ sessionBytes s) ++ drop (87 * k + 87) room
-unfolding sessionsOf roomOf
+    → roomOf (set (firstSessionsIn n room) k s) ≡ (take (87 * k) room ++ sessionBytes s) ++ drop (87 * k + 87) room
+unfolding firstSessionsIn roomOf
 put-session zero k room s h l = absurd (omega (arith, h))
 put-session (suc n) zero room s h l =
     ap (λ (r : List ℕ). sessionBytes s ++ r) (room-of-sessions n (drop 87 room) (omega (arith, length-drop 87 room)))
@@ -117,7 +117,7 @@ cleared p i h e =
     ∙ replicate-append-replicate i 1 255
 
 -- A session is read off its 87 bytes alone.
-pub first-87 : (q : List ℕ) → sessionAt (take 87 q) ≡ sessionAt q
+pub first-87 : (q : List ℕ) → sessionIn (take 87 q) ≡ sessionIn q
 first-87 q =
     let bytes = take-take 84 87 q (omega arith) in
     let size = getD-take 87 q 84 0 (omega arith) in
@@ -152,7 +152,7 @@ four-stores room at s long {q} e =
 
 -- The session at a place, read in four parts.
 pub four-reads : (room : List ℕ) (at : ℕ) {q : List ℕ} → q ≡ part at 84 room
-    → record { bytes = q; size = getD room (at + 84) 0; count = getD room (at + 85) 0; next = getD room (at + 86) 0 } ≡ sessionAt (drop at room)
+    → record { bytes = q; size = getD room (at + 84) 0; count = getD room (at + 85) 0; next = getD room (at + 86) 0 } ≡ sessionIn (drop at room)
 four-reads room at e =
     let size = sym (getD-drop at room 84 0) in
     let count = sym (getD-drop at room 85 0) in
@@ -165,14 +165,14 @@ unfolding roomOf
 room-more [] s = append-nil (sessionBytes s)
 room-more (t ∷ ss) s = ap (λ (r : List ℕ). sessionBytes t ++ r) (room-more ss s) ∙ sym (append-assoc (sessionBytes t) (roomOf ss) (sessionBytes s))
 
-pub sessions-more : (n : ℕ) (room : List ℕ) → sessionsOf (suc n) room ≡ sessionsOf n room ++ (sessionAt (drop (87 * n) room) ∷ [])
-unfolding sessionsOf
+pub sessions-more : (n : ℕ) (room : List ℕ) → firstSessionsIn (suc n) room ≡ firstSessionsIn n room ++ (sessionIn (drop (87 * n) room) ∷ [])
+unfolding firstSessionsIn
 sessions-more zero room = refl
 sessions-more (suc n) room =
     let place : 87 + 87 * n ≡ 87 * suc n = omega arith in
-    ap (λ (r : List Session). sessionAt room ∷ r)
+    ap (λ (r : List Session). sessionIn room ∷ r)
     (sessions-more n (drop 87 room)
-    ∙ ap (λ (q : List ℕ). sessionsOf n (drop 87 room) ++ (sessionAt q ∷ [])) (drop-drop (87 * n) 87 room ∙ ap (λ (m : ℕ). drop m room) place))
+    ∙ ap (λ (q : List ℕ). firstSessionsIn n (drop 87 room) ++ (sessionIn q ∷ [])) (drop-drop (87 * n) 87 room ∙ ap (λ (m : ℕ). drop m room) place))
 
 -- A turn of the loop that stores the sessions, and of the one that reads them.
 pub stores-more : (room : List ℕ) (ss : List Session) (k : ℕ) → k < length ss → length (getD ss k nobody .bytes) ≡ 84 → length (roomOf (take k ss)) ≡ 87 * k
@@ -192,11 +192,11 @@ stores-more room ss k h long e {q} {r} f g =
           ∙ ap (sets room 0) (sym more),
     )
 
-pub reads-more : (room : List ℕ) (ss : List Session) (k : ℕ) → k < length ss → take k ss ≡ sessionsOf k room
-    → {s : Session} → s ≡ sessionAt (drop (87 * k) room) → take (k + 1) (set ss k s) ≡ sessionsOf (k + 1) room
+pub reads-more : (room : List ℕ) (ss : List Session) (k : ℕ) → k < length ss → take k ss ≡ firstSessionsIn k room
+    → {s : Session} → s ≡ sessionIn (drop (87 * k) room) → take (k + 1) (set ss k s) ≡ firstSessionsIn (k + 1) room
 reads-more room ss k h e {s} f =
     ap (λ (n : ℕ). take n (set ss k s)) (add-one k)
     ∙ take-suc-set ss k s h
     ∙ (λ i. e i ++ (f i ∷ []))
     ∙ sym (sessions-more k room)
-    ∙ ap (λ (n : ℕ). sessionsOf n room) (sym (add-one k))
+    ∙ ap (λ (n : ℕ). firstSessionsIn n room) (sym (add-one k))

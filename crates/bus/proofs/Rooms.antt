@@ -13,8 +13,8 @@ use Rattle.joining.specs.declared.Session.{Session}
 use Rattle.joining.specs.declared.Taken.{Taken}
 use Rattle.joining.specs.Frame.{Frame, senderOf, frameRefusal}
 use Rattle.joining.specs.Joining.{place, fit, refused, take-frame}
-use Rattle.joining.specs.Run.{nobody, sessionsAfter, sessionsAt, soloStep}
-use Rattle.bus.specs.Room.{sessionBytes, sessionsOf, sessionsIn, roomOf, roomAt}
+use Rattle.joining.specs.Run.{nobody, sessionsAfter, sessionsAfterAll, soloStep}
+use Rattle.bus.specs.Room.{sessionBytes, firstSessionsIn, sessionsIn, roomOf, roomAfterAll}
 use Rattle.joining.proofs.Cases.{Case, passed, shut, stray, good, next, last, cases}
 use Rattle.bus.proofs.Places.{Sized, sessions-of-room, room-of-sessions, put-session}
 
@@ -69,14 +69,14 @@ sized-set [] k s h l = tt
 sized-set (t ∷ ss) zero s h l = (l, h .1)
 sized-set (t ∷ ss) (suc k) s h l = (h .0, sized-set ss k s (h .1) l)
 
-pub sessions-sized : (n : ℕ) (room : List ℕ) → length room ≡ 87 * n → Sized (sessionsOf n room)
-unfolding sessionsOf
+pub sessions-sized : (n : ℕ) (room : List ℕ) → length room ≡ 87 * n → Sized (firstSessionsIn n room)
+unfolding firstSessionsIn
 sessions-sized zero room h = tt
 sessions-sized (suc n) room h =
     (length-take-le 84 room (omega arith), sessions-sized n (drop 87 room) (omega (arith, length-drop 87 room)))
 
-pub sessions-many : (n : ℕ) (room : List ℕ) → length (sessionsOf n room) ≡ n
-unfolding sessionsOf
+pub sessions-many : (n : ℕ) (room : List ℕ) → length (firstSessionsIn n room) ≡ n
+unfolding firstSessionsIn
 sessions-many zero room = refl
 sessions-many (suc n) room = ap suc (sessions-many n (drop 87 room))
 
@@ -89,7 +89,7 @@ room-long (s ∷ ss) h =
 
 -- The room of 254 sessions, read back.
 pub read-back : (ss : List Session) → Sized ss → length ss ≡ 254 → sessionsIn (roomOf ss) ≡ ss
-read-back ss h l = ap (λ (n : ℕ). sessionsOf n (roomOf ss)) (sym l) ∙ sessions-of-room ss h
+read-back ss h l = ap (λ (n : ℕ). firstSessionsIn n (roomOf ss)) (sym l) ∙ sessions-of-room ss h
 
 -- A session's bytes put at 87 k: sender k has that session, and nobody else another.
 pub put-there : (room : List ℕ) (k : ℕ) (s : Session) → k < 254 → length room ≡ 22098 → length (s .bytes) ≡ 84
@@ -130,9 +130,9 @@ next-room room f l =
     (omega (arith, room-long (sessionsAfter (sessionsIn room) f) (after .0), after .1), read-back (sessionsAfter (sessionsIn room) f) (after .0) (after .1))
 
 -- So is what a run of frames leaves, taken one after the other.
-pub run : (room : List ℕ) (fs : List Frame) → length room ≡ 22098 → roomAt room fs ≡ roomOf (sessionsAt (sessionsIn room) fs)
-unfolding roomAt sessionsAt
-run room [] l = sym (room-of-sessions 254 room l)
-run room (f ∷ fs) l =
+pub room-after-run : (room : List ℕ) (fs : List Frame) → length room ≡ 22098 → roomAfterAll room fs ≡ roomOf (sessionsAfterAll (sessionsIn room) fs)
+unfolding roomAfterAll sessionsAfterAll
+room-after-run room [] l = sym (room-of-sessions 254 room l)
+room-after-run room (f ∷ fs) l =
     let after = next-room room f l in
-    run (roomOf (sessionsAfter (sessionsIn room) f)) fs (after .0) ∙ ap (λ (ss : List Session). roomOf (sessionsAt ss fs)) (after .1)
+    room-after-run (roomOf (sessionsAfter (sessionsIn room) f)) fs (after .0) ∙ ap (λ (ss : List Session). roomOf (sessionsAfterAll ss fs)) (after .1)

@@ -5,7 +5,7 @@ use lib.ListN.{getD, take, drop}
 use Rattle.joining.specs.declared.Session.{Session}
 use Rattle.joining.specs.declared.Answer.{Answer}
 use Rattle.joining.specs.Frame.{Frame}
-use Rattle.report.specs.Payload.{largest}
+use Rattle.report.specs.Payload.{largestPayload}
 use Rattle.joining.specs.Run.{senders, sessionsAfter, answerTo}
 
 -- The bytes of a session's place, and of all places.
@@ -20,17 +20,17 @@ abbrev pub sessionBytes : Session → List ℕ
 sessionBytes s = s .bytes ++ (s .size ∷ s .count ∷ s .next ∷ [])
 
 -- The session that stands at the front of bytes.
-abbrev pub sessionAt : List ℕ → Session
-sessionAt p = record { bytes = take largest p; size = getD p largest 0; count = getD p (largest + 1) 0; next = getD p (largest + 2) 0 }
+abbrev pub sessionIn : List ℕ → Session
+sessionIn p = record { bytes = take largestPayload p; size = getD p largestPayload 0; count = getD p (largestPayload + 1) 0; next = getD p (largestPayload + 2) 0 }
 
 -- The sessions of the first n senders.
-unfoldable pub sessionsOf : ℕ → List ℕ → List Session
-sessionsOf zero room = []
-sessionsOf (suc n) room = sessionAt room ∷ sessionsOf n (drop placeBytes room)
+unfoldable pub firstSessionsIn : ℕ → List ℕ → List Session
+firstSessionsIn zero room = []
+firstSessionsIn (suc n) room = sessionIn room ∷ firstSessionsIn n (drop placeBytes room)
 
 -- Rule 3.1: the sessions of all senders.
 abbrev pub sessionsIn : List ℕ → List Session
-sessionsIn room = sessionsOf senders room
+sessionsIn room = firstSessionsIn senders room
 
 -- Sessions as bytes, one after the other.
 unfoldable pub roomOf : List Session → List ℕ
@@ -38,11 +38,11 @@ roomOf [] = []
 roomOf (s ∷ ss) = sessionBytes s ++ roomOf ss
 
 -- The room that a run of frames leaves, taken one after the other.
-unfoldable pub roomAt : List ℕ → List Frame → List ℕ
-roomAt room [] = room
-roomAt room (f ∷ fs) = roomAt (roomOf (sessionsAfter (sessionsIn room) f)) fs
+unfoldable pub roomAfterAll : List ℕ → List Frame → List ℕ
+roomAfterAll room [] = room
+roomAfterAll room (f ∷ fs) = roomAfterAll (roomOf (sessionsAfter (sessionsIn room) f)) fs
 
 -- And what each of them is answered.
-unfoldable pub answersIn : List ℕ → List Frame → List Answer
-answersIn room [] = []
-answersIn room (f ∷ fs) = answerTo (sessionsIn room) f ∷ answersIn (roomOf (sessionsAfter (sessionsIn room) f)) fs
+unfoldable pub roomAnswers : List ℕ → List Frame → List Answer
+roomAnswers room [] = []
+roomAnswers room (f ∷ fs) = answerTo (sessionsIn room) f ∷ roomAnswers (roomOf (sessionsAfter (sessionsIn room) f)) fs

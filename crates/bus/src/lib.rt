@@ -5,11 +5,11 @@ ghost use mathlib.Core.List.{[], _∷_, _++_};
 ghost use Prim.Native.Nat.{_+_, _≤_};
 ghost use lib.ListN.{length, take, drop, set, replicate};
 ghost use lib.Seq.{sets};
-ghost use Rattle.report.specs.Payload.{largest};
+ghost use Rattle.report.specs.Payload.{largestPayload};
 ghost use Rattle.joining.specs.Frame.{frameRefusal};
 ghost use Rattle.joining.specs.Joining.{fit, closed, opened, finishes, announce, packet, take-frame};
 ghost use Rattle.joining.specs.Run.{freshSessions, sessionOf, sessionsAfter, answerTo};
-ghost use Rattle.bus.specs.Room.{placeBytes, roomBytes, sessionAt, sessionBytes, sessionsIn, roomOf};
+ghost use Rattle.bus.specs.Room.{placeBytes, roomBytes, sessionIn, sessionBytes, sessionsIn, roomOf};
 use joining::Answer;
 use joining::Frame;
 use joining::Session;
@@ -67,7 +67,7 @@ impl Bus {
         let mut sessions = [none; Bus::SENDERS];
         let mut k = 0;
         while k < Bus::SENDERS {
-            let session = session_at(room, Bus::PLACE * k);
+            let session = session_in(room, Bus::PLACE * k);
             sessions[k] = session;
             k += 1;
         }
@@ -98,7 +98,7 @@ impl Bus {
 // Whether the session in the 87 bytes from `at` on is fit.
 fn fit_in(room: &[u8], at: usize) -> bool
     requires { ⌜ (length (now room) ≡ roomBytes) × (at + placeBytes ≤ roomBytes) ⌝ }
-    ensures { λ r. ⌜ r ≡ fit (sessionAt (drop at (now (room .entry)))) ⌝ }
+    ensures { λ r. ⌜ r ≡ fit (sessionIn (drop at (now (room .entry)))) ⌝ }
 {
     joining::numbers_fit(
         room[at + Bus::SIZE],
@@ -151,8 +151,8 @@ fn fill_in(room: &mut [u8], sessions: [Session; Bus::SENDERS])
 fn advance_in(room: &mut [u8], at: usize, id: u32, data: &[u8]) -> Answer
     requires { ⌜ (length (now room) ≡ roomBytes) × (at + placeBytes ≤ roomBytes) ⌝ }
     requires { ⌜ frameRefusal id (now «data») ≡ 0 ⌝ }
-    ensures { λ r. ⌜ r ≡ take-frame (sessionAt (drop at (now (room .entry)))) id (now («data» .entry)) .answer ⌝ }
-    ensures { λ _. ⌜ now (room .exit) ≡ (take at (now (room .entry)) ++ sessionBytes (take-frame (sessionAt (drop at (now (room .entry)))) id (now («data» .entry)) .session)) ++ drop (at + placeBytes) (now (room .entry)) ⌝ }
+    ensures { λ r. ⌜ r ≡ take-frame (sessionIn (drop at (now (room .entry)))) id (now («data» .entry)) .answer ⌝ }
+    ensures { λ _. ⌜ now (room .exit) ≡ (take at (now (room .entry)) ++ sessionBytes (take-frame (sessionIn (drop at (now (room .entry)))) id (now («data» .entry)) .session)) ++ drop (at + placeBytes) (now (room .entry)) ⌝ }
 {
     let end = at + Bus::PLACE;
     advance_at(&mut room[at..end], id, data)
@@ -161,7 +161,7 @@ fn advance_in(room: &mut [u8], at: usize, id: u32, data: &[u8]) -> Answer
 // Stores a session from `at` on.
 fn put_session(room: &mut [u8], at: usize, s: Session)
     requires { ⌜ (length (now room) ≡ roomBytes) × (at + placeBytes ≤ roomBytes) ⌝ }
-    ensures { λ _. ⌜ (now (room .exit) ≡ sets (now (room .entry)) at (sessionBytes s)) × (length (s .bytes) ≡ largest) ⌝ }
+    ensures { λ _. ⌜ (now (room .exit) ≡ sets (now (room .entry)) at (sessionBytes s)) × (length (s .bytes) ≡ largestPayload) ⌝ }
 {
     let bytes = s.bytes;
     wire::put_all(room, at, &bytes);
@@ -171,9 +171,9 @@ fn put_session(room: &mut [u8], at: usize, s: Session)
 }
 
 // The session that stands in the 87 bytes from `at` on.
-fn session_at(room: &[u8], at: usize) -> Session
+fn session_in(room: &[u8], at: usize) -> Session
     requires { ⌜ (length (now room) ≡ roomBytes) × (at + placeBytes ≤ roomBytes) ⌝ }
-    ensures { λ r. ⌜ r ≡ sessionAt (drop at (now (room .entry))) ⌝ }
+    ensures { λ r. ⌜ r ≡ sessionIn (drop at (now (room .entry))) ⌝ }
 {
     let mut bytes = [255u8; Payload::LARGEST];
     let end = at + Bus::SIZE;
@@ -190,8 +190,8 @@ fn session_at(room: &[u8], at: usize) -> Session
 fn advance_at(place: &mut [u8], id: u32, data: &[u8]) -> Answer
     requires { ⌜ length (now place) ≡ placeBytes ⌝ }
     requires { ⌜ frameRefusal id (now «data») ≡ 0 ⌝ }
-    ensures { λ r. ⌜ r ≡ take-frame (sessionAt (now (place .entry))) id (now («data» .entry)) .answer ⌝ }
-    ensures { λ _. ⌜ now (place .exit) ≡ sessionBytes (take-frame (sessionAt (now (place .entry))) id (now («data» .entry)) .session) ⌝ }
+    ensures { λ r. ⌜ r ≡ take-frame (sessionIn (now (place .entry))) id (now («data» .entry)) .answer ⌝ }
+    ensures { λ _. ⌜ now (place .exit) ≡ sessionBytes (take-frame (sessionIn (now (place .entry))) id (now («data» .entry)) .session) ⌝ }
 {
     if !joining::numbers_fit(place[Bus::SIZE], place[Bus::COUNT], place[Bus::NEXT]) {
         return Answer::Refused(Session::UNFIT);
@@ -206,7 +206,7 @@ fn advance_at(place: &mut [u8], id: u32, data: &[u8]) -> Answer
 // Stores a session's three numbers.
 fn put_numbers(place: &mut [u8], size: u8, count: u8, next: u8)
     requires { ⌜ length (now place) ≡ placeBytes ⌝ }
-    ensures { λ _. ⌜ now (place .exit) ≡ take largest (now (place .entry)) ++ (size ∷ count ∷ next ∷ []) ⌝ }
+    ensures { λ _. ⌜ now (place .exit) ≡ take largestPayload (now (place .entry)) ++ (size ∷ count ∷ next ∷ []) ⌝ }
 {
     place[Bus::SIZE] = size;
     place[Bus::COUNT] = count;
@@ -216,7 +216,7 @@ fn put_numbers(place: &mut [u8], size: u8, count: u8, next: u8)
 // Closes the session; its payload bytes stay.
 fn close_at(place: &mut [u8])
     requires { ⌜ length (now place) ≡ placeBytes ⌝ }
-    ensures { λ _. ⌜ now (place .exit) ≡ sessionBytes (closed (sessionAt (now (place .entry)))) ⌝ }
+    ensures { λ _. ⌜ now (place .exit) ≡ sessionBytes (closed (sessionIn (now (place .entry)))) ⌝ }
 {
     put_numbers(place, 0, 0, 0);
 }
@@ -224,8 +224,8 @@ fn close_at(place: &mut [u8])
 // An announcement of the session's sender.
 fn announced_at(place: &mut [u8], data: &[u8]) -> Answer
     requires { ⌜ length (now place) ≡ placeBytes ⌝ }
-    ensures { λ r. ⌜ r ≡ announce (sessionAt (now (place .entry))) (now («data» .entry)) .answer ⌝ }
-    ensures { λ _. ⌜ now (place .exit) ≡ sessionBytes (announce (sessionAt (now (place .entry))) (now («data» .entry)) .session) ⌝ }
+    ensures { λ r. ⌜ r ≡ announce (sessionIn (now (place .entry))) (now («data» .entry)) .answer ⌝ }
+    ensures { λ _. ⌜ now (place .exit) ≡ sessionBytes (announce (sessionIn (now (place .entry))) (now («data» .entry)) .session) ⌝ }
 {
     let n = joining::announcement_refusal(data);
     if n == 0 {
@@ -241,7 +241,7 @@ fn announced_at(place: &mut [u8], data: &[u8]) -> Answer
 // Opens the session for a payload of this size, replacing what was under way.
 fn open_at(place: &mut [u8], size: u16)
     requires { ⌜ length (now place) ≡ placeBytes ⌝ }
-    requires { ⌜ size ≤ largest ⌝ }
+    requires { ⌜ size ≤ largestPayload ⌝ }
     ensures { λ _. ⌜ now (place .exit) ≡ sessionBytes (opened size) ⌝ }
 {
     clear(place);
@@ -251,7 +251,7 @@ fn open_at(place: &mut [u8], size: u16)
 // Sets the payload bytes to 255.
 fn clear(place: &mut [u8])
     requires { ⌜ length (now place) ≡ placeBytes ⌝ }
-    ensures { λ _. ⌜ take largest (now (place .exit)) ≡ replicate largest 255 ⌝ }
+    ensures { λ _. ⌜ take largestPayload (now (place .exit)) ≡ replicate largestPayload 255 ⌝ }
 {
     let mut i = 0;
     while i < Bus::SIZE {
@@ -263,9 +263,9 @@ fn clear(place: &mut [u8])
 // A data packet of the session's sender.
 fn packet_at(place: &mut [u8], data: &[u8]) -> Answer
     requires { ⌜ length (now place) ≡ placeBytes ⌝ }
-    requires { ⌜ fit (sessionAt (now place)) ≡ true ⌝ }
-    ensures { λ r. ⌜ r ≡ packet (sessionAt (now (place .entry))) (now («data» .entry)) .answer ⌝ }
-    ensures { λ _. ⌜ now (place .exit) ≡ sessionBytes (packet (sessionAt (now (place .entry))) (now («data» .entry)) .session) ⌝ }
+    requires { ⌜ fit (sessionIn (now place)) ≡ true ⌝ }
+    ensures { λ r. ⌜ r ≡ packet (sessionIn (now (place .entry))) (now («data» .entry)) .answer ⌝ }
+    ensures { λ _. ⌜ now (place .exit) ≡ sessionBytes (packet (sessionIn (now (place .entry))) (now («data» .entry)) .session) ⌝ }
 {
     let size = place[Bus::SIZE];
     let count = place[Bus::COUNT];
@@ -288,9 +288,9 @@ fn packet_at(place: &mut [u8], data: &[u8]) -> Answer
 // What the last packet answers; it closes the session.
 fn finish_at(place: &mut [u8], size: u8) -> Answer
     requires { ⌜ length (now place) ≡ placeBytes ⌝ }
-    requires { ⌜ size ≤ largest ⌝ }
-    ensures { λ r. ⌜ r ≡ finishes (take largest (now (place .entry))) size .answer ⌝ }
-    ensures { λ _. ⌜ now (place .exit) ≡ sessionBytes (finishes (take largest (now (place .entry))) size .session) ⌝ }
+    requires { ⌜ size ≤ largestPayload ⌝ }
+    ensures { λ r. ⌜ r ≡ finishes (take largestPayload (now (place .entry))) size .answer ⌝ }
+    ensures { λ _. ⌜ now (place .exit) ≡ sessionBytes (finishes (take largestPayload (now (place .entry))) size .session) ⌝ }
 {
     let end = size as usize;
     let answer = joining::answered(&place[..end]);

@@ -35,7 +35,7 @@ struct Reader {
 fn main() {
     let mut word = [0u8; Input::LONGEST];
     let size = os::arg(1, &mut word);
-    let ours = lines::equal(wire::front(&word, size), b"ours");
+    let ours = lines::same(wire::front(&word, size), b"ours");
     let mut name = [0u8; Input::LONGEST];
     let named = os::arg(2, &mut name);
     run(ours, wire::front(&name, named));
@@ -104,7 +104,7 @@ impl Reader {
 
     // Writes a line's item, if it has one that is asked for. A line that is too long is broken.
     fn take(self, found: Input, line: &[u8], ours: bool, name: &[u8], bus: &mut [u8]) -> Reader {
-        if found.cut() {
+        if found.is_cut() {
             return self;
         }
         if !found.fits() {
@@ -123,7 +123,7 @@ impl Reader {
 
     // Counts a line of a sort, and names it where it is broken.
     fn count(mut self, number: u64, sort: Sort) -> Reader {
-        told(number, sort);
+        say_sort(number, sort);
         let counts = counted(self.counts, sort);
         self.counts = counts;
         self
@@ -141,7 +141,7 @@ impl Reader {
         if self.told {
             return self;
         }
-        if !lines::equal(wire::front(bus, first), name) {
+        if !lines::same(wire::front(bus, first), name) {
             second(number, name);
             self.told = true;
         }
@@ -181,7 +181,7 @@ fn say(text: &[u8]) {
 }
 
 // Names a line that can't be read.
-fn told(number: u64, sort: Sort) {
+fn say_sort(number: u64, sort: Sort) {
     if let Sort::Broken = sort {
         say(b"line ");
         io::print_decimal(STDERR_FILENO, number);

@@ -13,14 +13,15 @@ use Rattle.joining.specs.Frame.{frameRefusal}
 use Rattle.dump.proofs.Texts.{shown-most}
 use Rattle.lines.specs.declared.Number.{Number}
 use Rattle.lines.specs.declared.Run.the-variants.{Until}
-use Rattle.lines.specs.Words.{run, wordAt}
+use Rattle.lines.specs.Words.{runLength, wordAt}
 use Rattle.dump.specs.Dump.{isLog, isDrop, loggedIn, shownIn, frameIn}
 use Rattle.capture.specs.declared.Sort.{Sort}
 use Rattle.capture.specs.declared.Sort.the-variants as sort
-use Rattle.capture.specs.Capture.{idSize, dataText, idIn, hexIn, bytesIn, sortOfFrame, isForeign, is, placed, isElsewhere, frameFor, wanted, sortFor, sortIn, itemOf, itemsFor, itemsIn}
+use Rattle.capture.specs.Capture.{idSize, dataText, idIn, hexIn, bytesIn, sortOfFrame, isForeign, is, placed, isElsewhere, frameFor, wanted, sortFor, sortIn, itemOf, itemsOfLine}
+use Rattle.capture.specs.Inner.{itemsFor}
 
 -- The identifier's digits stand before the first #.
-pub size : (w : List ℕ) {n : ℕ} → n ≡ run (Until 35) w → n ≡ idSize w
+pub size : (w : List ℕ) {n : ℕ} → n ≡ runLength (Until 35) w → n ≡ idSize w
 unfolding idSize
 size w e = e
 
@@ -148,12 +149,12 @@ module _ (ours : Bool) (name line t : List ℕ) (first : t ≡ wordAt 0 line) wh
   unfolding sortIn
   line-frame some h = rw (← first, ne-eqb (length t) 0 some, h)
 
-  pub line-items : (length t ≡ 0 → ⊥) → isDrop line ≡ false → itemsFor ours (isElsewhere name line) (frameIn line) ≡ itemsIn ours name line
-  unfolding itemsFor itemsIn
+  pub line-items : (length t ≡ 0 → ⊥) → isDrop line ≡ false → itemsFor ours (isElsewhere name line) (frameIn line) ≡ itemsOfLine ours name line
+  unfolding itemsFor itemsOfLine
   line-items some h = rw (line-frame some h)
 
-pub none-written : (ours : Bool) (name line : List ℕ) {s : Sort} → s ≡ sortIn ours name line → itemOf s (frameIn line) ≡ [] → itemsIn ours name line ≡ []
-unfolding itemsIn
+pub none-written : (ours : Bool) (name line : List ℕ) {s : Sort} → s ≡ sortIn ours name line → itemOf s (frameIn line) ≡ [] → itemsOfLine ours name line ≡ []
+unfolding itemsOfLine
 none-written ours name line e h = rw (← e) h
 
 -- A frame's text is the log's third word, or what is made of a line on a screen.

@@ -11,20 +11,21 @@ use Rattle.items.specs.Run.{runBytes, readItems}
 use Rattle.items.proofs.Runs.{AllFit, reads-back}
 use Rattle.lines.specs.Words.{wordAt}
 use Rattle.dump.specs.Dump.{isDrop, frameIn}
-use Rattle.lines.specs.Numbers.{unknown, numberIn}
+use Rattle.lines.specs.Numbers.{noNumber, numberIn}
 use Rattle.lines.proofs.Numbers.{number-most}
 use Rattle.capture.specs.declared.Sort.{Sort}
 use Rattle.capture.specs.declared.Sort.the-variants as sort
-use Rattle.capture.specs.Capture.{idSize, rawText, isMarked, dataText, idIn, sortOfFrame, is, placed, isElsewhere, isForeign, frameFor, wanted, sortFor, sortIn, itemIn, itemOf, itemsFor, itemsIn}
+use Rattle.capture.specs.Capture.{idSize, rawText, isMarked, dataText, idIn, sortOfFrame, is, placed, isElsewhere, isForeign, frameFor, wanted, sortFor, sortIn, itemOfWord, itemOf, itemsOfLine}
 use Rattle.capture.proofs.Texts.{bytes-count}
 use Rattle.capture.proofs.Frames.{sixteen, never-marked}
+use Rattle.capture.specs.Inner.{itemsFor}
 
 id-most : (w : List ℕ) → idIn w .value ≤ 1073741823
 unfolding idIn
 id-most w = go (ltb (idSize w) (length w)) (eqb (idSize w) 3) (eqb (idSize w) 8)
   where
     go : (a b c : Bool)
-        → cond a (cond b (numberIn 16 2047 (take (idSize w) w)) (cond c (numberIn 16 1073741823 (take (idSize w) w)) unknown)) unknown .value ≤ 1073741823
+        → cond a (cond b (numberIn 16 2047 (take (idSize w) w)) (cond c (numberIn 16 1073741823 (take (idSize w) w)) noNumber)) noNumber .value ≤ 1073741823
     go true true c = omega (arith, number-most 16 2047 (take (idSize w) w))
     go true false true = number-most 16 1073741823 (take (idSize w) w)
     go true false false = omega arith
@@ -35,7 +36,7 @@ written : (ours elsewhere : Bool) (w : List ℕ) → AllFit (itemsFor ours elsew
 unfolding itemsFor sortFor wanted frameFor
 written ours elsewhere w = go (placed elsewhere (sortOfFrame w)) refl (isForeign ours w) (isMarked (rawText w))
   where
-    fits : length (dataText w) ≡ 16 → AllFit (itemIn w ∷ [])
+    fits : length (dataText w) ≡ 16 → AllFit (itemOfWord w ∷ [])
     fits h = ((omega (arith, id-most w), bytes-count 8 (dataText w) h), tt)
 
     go : (v : Sort) → v ≡ placed elsewhere (sortOfFrame w) → (a b : Bool)
@@ -55,8 +56,8 @@ written ours elsewhere w = go (placed elsewhere (sortOfFrame w)) refl (isForeign
     go sort.Nothing e a b = tt
     go sort.Broken e a b = tt
 
-all-fit : (ours : Bool) (name line : List ℕ) → AllFit (itemsIn ours name line)
-unfolding itemsIn sortIn itemsFor
+all-fit : (ours : Bool) (name line : List ℕ) → AllFit (itemsOfLine ours name line)
+unfolding itemsOfLine sortIn itemsFor
 all-fit ours name line = go (eqb (length (wordAt 0 line)) 0) (isDrop line)
   where
     go : (a b : Bool) → AllFit (itemOf (cond a sort.Nothing (cond b sort.Dropped (sortFor ours (isElsewhere name line) (frameIn line)))) (frameIn line))
@@ -65,5 +66,5 @@ all-fit ours name line = go (eqb (length (wordAt 0 line)) 0) (isDrop line)
     go false false = written ours (isElsewhere name line) (frameIn line)
 
 -- The item that a log reads in what is written for a line is the one frame that the line holds, with its identifier and data; none where it holds none.
-pub line-reads-back : (ours : Bool) (name line : List ℕ) → readItems (runBytes (itemsIn ours name line)) ≡ itemsIn ours name line
-line-reads-back ours name line = reads-back (itemsIn ours name line) (all-fit ours name line)
+pub line-reads-back : (ours : Bool) (name line : List ℕ) → readItems (runBytes (itemsOfLine ours name line)) ≡ itemsOfLine ours name line
+line-reads-back ours name line = reads-back (itemsOfLine ours name line) (all-fit ours name line)

@@ -13,16 +13,16 @@ use lib.Seq.{sets, drop-drop, sets-eq}
 use Rattle.text.proofs.Decimal.{below-or}
 use Rattle.lines.specs.declared.Number.{Number}
 use Rattle.lines.specs.declared.Run.the-variants.{Until}
-use Rattle.lines.specs.Words.{run}
-use Rattle.lines.specs.Numbers.{unknown, numberIn}
+use Rattle.lines.specs.Words.{runLength}
+use Rattle.lines.specs.Numbers.{noNumber, numberIn}
 use Rattle.lines.proofs.Words.{all-behind}
 use Rattle.lines.proofs.Numbers.{number-most}
 use Rattle.capture.specs.Capture.{idSize, rawText, idIn, hexIn, bytesIn}
 
 -- ---- identifier and data
 
-module _ (w : List ℕ) (n : ℕ) (size : n ≡ run (Until 35) w) where
-  pub id-open : length w ≤ n → unknown ≡ idIn w
+module _ (w : List ℕ) (n : ℕ) (size : n ≡ runLength (Until 35) w) where
+  pub id-open : length w ≤ n → noNumber ≡ idIn w
   unfolding idIn idSize
   id-open h = rw (← size, le-ltb n (length w) h)
 
@@ -34,7 +34,7 @@ module _ (w : List ℕ) (n : ℕ) (size : n ≡ run (Until 35) w) where
   unfolding idIn idSize
   id-long h ne e = rw (← size, lt-ltb n (length w) h, ne-eqb n 3 ne, eq-eqb n 8 e)
 
-  pub id-other : n < length w → (n ≡ 3 → ⊥) → (n ≡ 8 → ⊥) → unknown ≡ idIn w
+  pub id-other : n < length w → (n ≡ 3 → ⊥) → (n ≡ 8 → ⊥) → noNumber ≡ idIn w
   unfolding idIn idSize
   id-other h ne ne′ = rw (← size, lt-ltb n (length w) h, ne-eqb n 3 ne, ne-eqb n 8 ne′)
 

@@ -1,5 +1,5 @@
 -- A captured frame in the log's form, ID#DATA, and what is written for the line that holds it.
-use Prim.Native.Nat.{ℕ, _+_, _-_}
+use Prim.Native.Nat.{ℕ, _+_}
 use mathlib.Core.List.{List, [], _∷_}
 use mathlib.Core.Bool.{Bool, true, false, cond, not, _&&_}
 use lib.ListN.{length, getD, take, drop}
@@ -9,8 +9,8 @@ use Rattle.items.specs.declared.Item.the-variants as item
 use Rattle.items.specs.Run.{Meant}
 use Rattle.lines.specs.declared.Number.{Number}
 use Rattle.lines.specs.declared.Run.the-variants.{Until}
-use Rattle.lines.specs.Words.{run, wordAt}
-use Rattle.lines.specs.Numbers.{unknown, numberIn}
+use Rattle.lines.specs.Words.{runLength, wordAt}
+use Rattle.lines.specs.Numbers.{noNumber, numberIn}
 use Rattle.joining.specs.Frame.{frameRefusal}
 use Rattle.dump.specs.Dump.{interfaceIn, isDrop, frameIn}
 use Rattle.capture.specs.declared.Sort.{Sort}
@@ -18,7 +18,7 @@ use Rattle.capture.specs.declared.Sort.the-variants as sort
 
 -- The identifier's digits stand before the first #, the data behind it.
 unfoldable pub idSize : List ℕ → ℕ
-idSize w = run (Until 35) w
+idSize w = runLength (Until 35) w
 
 unfoldable pub rawText : List ℕ → List ℕ
 rawText w = drop (idSize w + 1) w
@@ -37,8 +37,8 @@ idIn w =
     cond (ltb (idSize w) (length w))
     (cond (eqb (idSize w) 3) (numberIn 16 2047 (take (idSize w) w))
     (cond (eqb (idSize w) 8) (numberIn 16 1073741823 (take (idSize w) w))
-    unknown))
-    unknown
+    noNumber))
+    noNumber
 
 -- Data are bytes of two hexadecimal digits each.
 unfoldable pub hexIn : List ℕ → Bool
@@ -113,13 +113,13 @@ sortIn ours name line =
     (sortFor ours (isElsewhere name line) (frameIn line)))
 
 -- The log item of a frame.
-abbrev pub itemIn : List ℕ → Meant
-itemIn w = record { item = item.Frame (idIn w .value); data-bytes = bytesIn (dataText w) }
+abbrev pub itemOfWord : List ℕ → Meant
+itemOfWord w = record { item = item.Frame (idIn w .value); data-bytes = bytesIn (dataText w) }
 
 -- What is written: the item of a frame that a log holds, and nothing else.
 abbrev pub itemOf : Sort → List ℕ → List Meant
-itemOf sort.Frame w = itemIn w ∷ []
-itemOf sort.Marked w = itemIn w ∷ []
+itemOf sort.Frame w = itemOfWord w ∷ []
+itemOf sort.Marked w = itemOfWord w ∷ []
 itemOf sort.Foreign w = []
 itemOf sort.Elsewhere w = []
 itemOf sort.Short w = []
@@ -131,8 +131,5 @@ itemOf sort.Dropped w = []
 itemOf sort.Nothing w = []
 itemOf sort.Broken w = []
 
-unfoldable pub itemsFor : Bool → Bool → List ℕ → List Meant
-itemsFor ours elsewhere w = itemOf (sortFor ours elsewhere w) w
-
-unfoldable pub itemsIn : Bool → List ℕ → List ℕ → List Meant
-itemsIn ours name line = itemOf (sortIn ours name line) (frameIn line)
+unfoldable pub itemsOfLine : Bool → List ℕ → List ℕ → List Meant
+itemsOfLine ours name line = itemOf (sortIn ours name line) (frameIn line)

@@ -7,7 +7,8 @@ ghost use Rattle.joining.specs.Frame.{frameRefusal};
 ghost use lib.ListN.{length, replicate};
 ghost use lib.Seq.{sets};
 ghost use Rattle.items.specs.Run.{runBytes};
-ghost use Rattle.capture.specs.Capture.{hexIn, bytesIn, rawText, isMarked, dataText, idIn, sortOfFrame, isElsewhere, placed, isForeign, frameFor, sortFor, sortIn, itemOf, itemsFor, itemsIn};
+ghost use Rattle.capture.specs.Capture.{hexIn, bytesIn, rawText, isMarked, dataText, idIn, sortOfFrame, isElsewhere, placed, isForeign, frameFor, sortFor, sortIn, itemOf, itemsOfLine};
+ghost use Rattle.capture.specs.Inner.{itemsFor};
 use dump::Text;
 use items::Item;
 use lines::Number;
@@ -101,7 +102,7 @@ impl Sort {
 // past the room's end is not stored.
 pub fn write(line: &[u8], ours: bool, name: &[u8], room: &mut [u8]) -> Sort
     ensures { λ r. ⌜ r ≡ sortIn ours (now (name .entry)) (now (line .entry)) ⌝ }
-    ensures { λ _. ⌜ now (room .exit) ≡ sets (now (room .entry)) 0 (runBytes (itemsIn ours (now (name .entry)) (now (line .entry)))) ⌝ }
+    ensures { λ _. ⌜ now (room .exit) ≡ sets (now (room .entry)) 0 (runBytes (itemsOfLine ours (now (name .entry)) (now (line .entry)))) ⌝ }
 {
     let first = lines::word(line, 0);
     if first.len() == 0 {
@@ -126,7 +127,7 @@ fn is_elsewhere(name: &[u8], line: &[u8]) -> bool
     if name.len() == 0 {
         return false;
     }
-    !lines::equal(name, dump::interface(line))
+    !lines::same(name, dump::interface(line))
 }
 
 // The same for a frame in the log's form.
@@ -148,7 +149,7 @@ fn put_frame(word: &[u8], ours: bool, room: &mut [u8]) -> Sort
     ensures { λ _. ⌜ now (room .exit) ≡ sets (now (room .entry)) 0 (runBytes (itemOf (frameFor ours (now (word .entry))) (now (word .entry)))) ⌝ }
 {
     let id = identifier(word);
-    let bytes = eight(digits(word));
+    let bytes = eight_bytes(digits(word));
     if foreign(ours, id.value, &bytes) {
         return Sort::Foreign;
     }
@@ -254,7 +255,7 @@ fn hexadecimal(s: &[u8]) -> bool
 }
 
 // The first eight bytes that pairs of digits stand for.
-fn eight(s: &[u8]) -> [u8; 8]
+fn eight_bytes(s: &[u8]) -> [u8; 8]
     ensures { λ r. ⌜ r ≡ sets (replicate 8 0) 0 (bytesIn (now (s .entry))) ⌝ }
 {
     let mut bytes = [0u8; 8];

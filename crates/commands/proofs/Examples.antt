@@ -6,13 +6,13 @@ use Prim.Native.Nat.{ℕ}
 use Rattle.wire.specs.Bytes.{bytes, head, field}
 use Rattle.items.specs.Items.{signed16, unsigned16, settingBytes}
 use Rattle.items.specs.Run.{runBytes}
-use Rattle.lines.specs.Words.{run, trimmed, behindWord, tailAt, wordAt}
+use Rattle.lines.specs.Words.{runLength, trimmed, behindWord, tailAt, wordAt}
 use Rattle.lines.specs.Numbers.{digitOf, withDigit, numberOn, numberIn, negated, shortIn}
 use Rattle.values.specs.Range.{inRange}
 use Rattle.report.specs.Payload.{payload, noteFits, fault}
 use Rattle.bench.specs.Bench.{announcement, packetData, packetsFrom, frames, frameBytes, sendRefusal}
-use Rattle.commands.specs.Lines.{kindOf, valueAt, weightAt, noMore, firstFalse, windowOf, questionOf, oneSlot, showOf, reportOf, commandOf, noteIn}
-use Rattle.commands.specs.Items.{refusal, reportItems, itemsOf}
+use Rattle.commands.specs.Lines.{kindOf, valueAt, weightAt, noMore, firstFalse, windowLine, questionLine, oneSlot, showLine, reportLine, commandOf, noteIn}
+use Rattle.commands.specs.Items.{reportRefusal, reportItems, itemsOf}
 
 -- The items of a line.
 abbrev items : List ℕ → List ℕ
@@ -20,25 +20,25 @@ items line = runBytes (itemsOf (commandOf line) (noteIn line))
 
 -- `window 3`.
 pub window-three : items (119 ∷ 105 ∷ 110 ∷ 100 ∷ 111 ∷ 119 ∷ 32 ∷ 51 ∷ []) ≡ 16 ∷ 2 ∷ 0 ∷ 3 ∷ 0 ∷ []
-unfolding commandOf kindOf wordAt tailAt trimmed behindWord run valueAt numberIn numberOn withDigit digitOf noMore firstFalse field head bytes runBytes windowOf
+unfolding commandOf kindOf wordAt tailAt trimmed behindWord runLength valueAt numberIn numberOn withDigit digitOf noMore firstFalse field head bytes runBytes windowLine
 window-three = refl
 
 -- `question 0 2 -1 2`: -1 is held as FFFF.
 pub question-less : items (113 ∷ 117 ∷ 101 ∷ 115 ∷ 116 ∷ 105 ∷ 111 ∷ 110 ∷ 32 ∷ 48 ∷ 32 ∷ 50 ∷ 32 ∷ 45 ∷ 49 ∷ 32 ∷ 50 ∷ []) ≡ 17 ∷ 6 ∷ 0 ∷ 0 ∷ 2 ∷ 255 ∷ 255 ∷ 2 ∷ 0 ∷ []
-unfolding commandOf kindOf wordAt tailAt trimmed behindWord run valueAt numberIn numberOn withDigit digitOf noMore firstFalse field head bytes runBytes questionOf weightAt shortIn negated signed16 unsigned16 settingBytes
+unfolding commandOf kindOf wordAt tailAt trimmed behindWord runLength valueAt numberIn numberOn withDigit digitOf noMore firstFalse field head bytes runBytes questionLine weightAt shortIn negated signed16 unsigned16 settingBytes
 question-less = refl
 
 -- `show 40`: a slot that the cart refuses is written.
 pub show-forty : items (115 ∷ 104 ∷ 111 ∷ 119 ∷ 32 ∷ 52 ∷ 48 ∷ []) ≡ 20 ∷ 1 ∷ 0 ∷ 40 ∷ []
-unfolding commandOf kindOf wordAt tailAt trimmed behindWord run valueAt numberIn numberOn withDigit digitOf noMore firstFalse field head bytes runBytes showOf oneSlot
+unfolding commandOf kindOf wordAt tailAt trimmed behindWord runLength valueAt numberIn numberOn withDigit digitOf noMore firstFalse field head bytes runBytes showLine oneSlot
 show-forty = refl
 
 -- `report 5 100 200 7`: the frames of P1.
 pub report-first : items (114 ∷ 101 ∷ 112 ∷ 111 ∷ 114 ∷ 116 ∷ 32 ∷ 53 ∷ 32 ∷ 49 ∷ 48 ∷ 48 ∷ 32 ∷ 50 ∷ 48 ∷ 48 ∷ 32 ∷ 55 ∷ []) ≡ 18 ∷ 12 ∷ 0 ∷ 5 ∷ 255 ∷ 236 ∷ 28 ∷ 32 ∷ 17 ∷ 0 ∷ 3 ∷ 255 ∷ 20 ∷ 255 ∷ 0 ∷ 18 ∷ 12 ∷ 0 ∷ 5 ∷ 255 ∷ 235 ∷ 28 ∷ 1 ∷ 1 ∷ 2 ∷ 0 ∷ 100 ∷ 0 ∷ 2 ∷ 2 ∷ 18 ∷ 12 ∷ 0 ∷ 5 ∷ 255 ∷ 235 ∷ 28 ∷ 2 ∷ 0 ∷ 200 ∷ 0 ∷ 3 ∷ 4 ∷ 0 ∷ 7 ∷ 18 ∷ 12 ∷ 0 ∷ 5 ∷ 255 ∷ 235 ∷ 28 ∷ 3 ∷ 0 ∷ 0 ∷ 0 ∷ 255 ∷ 255 ∷ 255 ∷ 255 ∷ []
-unfolding commandOf kindOf wordAt tailAt trimmed behindWord run valueAt numberIn numberOn withDigit digitOf noMore firstFalse field head bytes runBytes reportOf refusal reportItems frames packetsFrom frameBytes sendRefusal announcement packetData payload inRange noteFits fault
+unfolding commandOf kindOf wordAt tailAt trimmed behindWord runLength valueAt numberIn numberOn withDigit digitOf noMore firstFalse field head bytes runBytes reportLine reportRefusal reportItems frames packetsFrom frameBytes sendRefusal announcement packetData payload inRange noteFits fault
 report-first = refl
 
 -- `window 65536`: nothing is written.
 pub wrong-line : items (119 ∷ 105 ∷ 110 ∷ 100 ∷ 111 ∷ 119 ∷ 32 ∷ 54 ∷ 53 ∷ 53 ∷ 51 ∷ 54 ∷ []) ≡ []
-unfolding commandOf kindOf wordAt tailAt trimmed behindWord run valueAt numberIn numberOn withDigit digitOf noMore firstFalse field head bytes runBytes windowOf
+unfolding commandOf kindOf wordAt tailAt trimmed behindWord runLength valueAt numberIn numberOn withDigit digitOf noMore firstFalse field head bytes runBytes windowLine
 wrong-line = refl

@@ -24,27 +24,27 @@ use Rattle.commands.specs.declared.Kind.the-variants as kind
 use Rattle.commands.specs.declared.Sending.{Sending}
 use Rattle.commands.specs.declared.Command.{Command}
 use Rattle.commands.specs.declared.Command.the-variants as command
-use Rattle.commands.specs.Lines.{kindOf, firstFalse, noMore, valueAt, weightAt, unless, windowOf, questionOf, oneSlot, removeOf, showOf, reportKind, reportOf, byKind, commandOf, noteIn}
-use Rattle.commands.specs.Items.{frameItem, refusal, reportItems, itemsOf}
+use Rattle.commands.specs.Lines.{kindOf, firstFalse, noMore, valueAt, weightAt, unless, windowLine, questionLine, oneSlot, removeLine, showLine, reportKind, reportLine, byKind, commandOf, noteIn}
+use Rattle.commands.specs.Items.{itemOfFrame, reportRefusal, reportItems, itemsOf}
 use Rattle.commands.proofs.Reading.{value-most, weight-most}
 use Rattle.commands.proofs.Writing.{taken-facts}
 
 -- ---- a report's frames
 
-packets-fit : (sender : ℕ) (p : List ℕ) (i n : ℕ) → sender ≤ 253 → AllFit (map frameItem (packetsFrom sender p i n))
+packets-fit : (sender : ℕ) (p : List ℕ) (i n : ℕ) → sender ≤ 253 → AllFit (map itemOfFrame (packetsFrom sender p i n))
 unfolding packetsFrom
 packets-fit sender p i zero h = tt
 packets-fit sender p i (suc n) h = ((omega arith, length-data p i), packets-fit sender p (i + 1) n h)
 
-frames-fit : (sender : ℕ) (p : List ℕ) → sender ≤ 253 → AllFit (map frameItem (frames sender p))
+frames-fit : (sender : ℕ) (p : List ℕ) → sender ≤ 253 → AllFit (map itemOfFrame (frames sender p))
 unfolding frames
 frames-fit sender p h = ((omega arith, length-announcement _), packets-fit sender p 1 (packets _) h)
 
 report-fits : (s : Sending) (note : List ℕ) → AllFit (reportItems s note)
-unfolding reportItems refusal
-report-fits s note = go (eqb (refusal s note) 0) refl
+unfolding reportItems reportRefusal
+report-fits s note = go (eqb (reportRefusal s note) 0) refl
   where
-    go : (t : Bool) → eqb (refusal s note) 0 ≡ t → AllFit (cond t (map frameItem (frames (s .sender) (payload (s .report) (given (s .noted) note)))) [])
+    go : (t : Bool) → eqb (reportRefusal s note) 0 ≡ t → AllFit (cond t (map itemOfFrame (frames (s .sender) (payload (s .report) (given (s .noted) note)))) [])
     go true e = frames-fit (s .sender) _ (taken-facts 156 (s .sender) (s .report) (given (s .noted) note) (eqb-true _ 0 e) .0)
     go false e = tt
 
@@ -65,28 +65,28 @@ module _ (line note : List ℕ) where
   abbrev FitsAll : Command → Type 0
   FitsAll c = AllFit (itemsOf c note)
 
-  window-fits : FitsAll (windowOf line)
-  unfolding windowOf
+  window-fits : FitsAll (windowLine line)
+  unfolding windowLine
   window-fits = item-fits (firstFalse 1 (valueAt 1 65535 line .known ∷ noMore 2 line ∷ true ∷ true ∷ true ∷ [])) kind.Window (item.Window (valueAt 1 65535 line .value)) note (omega (arith, value-most 1 65535 line (valueAt 1 65535 line) refl), refl)
 
-  question-fits : FitsAll (questionOf line)
-  unfolding questionOf
+  question-fits : FitsAll (questionLine line)
+  unfolding questionLine
   question-fits =
       let a = weightAt 3 line .value in
       let b = weightAt 4 line .value in
       item-fits (firstFalse 1 (valueAt 1 255 line .known ∷ valueAt 2 255 line .known ∷ weightAt 3 line .known ∷ weightAt 4 line .known ∷ noMore 5 line ∷ [])) kind.Question (item.Set (record { slot = valueAt 1 255 line .value; k = valueAt 2 255 line .value; loss = signed16 a; shake = signed16 b })) note
       (signed-fits a (omega (arith, weight-most 3 line (weightAt 3 line) refl)), signed-fits b (omega (arith, weight-most 4 line (weightAt 4 line) refl)), refl)
 
-  remove-fits : FitsAll (removeOf line)
-  unfolding removeOf
+  remove-fits : FitsAll (removeLine line)
+  unfolding removeLine
   remove-fits = item-fits (oneSlot line .wrong) kind.Remove (item.Remove (oneSlot line .slot)) note refl
 
-  show-fits : FitsAll (showOf line)
-  unfolding showOf
+  show-fits : FitsAll (showLine line)
+  unfolding showLine
   show-fits = item-fits (oneSlot line .wrong) kind.Show (item.Show (oneSlot line .slot)) note refl
 
-  report-line-fits : (always : Bool) → FitsAll (reportOf always line)
-  unfolding reportOf
+  report-line-fits : (always : Bool) → FitsAll (reportLine always line)
+  unfolding reportLine
   report-line-fits always =
       let s : Sending =
       record {

@@ -15,7 +15,7 @@ use Rattle.commands.specs.declared.Kind.the-variants as kind
 use Rattle.commands.specs.declared.Slot.{Slot}
 use Rattle.commands.specs.declared.Command.{Command}
 use Rattle.commands.specs.declared.Command.the-variants as command
-use Rattle.commands.specs.Lines.{kindOf, firstFalse, valueAt, weightAt, noMore, unless, windowOf, questionOf, oneSlot, removeOf, showOf, reportKind, reportOf, byKind, commandOf}
+use Rattle.commands.specs.Lines.{kindOf, firstFalse, valueAt, weightAt, noMore, unless, windowLine, questionLine, oneSlot, removeLine, showLine, reportKind, reportLine, byKind, commandOf}
 
 -- ---- which test fails first
 
@@ -57,12 +57,12 @@ right w k c h = rw (eq-eqb w 0 h)
 
 module _ (line : List ℕ) (v : Number) (m : Bool) (w : ℕ) (one : v ≡ valueAt 1 65535 line) (end : m ≡ noMore 2 line)
     (first : w ≡ firstFalse 1 (v .known ∷ m ∷ true ∷ true ∷ true ∷ [])) where
-  pub window-wrong : (w ≡ 0 → ⊥) → command.Wrong (record { kind = kind.Window; word = w }) ≡ windowOf line
-  unfolding windowOf
+  pub window-wrong : (w ≡ 0 → ⊥) → command.Wrong (record { kind = kind.Window; word = w }) ≡ windowLine line
+  unfolding windowLine
   window-wrong h = rw (← one, ← end, ← first) (wrong w kind.Window (command.Item (item.Window (v .value))) h)
 
-  pub window-right : w ≡ 0 → command.Item (item.Window (v .value)) ≡ windowOf line
-  unfolding windowOf
+  pub window-right : w ≡ 0 → command.Item (item.Window (v .value)) ≡ windowLine line
+  unfolding windowLine
   window-right h = rw (← one, ← end, ← first) (right w kind.Window (command.Item (item.Window (v .value))) h)
 
 pub slot-is : (line : List ℕ) (v : Number) (m : Bool) (w : ℕ) → v ≡ valueAt 1 255 line → m ≡ noMore 2 line
@@ -71,20 +71,20 @@ unfolding oneSlot
 slot-is line v m w one end first = rw (← one, ← end, ← first)
 
 module _ (line : List ℕ) (s : Slot) (e : s ≡ oneSlot line) where
-  pub remove-wrong : (s .wrong ≡ 0 → ⊥) → command.Wrong (record { kind = kind.Remove; word = s .wrong }) ≡ removeOf line
-  unfolding removeOf
+  pub remove-wrong : (s .wrong ≡ 0 → ⊥) → command.Wrong (record { kind = kind.Remove; word = s .wrong }) ≡ removeLine line
+  unfolding removeLine
   remove-wrong h = rw (← e) (wrong (s .wrong) kind.Remove (command.Item (item.Remove (s .slot))) h)
 
-  pub remove-right : s .wrong ≡ 0 → command.Item (item.Remove (s .slot)) ≡ removeOf line
-  unfolding removeOf
+  pub remove-right : s .wrong ≡ 0 → command.Item (item.Remove (s .slot)) ≡ removeLine line
+  unfolding removeLine
   remove-right h = rw (← e) (right (s .wrong) kind.Remove (command.Item (item.Remove (s .slot))) h)
 
-  pub show-wrong : (s .wrong ≡ 0 → ⊥) → command.Wrong (record { kind = kind.Show; word = s .wrong }) ≡ showOf line
-  unfolding showOf
+  pub show-wrong : (s .wrong ≡ 0 → ⊥) → command.Wrong (record { kind = kind.Show; word = s .wrong }) ≡ showLine line
+  unfolding showLine
   show-wrong h = rw (← e) (wrong (s .wrong) kind.Show (command.Item (item.Show (s .slot))) h)
 
-  pub show-right : s .wrong ≡ 0 → command.Item (item.Show (s .slot)) ≡ showOf line
-  unfolding showOf
+  pub show-right : s .wrong ≡ 0 → command.Item (item.Show (s .slot)) ≡ showLine line
+  unfolding showLine
   show-right h = rw (← e) (right (s .wrong) kind.Show (command.Item (item.Show (s .slot))) h)
 
 module _ (line : List ℕ) (s k a b : Number) (m : Bool) (w : ℕ) (slot : s ≡ valueAt 1 255 line) (most : k ≡ valueAt 2 255 line)
@@ -93,12 +93,12 @@ module _ (line : List ℕ) (s k a b : Number) (m : Bool) (w : ℕ) (slot : s ≡
   abbrev asked : Command
   asked = command.Item (item.Set (record { slot = s .value; k = k .value; loss = signed16 (a .value); shake = signed16 (b .value) }))
 
-  pub question-wrong : (w ≡ 0 → ⊥) → command.Wrong (record { kind = kind.Question; word = w }) ≡ questionOf line
-  unfolding questionOf
+  pub question-wrong : (w ≡ 0 → ⊥) → command.Wrong (record { kind = kind.Question; word = w }) ≡ questionLine line
+  unfolding questionLine
   question-wrong h = rw (← slot, ← most, ← loss, ← shake, ← end, ← first) (wrong w kind.Question asked h)
 
-  pub question-right : w ≡ 0 → asked ≡ questionOf line
-  unfolding questionOf
+  pub question-right : w ≡ 0 → asked ≡ questionLine line
+  unfolding questionLine
   question-right h = rw (← slot, ← most, ← loss, ← shake, ← end, ← first) (right w kind.Question asked h)
 
 module _ (line : List ℕ) (always : Bool) (s l k n : Number) (w : ℕ) (sender : s ≡ valueAt 1 255 line) (loss : l ≡ valueAt 2 65535 line)
@@ -112,12 +112,12 @@ module _ (line : List ℕ) (always : Bool) (s l k n : Number) (w : ℕ) (sender 
         noted = noted;
       })
 
-  pub report-wrong : {k : Kind} → k ≡ reportKind always → (w ≡ 0 → ⊥) → command.Wrong (record { kind = k; word = w }) ≡ reportOf always line
-  unfolding reportOf
+  pub report-wrong : {k : Kind} → k ≡ reportKind always → (w ≡ 0 → ⊥) → command.Wrong (record { kind = k; word = w }) ≡ reportLine always line
+  unfolding reportLine
   report-wrong e h = rw (e, ← sender, ← loss, ← shake, ← own, ← first) (wrong w (reportKind always) (sent (always || not (noMore 5 line))) h)
 
-  pub report-right : (noted : Bool) → noted ≡ (always || not (noMore 5 line)) → w ≡ 0 → sent noted ≡ reportOf always line
-  unfolding reportOf
+  pub report-right : (noted : Bool) → noted ≡ (always || not (noMore 5 line)) → w ≡ 0 → sent noted ≡ reportLine always line
+  unfolding reportLine
   report-right noted e h =
       rw (← sender, ← loss, ← shake, ← own, ← first, ← e) (right w (reportKind always) (sent noted) h)
 

@@ -29,13 +29,13 @@ use Rattle.commands.specs.declared.Sending.{Sending}
 use Rattle.commands.specs.declared.Command.{Command}
 use Rattle.commands.specs.declared.Answer.{Answer}
 use Rattle.commands.specs.declared.Answer.the-variants as answer
-use Rattle.commands.specs.Items.{frameItem, refusal, reportItems, reportAnswer, itemsOf, answerOf}
+use Rattle.commands.specs.Items.{itemOfFrame, reportRefusal, reportItems, reportAnswer, itemsOf, answerOf}
 
 -- ---- one item more
 
 -- The items of the first n frames in bytes that hold them in a row.
 abbrev pub cut : ℕ → List ℕ → List ℕ
-cut n bs = runBytes (map frameItem (framesIn n bs))
+cut n bs = runBytes (map itemOfFrame (framesIn n bs))
 
 -- The item of the frame at a place.
 abbrev pub itemAt : ℕ → List ℕ → List ℕ
@@ -90,12 +90,12 @@ module _ (s : Sending) (note : List ℕ) where
   pub record Sent (n : ℕ) (left : List ℕ) : Type 0 where
     pub within : n ≤ 156
     pub whole : n ≡ 12 * (n / 12)
-    pub items : map frameItem (framesIn (n / 12) left) ≡ reportItems s note
-    pub taken : eqb (refusal s note) 0 ≡ true
+    pub items : map itemOfFrame (framesIn (n / 12) left) ≡ reportItems s note
+    pub taken : eqb (reportRefusal s note) 0 ≡ true
 
   pub items-sent : (room : List ℕ) {left : List ℕ} (n : ℕ) → length room ≡ 156 → sendAnswer (length room) (s .sender) (s .report) with-note ≡ writing.Bytes n
       → left ≡ sent room (s .sender) (s .report) with-note → Sent n left
-  unfolding sendAnswer sent refusal reportItems
+  unfolding sendAnswer sent reportRefusal reportItems
   items-sent room {left} n h a e = go (eqb (sendRefusal 156 (s .sender) (s .report) with-note) 0) refl (rw h at a) (rw h at e)
     where
       go : (t : Bool) → eqb (sendRefusal 156 (s .sender) (s .report) with-note) 0 ≡ t
@@ -110,7 +110,7 @@ module _ (s : Sending) (note : List ℕ) where
           record {
             within = omega (arith, facts .1);
             whole = omega arith;
-            items = rw (q, count, l) (ap (map frameItem) (frames-back (s .sender) (facts .0) p (drop (roomFor with-note) room)));
+            items = rw (q, count, l) (ap (map itemOfFrame) (frames-back (s .sender) (facts .0) p (drop (roomFor with-note) room)));
             taken = q;
           }
 
@@ -122,14 +122,14 @@ module _ (s : Sending) (note : List ℕ) where
   -- Or it refused the report.
   pub items-refused : (room : ℕ) (k : ℕ) → room ≡ 156 → sendAnswer room (s .sender) (s .report) with-note ≡ writing.Refused k
       → (answer.Refused k ≡ reportAnswer s note) × (reportItems s note ≡ [])
-  unfolding sendAnswer refusal reportItems reportAnswer
+  unfolding sendAnswer reportRefusal reportItems reportAnswer
   items-refused room k h a = go (eqb (sendRefusal 156 (s .sender) (s .report) with-note) 0) refl (rw h at a)
     where
       code : ℕ
       code = sendRefusal 156 (s .sender) (s .report) with-note
 
       go : (t : Bool) → eqb code 0 ≡ t → cond t (writing.Bytes (roomFor with-note)) (writing.Refused code) ≡ writing.Refused k
-          → (answer.Refused k ≡ cond (eqb code 0) (answer.Items (length (runBytes (cond (eqb code 0) (map frameItem carried) [])))) (answer.Refused code)) × (cond (eqb code 0) (map frameItem carried) [] ≡ [])
+          → (answer.Refused k ≡ cond (eqb code 0) (answer.Items (length (runBytes (cond (eqb code 0) (map itemOfFrame carried) [])))) (answer.Refused code)) × (cond (eqb code 0) (map itemOfFrame carried) [] ≡ [])
       go true q b = let z : _≡_ {A = ℕ} 0 1 = cc in absurd (omega arith)
       go false q b = let e : k ≡ code = cc in (rw (q, e), rw q)
 

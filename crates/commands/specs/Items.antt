@@ -16,21 +16,21 @@ use Rattle.commands.specs.declared.Answer.{Answer}
 use Rattle.commands.specs.declared.Answer.the-variants as answer
 
 -- An item for each frame.
-abbrev pub frameItem : Frame → Meant
-frameItem f = record { item = item.Frame (f .identifier); data-bytes = f .data-bytes }
+abbrev pub itemOfFrame : Frame → Meant
+itemOfFrame f = record { item = item.Frame (f .identifier); data-bytes = f .data-bytes }
 
 -- The bench sender's refusal of a report, 3, 12 or 19; 0 for none. Its room is as large as any report's frames.
-unfoldable pub refusal : Sending → List ℕ → ℕ
-refusal s note = sendRefusal 156 (s .sender) (s .report) (given (s .noted) note)
+unfoldable pub reportRefusal : Sending → List ℕ → ℕ
+reportRefusal s note = sendRefusal 156 (s .sender) (s .report) (given (s .noted) note)
 
 -- The items of a report's frames, none where it is refused.
 unfoldable pub reportItems : Sending → List ℕ → List Meant
 reportItems s note =
-    cond (eqb (refusal s note) 0) (map frameItem (frames (s .sender) (payload (s .report) (given (s .noted) note)))) []
+    cond (eqb (reportRefusal s note) 0) (map itemOfFrame (frames (s .sender) (payload (s .report) (given (s .noted) note)))) []
 
 unfoldable pub reportAnswer : Sending → List ℕ → Answer
 reportAnswer s note =
-    cond (eqb (refusal s note) 0) (answer.Items (length (runBytes (reportItems s note)))) (answer.Refused (refusal s note))
+    cond (eqb (reportRefusal s note) 0) (answer.Items (length (runBytes (reportItems s note)))) (answer.Refused (reportRefusal s note))
 
 -- The items that a command stands for. A wrong line has none.
 abbrev pub itemsOf : Command → List ℕ → List Meant

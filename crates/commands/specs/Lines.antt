@@ -17,35 +17,35 @@ use Rattle.commands.specs.declared.Command.{Command}
 use Rattle.commands.specs.declared.Command.the-variants as command
 
 -- The words window, question, remove, show, report and noted, in ASCII.
-abbrev pub window : List ℕ
-window = 119 ∷ 105 ∷ 110 ∷ 100 ∷ 111 ∷ 119 ∷ []
+abbrev pub windowWord : List ℕ
+windowWord = 119 ∷ 105 ∷ 110 ∷ 100 ∷ 111 ∷ 119 ∷ []
 
-abbrev pub question : List ℕ
-question = 113 ∷ 117 ∷ 101 ∷ 115 ∷ 116 ∷ 105 ∷ 111 ∷ 110 ∷ []
+abbrev pub questionWord : List ℕ
+questionWord = 113 ∷ 117 ∷ 101 ∷ 115 ∷ 116 ∷ 105 ∷ 111 ∷ 110 ∷ []
 
-abbrev pub remove : List ℕ
-remove = 114 ∷ 101 ∷ 109 ∷ 111 ∷ 118 ∷ 101 ∷ []
+abbrev pub removeWord : List ℕ
+removeWord = 114 ∷ 101 ∷ 109 ∷ 111 ∷ 118 ∷ 101 ∷ []
 
-abbrev pub show : List ℕ
-show = 115 ∷ 104 ∷ 111 ∷ 119 ∷ []
+abbrev pub showWord : List ℕ
+showWord = 115 ∷ 104 ∷ 111 ∷ 119 ∷ []
 
-abbrev pub report : List ℕ
-report = 114 ∷ 101 ∷ 112 ∷ 111 ∷ 114 ∷ 116 ∷ []
+abbrev pub reportWord : List ℕ
+reportWord = 114 ∷ 101 ∷ 112 ∷ 111 ∷ 114 ∷ 116 ∷ []
 
-abbrev pub noted : List ℕ
-noted = 110 ∷ 111 ∷ 116 ∷ 101 ∷ 100 ∷ []
+abbrev pub notedWord : List ℕ
+notedWord = 110 ∷ 111 ∷ 116 ∷ 101 ∷ 100 ∷ []
 
 -- The kind of line that its first word names. No word, and one that starts with #, say nothing.
 unfoldable pub kindOf : List ℕ → Kind
 kindOf w =
     cond (eqb (length w) 0) kind.Nothing
     (cond (eqb (getD w 0 0) 35) kind.Nothing
-    (cond (same w window) kind.Window
-    (cond (same w question) kind.Question
-    (cond (same w remove) kind.Remove
-    (cond (same w show) kind.Show
-    (cond (same w report) kind.Report
-    (cond (same w noted) kind.Noted
+    (cond (same w windowWord) kind.Window
+    (cond (same w questionWord) kind.Question
+    (cond (same w removeWord) kind.Remove
+    (cond (same w showWord) kind.Show
+    (cond (same w reportWord) kind.Report
+    (cond (same w notedWord) kind.Noted
     kind.Unknown)))))))
 
 -- The decimal number that is word n of a line, where it is at most `most`.
@@ -71,14 +71,14 @@ abbrev pub unless : ℕ → Kind → Command → Command
 unless wrong k c = cond (eqb wrong 0) c (command.Wrong (record { kind = k; word = wrong }))
 
 -- `window N`: N fits two bytes.
-unfoldable pub windowOf : List ℕ → Command
-windowOf line =
+unfoldable pub windowLine : List ℕ → Command
+windowLine line =
     unless (firstFalse 1 (valueAt 1 65535 line .known ∷ noMore 2 line ∷ true ∷ true ∷ true ∷ [])) kind.Window
     (command.Item (item.Window (valueAt 1 65535 line .value)))
 
 -- `question SLOT K A B`: a slot and a k that fit a byte, two weights that fit two.
-unfoldable pub questionOf : List ℕ → Command
-questionOf line =
+unfoldable pub questionLine : List ℕ → Command
+questionLine line =
     unless
     (firstFalse 1 (valueAt 1 255 line .known ∷ valueAt 2 255 line .known ∷ weightAt 3 line .known ∷ weightAt 4 line .known ∷ noMore 5 line ∷ []))
     kind.Question
@@ -98,18 +98,18 @@ oneSlot line =
     }
 
 -- `remove SLOT`, and `show SLOT`.
-unfoldable pub removeOf : List ℕ → Command
-removeOf line = unless (oneSlot line .wrong) kind.Remove (command.Item (item.Remove (oneSlot line .slot)))
+unfoldable pub removeLine : List ℕ → Command
+removeLine line = unless (oneSlot line .wrong) kind.Remove (command.Item (item.Remove (oneSlot line .slot)))
 
-unfoldable pub showOf : List ℕ → Command
-showOf line = unless (oneSlot line .wrong) kind.Show (command.Item (item.Show (oneSlot line .slot)))
+unfoldable pub showLine : List ℕ → Command
+showLine line = unless (oneSlot line .wrong) kind.Show (command.Item (item.Show (oneSlot line .slot)))
 
 abbrev pub reportKind : Bool → Kind
 reportKind always = cond always kind.Noted kind.Report
 
 -- `report SENDER LOSS SHAKE NUMBER`, and what stands behind is its note; `noted` has a note also where nothing does.
-unfoldable pub reportOf : Bool → List ℕ → Command
-reportOf always line =
+unfoldable pub reportLine : Bool → List ℕ → Command
+reportLine always line =
     unless
     (firstFalse 1 (valueAt 1 255 line .known ∷ valueAt 2 65535 line .known ∷ valueAt 3 65535 line .known ∷ valueAt 4 4294967295 line .known ∷ true ∷ []))
     (reportKind always)
@@ -121,12 +121,12 @@ reportOf always line =
 
 abbrev pub byKind : Kind → List ℕ → Command
 byKind kind.Nothing line = command.Nothing
-byKind kind.Window line = windowOf line
-byKind kind.Question line = questionOf line
-byKind kind.Remove line = removeOf line
-byKind kind.Show line = showOf line
-byKind kind.Report line = reportOf false line
-byKind kind.Noted line = reportOf true line
+byKind kind.Window line = windowLine line
+byKind kind.Question line = questionLine line
+byKind kind.Remove line = removeLine line
+byKind kind.Show line = showLine line
+byKind kind.Report line = reportLine false line
+byKind kind.Noted line = reportLine true line
 byKind kind.Unknown line = command.Wrong (record { kind = kind.Unknown; word = 0 })
 
 -- What a line stands for.

@@ -10,8 +10,8 @@ ghost use lib.Seq.{sets};
 ghost use Rattle.items.specs.Run.{runBytes};
 ghost use Rattle.bench.specs.Bench.{framesIn};
 ghost use Rattle.lines.specs.Words.{tailAt};
-ghost use Rattle.commands.specs.Lines.{kindOf, firstFalse, valueAt, weightAt, noMore, oneSlot, windowOf, questionOf, removeOf, showOf, reportKind, reportOf, commandOf, noteIn};
-ghost use Rattle.commands.specs.Items.{frameItem, itemsOf, answerOf, reportItems, reportAnswer};
+ghost use Rattle.commands.specs.Lines.{kindOf, firstFalse, valueAt, weightAt, noMore, oneSlot, windowLine, questionLine, removeLine, showLine, reportKind, reportLine, commandOf, noteIn};
+ghost use Rattle.commands.specs.Items.{itemOfFrame, itemsOf, answerOf, reportItems, reportAnswer};
 use bench::Bench;
 use items::Item;
 use items::Setting;
@@ -42,22 +42,22 @@ impl Kind {
         if wire::byte(word, 0) == b'#' {
             return Kind::Nothing;
         }
-        if lines::equal(word, b"window") {
+        if lines::same(word, b"window") {
             return Kind::Window;
         }
-        if lines::equal(word, b"question") {
+        if lines::same(word, b"question") {
             return Kind::Question;
         }
-        if lines::equal(word, b"remove") {
+        if lines::same(word, b"remove") {
             return Kind::Remove;
         }
-        if lines::equal(word, b"show") {
+        if lines::same(word, b"show") {
             return Kind::Show;
         }
-        if lines::equal(word, b"report") {
+        if lines::same(word, b"report") {
             return Kind::Report;
         }
-        if lines::equal(word, b"noted") {
+        if lines::same(word, b"noted") {
             return Kind::Noted;
         }
         Kind::Unknown
@@ -113,12 +113,12 @@ impl Command {
         let kind = Kind::of(lines::word(line, 0));
         match kind {
             Kind::Nothing => Command::Nothing,
-            Kind::Window => window(line),
-            Kind::Question => question(line),
-            Kind::Remove => remove(line),
-            Kind::Show => show(line),
-            Kind::Report => one_report(line, false),
-            Kind::Noted => one_report(line, true),
+            Kind::Window => window_line(line),
+            Kind::Question => question_line(line),
+            Kind::Remove => remove_line(line),
+            Kind::Show => show_line(line),
+            Kind::Report => report_line(line, false),
+            Kind::Noted => report_line(line, true),
             Kind::Unknown => Command::Wrong(Fault {
                 kind: Kind::Unknown,
                 word: 0,
@@ -189,8 +189,8 @@ fn first_false(a: bool, b: bool, c: bool, d: bool, e: bool) -> u8
     0
 }
 
-fn window(line: &[u8]) -> Command
-    ensures { λ r. ⌜ r ≡ windowOf (now (line .entry)) ⌝ }
+fn window_line(line: &[u8]) -> Command
+    ensures { λ r. ⌜ r ≡ windowLine (now (line .entry)) ⌝ }
 {
     let n = value(line, 1, 65535);
     let wrong = first_false(n.known, no_more(line, 2), true, true, true);
@@ -203,8 +203,8 @@ fn window(line: &[u8]) -> Command
     Command::Item(Item::Window(n.value as u16))
 }
 
-fn question(line: &[u8]) -> Command
-    ensures { λ r. ⌜ r ≡ questionOf (now (line .entry)) ⌝ }
+fn question_line(line: &[u8]) -> Command
+    ensures { λ r. ⌜ r ≡ questionLine (now (line .entry)) ⌝ }
 {
     let slot = value(line, 1, 255);
     let k = value(line, 2, 255);
@@ -243,8 +243,8 @@ fn one_slot(line: &[u8]) -> Slot
     }
 }
 
-fn remove(line: &[u8]) -> Command
-    ensures { λ r. ⌜ r ≡ removeOf (now (line .entry)) ⌝ }
+fn remove_line(line: &[u8]) -> Command
+    ensures { λ r. ⌜ r ≡ removeLine (now (line .entry)) ⌝ }
 {
     let s = one_slot(line);
     if s.wrong != 0 {
@@ -256,8 +256,8 @@ fn remove(line: &[u8]) -> Command
     Command::Item(Item::Remove(s.slot))
 }
 
-fn show(line: &[u8]) -> Command
-    ensures { λ r. ⌜ r ≡ showOf (now (line .entry)) ⌝ }
+fn show_line(line: &[u8]) -> Command
+    ensures { λ r. ⌜ r ≡ showLine (now (line .entry)) ⌝ }
 {
     let s = one_slot(line);
     if s.wrong != 0 {
@@ -276,8 +276,8 @@ fn has_note(line: &[u8], noted: bool) -> bool
     if noted { true } else { !no_more(line, 5) }
 }
 
-fn one_report(line: &[u8], noted: bool) -> Command
-    ensures { λ r. ⌜ r ≡ reportOf noted (now (line .entry)) ⌝ }
+fn report_line(line: &[u8], noted: bool) -> Command
+    ensures { λ r. ⌜ r ≡ reportLine noted (now (line .entry)) ⌝ }
 {
     let sender = value(line, 1, 255);
     let loss = value(line, 2, 65535);
@@ -333,7 +333,7 @@ fn put_report(room: &mut [u8], s: Sending, note: &[u8]) -> Answer
 fn put_frames(room: &mut [u8], frames: &[u8], count: usize)
     requires { ⌜ 12 * count ≤ length (now frames) ⌝ }
     requires { ⌜ length (now frames) ≤ 156 ⌝ }
-    ensures { λ _. ⌜ now (room .exit) ≡ sets (now (room .entry)) 0 (runBytes (map frameItem (framesIn count (now (frames .entry))))) ⌝ }
+    ensures { λ _. ⌜ now (room .exit) ≡ sets (now (room .entry)) 0 (runBytes (map itemOfFrame (framesIn count (now (frames .entry))))) ⌝ }
 {
     let mut i: usize = 0;
     while i < count {

@@ -106,7 +106,7 @@ fn answered(
     room: &mut [u8; Bus::ROOM],
     out: &mut [u8],
 ) -> Answer {
-    if found.cut() {
+    if found.is_cut() {
         return Answer { desk, end: 0 };
     }
     if !found.fits() {

@@ -14,7 +14,7 @@ use lib.Seq.{sets}
 use Rattle.laws.proofs.Tests.{and-both}
 use Rattle.wire.proofs.Stores.{sets-append}
 use Rattle.lines.specs.Words.{wordAt}
-use Rattle.lines.specs.Numbers.{unknown, numberIn}
+use Rattle.lines.specs.Numbers.{noNumber, numberIn}
 use Rattle.lines.proofs.Numbers.{number-most}
 use Rattle.dump.specs.declared.Data.{Data}
 use Rattle.dump.specs.declared.Data.the-variants as kind
@@ -25,7 +25,7 @@ pub count-most : (w : List ℕ) → countIn w .value ≤ 15
 unfolding countIn
 count-most w = go (between 91 93 1 w) (between 123 125 1 w)
   where
-    go : (a b : Bool) → cond a (numberIn 10 8 (take 1 (drop 1 w))) (cond b (numberIn 16 15 (take 1 (drop 1 w))) unknown) .value ≤ 15
+    go : (a b : Bool) → cond a (numberIn 10 8 (take 1 (drop 1 w))) (cond b (numberIn 16 15 (take 1 (drop 1 w))) noNumber) .value ≤ 15
     go true b = omega (arith, number-most 10 8 (take 1 (drop 1 w)))
     go false true = number-most 16 15 (take 1 (drop 1 w))
     go false false = omega arith

@@ -7,8 +7,8 @@ use lib.Dec.{leb, ltb, eqb}
 use Rattle.wire.specs.Bytes.{same}
 use Rattle.lines.specs.declared.Number.{Number}
 use Rattle.lines.specs.declared.Run.the-variants.{Until}
-use Rattle.lines.specs.Words.{run, wordAt, tailAt}
-use Rattle.lines.specs.Numbers.{unknown, numberIn}
+use Rattle.lines.specs.Words.{runLength, wordAt, tailAt}
+use Rattle.lines.specs.Numbers.{noNumber, numberIn}
 use Rattle.dump.specs.declared.Data.{Data}
 use Rattle.dump.specs.declared.Data.the-variants as kind
 
@@ -35,7 +35,7 @@ interfaceIn line = wordAt 0 (behindTime line)
 
 -- How many letters stand before the first #.
 unfoldable pub hashAt : List ℕ → ℕ
-hashAt w = run (Until 35) w
+hashAt w = runLength (Until 35) w
 
 -- ---- the log's form: (TIME) INTERFACE ID#DATA
 
@@ -66,7 +66,7 @@ unfoldable pub countIn : List ℕ → Number
 countIn w =
     cond (between 91 93 1 w) (numberIn 10 8 (take 1 (drop 1 w)))
     (cond (between 123 125 1 w) (numberIn 16 15 (take 1 (drop 1 w)))
-    unknown)
+    noNumber)
 
 -- Each byte is a word of two letters; in place of another stands ??, which is no byte.
 unfoldable pub pairOf : List ℕ → List ℕ

@@ -32,7 +32,7 @@ pub fn interface(line: &[u8]) -> &[u8]
 pub fn is_drop(line: &[u8]) -> bool
     ensures { λ r. ⌜ r ≡ isDrop (now (line .entry)) ⌝ }
 {
-    lines::equal(lines::word(line, 0), b"DROPCOUNT:")
+    lines::same(lines::word(line, 0), b"DROPCOUNT:")
 }
 
 // Whether a line has the log's form: its third word holds a #.
@@ -123,10 +123,10 @@ fn ends(line: &[u8]) -> bool
     if mark.len() == 0 {
         return true;
     }
-    if lines::equal(mark, b"R") {
+    if lines::same(mark, b"R") {
         return true;
     }
-    lines::equal(mark, b"T")
+    lines::same(mark, b"T")
 }
 
 // The identifier and what stands behind it.
@@ -134,10 +134,10 @@ fn fields(body: &[u8]) -> &[u8]
     ensures { λ r. ⌜ now r ≡ fieldsIn (now (body .entry)) ⌝ }
 {
     let word = lines::word(body, 1);
-    if lines::equal(word, b"RX") {
+    if lines::same(word, b"RX") {
         return lines::tail(body, 4);
     }
-    if lines::equal(word, b"TX") {
+    if lines::same(word, b"TX") {
         return lines::tail(body, 4);
     }
     lines::tail(body, 1)
@@ -202,7 +202,7 @@ fn closed(f: &[u8], at: u8) -> bool
     if wire::byte(word, 0) == b'\'' {
         return true;
     }
-    lines::equal(word, b"ERRORFRAME")
+    lines::same(word, b"ERRORFRAME")
 }
 
 // At most 8 bytes.
@@ -233,7 +233,7 @@ impl Data {
         if !n.known {
             return Data::Unread;
         }
-        if lines::equal(lines::word(f, 2), b"remote") {
+        if lines::same(lines::word(f, 2), b"remote") {
             return Data::Remote;
         }
         let size = n.value as u8;

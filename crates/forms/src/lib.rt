@@ -61,78 +61,78 @@ impl Form {
 
     pub fn of(line: &[u8]) -> Form {
         let word = lines::word(line, 0);
-        if lines::equal(word, b"poke") {
+        if lines::same(word, b"poke") {
             return Form::of_poke(lines::word(line, 1));
         }
-        if lines::equal(word, b"window") {
+        if lines::same(word, b"window") {
             return Form::Window;
         }
-        if lines::equal(word, b"frame") {
+        if lines::same(word, b"frame") {
             return Form::Frame;
         }
-        if lines::equal(word, b"session") {
+        if lines::same(word, b"session") {
             return Form::Session;
         }
-        if lines::equal(word, b"payload") {
+        if lines::same(word, b"payload") {
             return Form::Payload;
         }
-        if lines::equal(word, b"write") {
+        if lines::same(word, b"write") {
             return Form::Write;
         }
-        if lines::equal(word, b"help") {
+        if lines::same(word, b"help") {
             return Form::Help;
         }
         Form::of_board(word)
     }
 
     fn of_board(word: &[u8]) -> Form {
-        if lines::equal(word, b"set") {
+        if lines::same(word, b"set") {
             return Form::Set;
         }
-        if lines::equal(word, b"remove") {
+        if lines::same(word, b"remove") {
             return Form::Remove;
         }
-        if lines::equal(word, b"read") {
+        if lines::same(word, b"read") {
             return Form::Read;
         }
-        if lines::equal(word, b"enter") {
+        if lines::same(word, b"enter") {
             return Form::Enter;
         }
-        if lines::equal(word, b"begin") {
+        if lines::same(word, b"begin") {
             return Form::Begin;
         }
-        if lines::equal(word, b"step") {
+        if lines::same(word, b"step") {
             return Form::Step;
         }
-        if lines::equal(word, b"marks") {
+        if lines::same(word, b"marks") {
             return Form::Marks;
         }
-        if lines::equal(word, b"steps") {
+        if lines::same(word, b"steps") {
             return Form::Steps;
         }
-        if lines::equal(word, b"held") {
+        if lines::same(word, b"held") {
             return Form::Held;
         }
         Form::Unknown
     }
 
     fn of_poke(word: &[u8]) -> Form {
-        if lines::equal(word, b"window") {
+        if lines::same(word, b"window") {
             return Form::PokeWindow;
         }
-        if lines::equal(word, b"row") {
+        if lines::same(word, b"row") {
             return Form::PokeRow;
         }
-        if lines::equal(word, b"slot") {
+        if lines::same(word, b"slot") {
             return Form::PokeSlot;
         }
-        if lines::equal(word, b"line") {
+        if lines::same(word, b"line") {
             return Form::PokeLine;
         }
-        if lines::equal(word, b"session") {
+        if lines::same(word, b"session") {
             return Form::PokeSession;
         }
-        if lines::equal(word, b"byte") {
+        if lines::same(word, b"byte") {
             return Form::PokeByte;
         }
         Form::UnknownPoke

@@ -11,10 +11,10 @@ use lib.Dec.{ltb}
 use lib.ListN.{length, drop, length-append, length-drop, drop-of-length-le}
 use lib.Seq.{take-all, take-append-le, drop-append-le, take-append-add, drop-append-add, drop-drop}
 use Rattle.lines.specs.declared.Run.the-variants.{Until}
-use Rattle.lines.specs.Words.{run}
+use Rattle.lines.specs.Words.{runLength}
 use Rattle.lines.proofs.Words.{run-within, run-over, run-short}
 use Rattle.input.specs.declared.Input.{Input}
-use Rattle.input.specs.Lines.{lineSize, firstLine, ended, behindLine, lastRead, unread, lineTaken}
+use Rattle.input.specs.Lines.{lineSize, firstLine, hasLineEnd, behindLine, lastRead, unread, lineTaken}
 
 -- The same added to both sides of a test.
 ltb-add : (n x y : ℕ) → ltb (n + x) (n + y) ≡ ltb x y
@@ -26,9 +26,9 @@ ltb-add n x y = by-test (ltb x y) refl
 
 -- ---- a piece without a line end
 
-module _ (p t : List ℕ) (h : ended p ≡ false) where
+module _ (p t : List ℕ) (h : hasLineEnd p ≡ false) where
   size-open : lineSize p ≡ length p
-  unfolding ended
+  unfolding hasLineEnd
   size-open = omega (arith, ltb-false (lineSize p) (length p) h, run-within (Until 10) p)
 
   over : lineSize (p ++ t) ≡ length p + lineSize t
@@ -38,8 +38,8 @@ module _ (p t : List ℕ) (h : ended p ≡ false) where
   unfolding firstLine
   first-open = rw over (take-append-add p t (lineSize t))
 
-  pub ended-open : ended (p ++ t) ≡ ended t
-  unfolding ended
+  pub ended-open : hasLineEnd (p ++ t) ≡ hasLineEnd t
+  unfolding hasLineEnd
   ended-open = rw (over, length-append p t) (ltb-add (length p) (lineSize t) (length t))
 
   pub behind-open : behindLine (p ++ t) ≡ behindLine t
@@ -48,27 +48,27 @@ module _ (p t : List ℕ) (h : ended p ≡ false) where
       let e : length p + lineSize t + 1 ≡ length p + (lineSize t + 1) = omega arith in
       rw (over, e) (drop-append-add p t (lineSize t + 1))
 
-pub whole-open : (p : List ℕ) → ended p ≡ false → firstLine p ≡ p
+pub whole-open : (p : List ℕ) → hasLineEnd p ≡ false → firstLine p ≡ p
 unfolding firstLine
 whole-open p h = take-all (lineSize p) p (omega (arith, size-open p [] h))
 
-pub none-behind : (p : List ℕ) → ended p ≡ false → behindLine p ≡ []
+pub none-behind : (p : List ℕ) → hasLineEnd p ≡ false → behindLine p ≡ []
 unfolding behindLine
 none-behind p h = drop-of-length-le p {i = lineSize p + 1} (omega (arith, size-open p [] h))
 
 -- ---- a piece with a line end
 
-module _ (p t : List ℕ) (h : ended p ≡ true) where
+module _ (p t : List ℕ) (h : hasLineEnd p ≡ true) where
   within : lineSize p < length p
-  unfolding ended
+  unfolding hasLineEnd
   within = ltb-true (lineSize p) (length p) h
 
   pub first-whole : firstLine (p ++ t) ≡ firstLine p
   unfolding firstLine
   first-whole = rw (run-short (Until 10) p t within) (take-append-le (lineSize p) p t (omega (arith, within)))
 
-  pub ended-whole : ended (p ++ t) ≡ true
-  unfolding ended
+  pub ended-whole : hasLineEnd (p ++ t) ≡ true
+  unfolding hasLineEnd
   ended-whole = lt-ltb (lineSize (p ++ t)) (length (p ++ t)) (omega (arith, run-short (Until 10) p t within, within, length-append p t))
 
   pub behind-whole : behindLine (p ++ t) ≡ behindLine p ++ t
@@ -77,15 +77,15 @@ module _ (p t : List ℕ) (h : ended p ≡ true) where
 
 -- ---- what `take` answers
 
-pub took : (room : ℕ) (i : Input) (space : List ℕ) {piece : List ℕ} {n left size : ℕ} → piece ≡ unread i space → n ≡ run (Until 10) piece
+pub took : (room : ℕ) (i : Input) (space : List ℕ) {piece : List ℕ} {n left size : ℕ} → piece ≡ unread i space → n ≡ runLength (Until 10) piece
     → left ≡ length piece - (n + 1) → size ≡ min (i .size + n) (room + 1)
     → record { source = i .source; held = i .held; left = left; size = size; whole = ltb n (length piece); number = i .number } ≡ lineTaken room i space
-unfolding lineTaken ended
+unfolding lineTaken hasLineEnd
 took room i space p n l s = rw (l, s, n, p)
 
 -- What is not taken yet then stands behind the line.
-pub left-behind : (room : ℕ) (i : Input) (space : List ℕ) → ended (unread i space) ≡ true → unread (lineTaken room i space) space ≡ behindLine (unread i space)
-unfolding unread lineTaken behindLine ended
+pub left-behind : (room : ℕ) (i : Input) (space : List ℕ) → hasLineEnd (unread i space) ≡ true → unread (lineTaken room i space) space ≡ behindLine (unread i space)
+unfolding unread lineTaken behindLine hasLineEnd
 left-behind room i space h =
     let r = lastRead i space in
     let m = length r - i .left in

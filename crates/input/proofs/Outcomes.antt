@@ -10,8 +10,8 @@ use Rattle.input.proofs.Input.fresh.Kinds as fresh-kinds
 use Rattle.input.proofs.Input.fresh.Reads as fresh-reads
 use Rattle.input.proofs.Input.fits.Kinds as fits-kinds
 use Rattle.input.proofs.Input.fits.Reads as fits-reads
-use Rattle.input.proofs.Input.cut.Kinds as cut-kinds
-use Rattle.input.proofs.Input.cut.Reads as cut-reads
+use Rattle.input.proofs.Input.is_cut.Kinds as is-cut-kinds
+use Rattle.input.proofs.Input.is_cut.Reads as is-cut-reads
 use Rattle.input.proofs.Input.take.Kinds as take-kinds
 use Rattle.input.proofs.Input.take.Reads as take-reads
 
@@ -21,8 +21,8 @@ fresh-once κs a x y s t p q = p ∙ sym q
 fits-once : OneAnswer 0 fits-kinds.ps fits-kinds.r fits-reads.Post
 fits-once κs a x y s t p q = p ∙ sym q
 
-cut-once : OneAnswer 0 cut-kinds.ps cut-kinds.r cut-reads.Post
-cut-once κs a x y s t p q = p ∙ sym q
+is-cut-once : OneAnswer 0 is-cut-kinds.ps is-cut-kinds.r is-cut-reads.Post
+is-cut-once κs a x y s t p q = p ∙ sym q
 
 take-once : OneAnswer 2 take-kinds.ps take-kinds.r take-reads.Post
 take-once κs a x y s t p q = p .0 ∙ sym (q .0)

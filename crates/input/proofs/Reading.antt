@@ -11,16 +11,17 @@ use lib.Dec.{ltb}
 use lib.ListN.{length, take, drop, length-append}
 use lib.Seq.{sets, sets-eq, length-sets, length-take-le, take-append-seam}
 use Rattle.wire.proofs.Stores.{sets-append, sets-past}
-use Rattle.lines.specs.Words.{run}
+use Rattle.lines.specs.Words.{runLength}
 use Rattle.lines.specs.declared.Run.the-variants.{Until}
 use Rattle.lines.proofs.Words.{run-within}
 use Rattle.input.specs.declared.Input.{Input}
 use Rattle.input.specs.declared.Next.the-variants.{Line}
 use Rattle.input.specs.declared.Source.{Source}
 use Rattle.input.specs.declared.Source.the-variants.{Open, Ended, Failed}
-use Rattle.input.specs.Lines.{lineSize, firstLine, ended, behindLine, nextLine, unread, lineTaken}
-use Rattle.input.specs.Reading.{SameLine, Turned, Whole, Part, Handed, Comes, without, answerOf, failed, isCut}
+use Rattle.input.specs.Lines.{lineSize, firstLine, hasLineEnd, behindLine, unread, lineTaken}
+use Rattle.input.specs.Reading.{TakesAndReads, Whole, Part, Handed, Comes, failed, isCut}
 use Rattle.input.proofs.Cutting.{first-open, ended-open, behind-open, whole-open, none-behind, first-whole, ended-whole, behind-whole, left-behind}
+use Rattle.input.specs.Inner.{nextLine, SameLine, without, answerOf}
 
 length-first : (u : List ℕ) → length (firstLine u) ≡ lineSize u
 unfolding firstLine
@@ -33,7 +34,7 @@ module _ (i : Input) (line space : List ℕ) {r : Input} (e : r ≡ lineTaken (l
   unfolding lineTaken
   size-so = ap (λ (x : Input). x .size) e
 
-  whole-so : r .whole ≡ ended (unread i space)
+  whole-so : r .whole ≡ hasLineEnd (unread i space)
   unfolding lineTaken
   whole-so = ap (λ (x : Input). x .whole) e
 
@@ -41,7 +42,7 @@ module _ (i : Input) (line space : List ℕ) {r : Input} (e : r ≡ lineTaken (l
   unfolding lineTaken
   number-so = ap (λ (x : Input). x .number) e
 
-  pub turned-whole : {line′ : List ℕ} → line′ ≡ sets line (i .size) (firstLine (unread i space)) → r .whole ≡ true → Turned i line space r line′ space
+  pub turned-whole : {line′ : List ℕ} → line′ ≡ sets line (i .size) (firstLine (unread i space)) → r .whole ≡ true → TakesAndReads i line space r line′ space
   turned-whole b w = record {
     come = [];
     behind = ap (λ (x : Input). unread x space) e ∙ left-behind (length line) i space (sym whole-so ∙ w) ∙ sym (append-nil (behindLine (unread i space)));
@@ -52,7 +53,7 @@ module _ (i : Input) (line space : List ℕ) {r : Input} (e : r ≡ lineTaken (l
   }
 
   pub turned-more : {line′ : List ℕ} {r′ : Input} (space′ : List ℕ) → line′ ≡ sets line (i .size) (firstLine (unread i space)) → r .whole ≡ false → SameLine r r′
-      → Turned i line space r′ line′ space′
+      → TakesAndReads i line space r′ line′ space′
   turned-more {r′ = r′} space′ b w s = record {
     come = unread r′ space′;
     behind = rw (none-behind (unread i space) (sym whole-so ∙ w));
@@ -81,7 +82,7 @@ pieces line v w =
     rw s (cut-place (sets line 0 v) (length v) w ∙ sym (sets-append line 0 v w ∙ rw zero-add))
 
 pub none-handed : (text line : List ℕ) (i : Input) → i .whole ≡ false → i .size ≡ 0 → Handed text line i line text
-unfolding ended run
+unfolding hasLineEnd runLength
 none-handed text line i w s = record {
   come = [];
   found = [];
@@ -91,7 +92,7 @@ none-handed text line i w s = record {
   size = omega (arith, s);
 }
 
-module _ {text line line₁ line₂ space₁ space₂ : List ℕ} {i r : Input} (no : i .whole ≡ false) (h : Handed text line i line₁ (unread i space₁)) (t : Turned i line₁ space₁ r line₂ space₂) where
+module _ {text line line₁ line₂ space₁ space₂ : List ℕ} {i r : Input} (no : i .whole ≡ false) (h : Handed text line i line₁ (unread i space₁)) (t : TakesAndReads i line₁ space₁ r line₂ space₂) where
   text-so : text ++ (h .come ++ t .come) ≡ h .found ++ (unread i space₁ ++ t .come)
   text-so = sym (append-assoc text (h .come) (t .come)) ∙ ap (λ (x : List ℕ). x ++ t .come) (h .part no .all) ∙ append-assoc (h .found) (unread i space₁) (t .come)
 

@@ -1,11 +1,11 @@
 -- Text that comes in pieces, and its lines. A line ends at a byte 10, or with the text.
-use Prim.Native.Nat.{ℕ, _+_, _-_, _%_, _^_, min}
+use Prim.Native.Nat.{ℕ, _+_, _-_, min}
 use mathlib.Core.List.{List}
 use mathlib.Core.Bool.{Bool, false}
 use lib.ListN.{length, take, drop}
 use lib.Dec.{ltb}
 use Rattle.lines.specs.declared.Run.the-variants.{Until}
-use Rattle.lines.specs.Words.{run}
+use Rattle.lines.specs.Words.{runLength}
 use Rattle.input.specs.declared.Input.{Input}
 use Rattle.input.specs.declared.Source.the-variants.{Open}
 
@@ -15,14 +15,14 @@ longest = 512
 
 -- How long the first line of a text is, without its end.
 abbrev pub lineSize : List ℕ → ℕ
-lineSize text = run (Until 10) text
+lineSize text = runLength (Until 10) text
 
 -- The first line of a text, whether its end stands there, and what stands behind it.
 unfoldable pub firstLine : List ℕ → List ℕ
 firstLine text = take (lineSize text) text
 
-unfoldable pub ended : List ℕ → Bool
-ended text = ltb (lineSize text) (length text)
+unfoldable pub hasLineEnd : List ℕ → Bool
+hasLineEnd text = ltb (lineSize text) (length text)
 
 unfoldable pub behindLine : List ℕ → List ℕ
 behindLine text = drop (lineSize text + 1) text
@@ -30,10 +30,6 @@ behindLine text = drop (lineSize text + 1) text
 -- Nothing read, and no line yet.
 abbrev pub freshInput : Input
 freshInput = record { source = Open; held = 0; left = 0; size = 0; whole = false; number = 0 }
-
--- At the start of the line behind.
-abbrev pub nextLine : Input → Input
-nextLine i = record { source = i .source; held = i .held; left = i .left; size = 0; whole = false; number = (i .number + 1) % 2 ^ 64 }
 
 -- What was read last, as far as it is not taken yet: the last `left` of the first `held` bytes.
 abbrev pub lastRead : Input → List ℕ → List ℕ
@@ -49,6 +45,6 @@ lineTaken room i space = record {
   held = i .held;
   left = length (unread i space) - (lineSize (unread i space) + 1);
   size = min (i .size + lineSize (unread i space)) (room + 1);
-  whole = ended (unread i space);
+  whole = hasLineEnd (unread i space);
   number = i .number;
 }

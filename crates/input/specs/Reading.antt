@@ -6,39 +6,32 @@ use mathlib.Core.List.{List, _++_}
 use mathlib.Core.Bool.{Bool, true, false, cond}
 use lib.ListN.{length}
 use lib.Seq.{sets}
-use lib.Dec.{ltb}
 use Rattle.input.specs.declared.Input.{Input}
 use Rattle.input.specs.declared.Next.{Next}
 use Rattle.input.specs.declared.Next.the-variants.{Line, End, Failed}
 use Rattle.input.specs.declared.Source.{Source}
 use Rattle.input.specs.declared.Source.the-variants as source
-use Rattle.input.specs.Lines.{lineSize, firstLine, ended, behindLine, unread}
-
--- Reading changes nothing of the line.
-pub record SameLine (i r : Input) : Type 0 where
-  pub size : r .size ≡ i .size
-  pub whole : r .whole ≡ i .whole
-  pub number : r .number ≡ i .number
+use Rattle.input.specs.Lines.{lineSize, firstLine, hasLineEnd, behindLine, unread}
 
 -- A turn takes what was not taken yet, up to the line's end. What is not taken yet then stood behind that, or came in the turn.
-pub record Turned (i : Input) (line space : List ℕ) (r : Input) (line′ space′ : List ℕ) : Type 0 where
+pub record TakesAndReads (i : Input) (line space : List ℕ) (r : Input) (line′ space′ : List ℕ) : Type 0 where
   pub come : List ℕ
   pub behind : unread r space′ ≡ behindLine (unread i space) ++ come
   pub bytes : line′ ≡ sets line (i .size) (firstLine (unread i space))
   pub size : r .size ≡ min (i .size + lineSize (unread i space)) (length line + 1)
-  pub whole : r .whole ≡ ended (unread i space)
+  pub whole : r .whole ≡ hasLineEnd (unread i space)
   pub number : r .number ≡ i .number
 
 -- Where the line is whole, it is the first one of the text, and what stands behind it is not taken yet.
 pub record Whole (text found after : List ℕ) : Type 0 where
   pub first : firstLine text ≡ found
-  pub end : ended text ≡ true
+  pub end : hasLineEnd text ≡ true
   pub behind : behindLine text ≡ after
 
 -- Where it is not, it is all of the text that was taken, without a line end.
 pub record Part (text found after : List ℕ) : Type 0 where
   pub all : text ≡ found ++ after
-  pub none : ended found ≡ false
+  pub none : hasLineEnd found ≡ false
 
 -- A line `found` in what was not taken yet, `text`, and what came behind it. The bytes lent for it have its front, and its size is one more than
 -- they are where it is longer; `after` is not taken yet then.
@@ -55,16 +48,6 @@ unfoldable pub Comes : Input → List ℕ → List ℕ → Next → List ℕ →
 Comes i line space (Line r) line′ space′ = Handed (unread i space) line r line′ (unread r space′) × (r .number ≡ (i .number + 1) % 2 ^ 64)
 Comes i line space End line′ space′ = Unit {0}
 Comes i line space Failed line′ space′ = Unit {0}
-
--- Why there is no line.
-abbrev pub without : Source → Next
-without source.Open = End
-without source.Ended = End
-without source.Failed = Failed
-
--- A line, perhaps the last one and without an end; or why there is none.
-unfoldable pub answerOf : Input → Next
-answerOf i = cond (i .whole) (Line i) (cond (ltb 0 (i .size)) (Line i) (without (i .source)))
 
 -- Whether a read failed.
 abbrev pub failed : Source → Bool

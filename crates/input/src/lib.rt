@@ -5,8 +5,9 @@ ghost use mathlib.Core.Bool.{false};
 ghost use lib.ListN.{length, drop};
 ghost use lib.Dec.{leb};
 ghost use lib.Seq.{sets};
-ghost use Rattle.input.specs.Lines.{longest, freshInput, nextLine, firstLine, unread, lineTaken};
-ghost use Rattle.input.specs.Reading.{Turned, Comes, answerOf, SameLine, isCut};
+ghost use Rattle.input.specs.Lines.{longest, freshInput, firstLine, unread, lineTaken};
+ghost use Rattle.input.specs.Reading.{TakesAndReads, Comes, isCut};
+ghost use Rattle.input.specs.Inner.{nextLine, SameLine, answerOf};
 use libc::STDIN_FILENO;
 use lines::Run;
 
@@ -19,7 +20,7 @@ pub enum Source {
 
 impl Source {
     // By what a read answered.
-    fn after(got: isize) -> Source {
+    fn of_read(got: isize) -> Source {
         if got > 0 {
             return Source::Open;
         }
@@ -75,18 +76,18 @@ impl Input {
     pub fn next(self, line: &mut [u8], space: &mut [u8]) -> Next
         ensures { λ r. ⌜ Comes self (now (line .entry)) (now (space .entry)) r (now (line .exit)) (now (space .exit)) ⌝ }
     {
-        let mut s = self.begun();
+        let mut s = self.next_line();
         let mut turns = u64::MAX;
         while turns > 0 {
-            s = s.turn(line, space);
+            s = s.take_and_read(line, space);
             turns = s.turns_left(turns);
         }
         s.answer()
     }
 
     // Takes what was read, and reads once more where the line goes on.
-    fn turn(self, line: &mut [u8], space: &mut [u8]) -> Input
-        ensures { λ r. ⌜ Turned self (now (line .entry)) (now (space .entry)) r (now (line .exit)) (now (space .exit)) ⌝ }
+    fn take_and_read(self, line: &mut [u8], space: &mut [u8]) -> Input
+        ensures { λ r. ⌜ TakesAndReads self (now (line .entry)) (now (space .entry)) r (now (line .exit)) (now (space .exit)) ⌝ }
     {
         let s = self.take(line, space);
         if s.whole {
@@ -117,7 +118,7 @@ impl Input {
     }
 
     // Whether a read failed inside the line: what has come of it stands for nothing.
-    pub fn cut(self) -> bool
+    pub fn is_cut(self) -> bool
         ensures { λ r. ⌜ r ≡ isCut self ⌝ }
     {
         let source = self.source;
@@ -140,13 +141,13 @@ impl Input {
         let n = Run::Until(b'\n').length(piece);
         wire::put_all(line, size, wire::front(piece, n));
         self.left = rest(piece.len(), n + 1);
-        self.size = grown(size, n, line.len() + 1);
+        self.size = sum_at_most(size, n, line.len() + 1);
         self.whole = n < piece.len();
         self
     }
 
     // At the start of the next line.
-    fn begun(mut self) -> Input
+    fn next_line(mut self) -> Input
         ensures { λ r. ⌜ r ≡ nextLine self ⌝ }
     {
         self.size = 0;
@@ -166,7 +167,7 @@ impl Input {
         let got = libc::read(STDIN_FILENO, space);
         let n = io::count(got, space);
         Input {
-            source: Source::after(got),
+            source: Source::of_read(got),
             held: n,
             left: n,
             size: self.size,
@@ -210,7 +211,7 @@ fn rest(all: usize, n: usize) -> usize
 }
 
 // A size and n more, and never over `most`.
-fn grown(size: usize, n: usize, most: usize) -> usize
+fn sum_at_most(size: usize, n: usize, most: usize) -> usize
     ensures { λ r. ⌜ r ≡ min (size + n) most ⌝ }
 {
     if most <= size {

@@ -16,7 +16,7 @@ use Rattle.wire.proofs.Fields.{part-number, part-split, bytes-part, length-part
 use Rattle.items.specs.declared.Setting.{Setting}
 use Rattle.items.specs.declared.Item.{Item}
 use Rattle.items.specs.declared.Item.the-variants.{Window, Set, Frame, Remove, Show, Unknown}
-use Rattle.items.specs.Items.{signed16, unsigned16, settingBytes, settingIn, tagOf, valueOf, is, dataIn, itemIn}
+use Rattle.items.specs.Items.{signed16, unsigned16, settingBytes, settingIn, tagOf, valueOf, isItem, dataIn, itemIn}
 use Rattle.items.specs.Run.{Meant, meantBy}
 use Rattle.items.proofs.Signs.{unsigned-below, unsigned-signed, signed-unsigned}
 
@@ -117,10 +117,10 @@ written-back Unknown ds fits = rw fits unknown-back
 
 -- The cases of reading: P holds of what is read if it holds of each item with what led to it.
 module _ (P : Item → Type 0) (tag : ℕ) (v : List ℕ) where
-  case : (want size : ℕ) (x : Item) {y : Item} → (tag ≡ want → length v ≡ size → P x) → P y → P (cond (is tag v want size) x y)
-  case want size x {y} f g = go (is tag v want size) refl
+  case : (want size : ℕ) (x : Item) {y : Item} → (tag ≡ want → length v ≡ size → P x) → P y → P (cond (isItem tag v want size) x y)
+  case want size x {y} f g = go (isItem tag v want size) refl
     where
-      go : (b : Bool) → is tag v want size ≡ b → P (cond b x y)
+      go : (b : Bool) → isItem tag v want size ≡ b → P (cond b x y)
       go true e = let both = and-eq-true-iff (eqb tag want) (eqb (length v) size) .0 e in f (eqb-true _ _ (both .0)) (eqb-true _ _ (both .1))
       go false e = g
 

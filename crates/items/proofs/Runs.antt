@@ -12,7 +12,7 @@ use Rattle.wire.proofs.Fields.{length-field, written-stands, stands-facts, whol
 use Rattle.items.specs.declared.Item.{Item}
 use Rattle.items.specs.declared.Item.the-variants.{Window, Set, Frame, Remove, Show, Unknown}
 use Rattle.items.specs.Items.{settingBytes, tagOf, valueOf}
-use Rattle.items.specs.Run.{Meant, meantBy, runBytes, first, itemsIn, readItems}
+use Rattle.items.specs.Run.{Meant, meantBy, runBytes, firstThen, itemsIn, readItems}
 use Rattle.items.proofs.Reading.{Fits, written-back}
 
 -- A field that bytes start with.
@@ -49,7 +49,7 @@ AllFit (m ∷ ms) = Fits (m .item) (m .data-bytes) × AllFit ms
 none-back : (n : ℕ) → itemsIn n [] ≡ []
 unfolding itemsIn
 none-back zero = refl
-none-back (suc n) = ap (first [] (λ r. itemsIn n r)) (sym (cut-short [] 0 (omega arith)))
+none-back (suc n) = ap (firstThen [] (λ r. itemsIn n r)) (sym (cut-short [] 0 (omega arith)))
 
 -- The items that were written, as far as they are asked for.
 run-back : (ms : List Meant) (n : ℕ) → length ms ≤ n → AllFit ms → itemsIn n (runBytes ms) ≡ ms
@@ -61,7 +61,7 @@ run-back (m ∷ ms) (suc n) h fits =
     let v = valueOf (m .item) (m .data-bytes) in
     let rest = runBytes ms in
     let short = value-short (m .item) (m .data-bytes) (fits .0) in
-    ap (first (field tag v ++ rest) (λ r. itemsIn n r)) (found tag v rest short)
+    ap (firstThen (field tag v ++ rest) (λ r. itemsIn n r)) (found tag v rest short)
     ∙ ap₂ (λ (x : Meant) (l : List Meant). x ∷ l) (ap (meantBy tag) (value-there tag v rest short) ∙ written-back (m .item) (m .data-bytes) (fits .0))
     (ap (itemsIn n) (rest-there tag v rest short) ∙ run-back ms n (omega arith) (fits .1))
 

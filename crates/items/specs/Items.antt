@@ -50,8 +50,8 @@ itemBytes i ds = field (tagOf i) (valueOf i ds)
 -- ---- reading
 
 -- A tag and a value of this length.
-abbrev pub is : ℕ → List ℕ → ℕ → ℕ → Bool
-is tag v want size = eqb tag want && eqb (length v) size
+abbrev pub isItem : ℕ → List ℕ → ℕ → ℕ → Bool
+isItem tag v want size = eqb tag want && eqb (length v) size
 
 -- The question in a value.
 abbrev pub settingIn : List ℕ → Setting
@@ -64,9 +64,9 @@ dataIn v = part 4 8 v
 -- What an item of this tag and value says; any other tag, or another length, is unknown.
 unfoldable pub itemIn : ℕ → List ℕ → Item
 itemIn tag v =
-    cond (is tag v 16 2) (Window (number (part 0 2 v)))
-    (cond (is tag v 17 6) (Set (settingIn v))
-    (cond (is tag v 18 12) (Frame (number (part 0 4 v)))
-    (cond (is tag v 19 1) (Remove (getD v 0 0))
-    (cond (is tag v 20 1) (Show (getD v 0 0))
+    cond (isItem tag v 16 2) (Window (number (part 0 2 v)))
+    (cond (isItem tag v 17 6) (Set (settingIn v))
+    (cond (isItem tag v 18 12) (Frame (number (part 0 4 v)))
+    (cond (isItem tag v 19 1) (Remove (getD v 0 0))
+    (cond (isItem tag v 20 1) (Show (getD v 0 0))
     Unknown))))

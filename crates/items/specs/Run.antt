@@ -33,14 +33,14 @@ runBytes [] = []
 runBytes (m ∷ ms) = itemBytes (m .item) (m .data-bytes) ++ runBytes ms
 
 -- The first field's item, and then the others; a field that the bytes end in is no item.
-abbrev pub first : List ℕ → (List ℕ → List Meant) → Field → List Meant
-first bs others (Whole tag start size) = meantBy tag (part start size bs) ∷ others (drop (start + size) bs)
-first bs others Cut = []
+abbrev pub firstThen : List ℕ → (List ℕ → List Meant) → Field → List Meant
+firstThen bs others (Whole tag start size) = meantBy tag (part start size bs) ∷ others (drop (start + size) bs)
+firstThen bs others Cut = []
 
 -- At most n of the items that bytes hold.
 unfoldable pub itemsIn : ℕ → List ℕ → List Meant
 itemsIn zero bs = []
-itemsIn (suc n) bs = first bs (λ r. itemsIn n r) (fieldAt bs 0)
+itemsIn (suc n) bs = firstThen bs (λ r. itemsIn n r) (fieldAt bs 0)
 
 -- All of them: there are no more than bytes.
 unfoldable pub readItems : List ℕ → List Meant

@@ -66,19 +66,19 @@ impl Item {
         ensures { λ r. ⌜ r ≡ itemIn tag (now (value .entry)) ⌝ }
     {
         let size = value.len();
-        if is(tag, size, Item::WINDOW, Item::WINDOW_SIZE) {
+        if is_item(tag, size, Item::WINDOW, Item::WINDOW_SIZE) {
             return Item::Window(wire::read16(value, 0));
         }
-        if is(tag, size, Item::SET, Item::SET_SIZE) {
+        if is_item(tag, size, Item::SET, Item::SET_SIZE) {
             return Item::Set(Setting::read(value));
         }
-        if is(tag, size, Item::FRAME, Item::FRAME_SIZE) {
+        if is_item(tag, size, Item::FRAME, Item::FRAME_SIZE) {
             return Item::Frame(wire::read32(value, 0));
         }
-        if is(tag, size, Item::REMOVE, Item::REMOVE_SIZE) {
+        if is_item(tag, size, Item::REMOVE, Item::REMOVE_SIZE) {
             return Item::Remove(wire::byte(value, 0));
         }
-        if is(tag, size, Item::SHOW, Item::SHOW_SIZE) {
+        if is_item(tag, size, Item::SHOW, Item::SHOW_SIZE) {
             return Item::Show(wire::byte(value, 0));
         }
         Item::Unknown
@@ -148,7 +148,7 @@ impl Setting {
 }
 
 // Whether a tag and a length are these.
-fn is(tag: u8, size: usize, want: u8, wanted: usize) -> bool
+fn is_item(tag: u8, size: usize, want: u8, wanted: usize) -> bool
     ensures { λ r. ⌜ r ≡ (eqb tag want && eqb size wanted) ⌝ }
 {
     tag == want && size == wanted

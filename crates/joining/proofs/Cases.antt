@@ -13,19 +13,19 @@ use Rattle.joining.specs.declared.Session.{Session}
 use Rattle.joining.specs.declared.Answer.the-variants.{Kept}
 use Rattle.joining.specs.Frame.{Frame, senderOf, destinationOf, zeroBitsOf, frameRefusal, isAnnouncement, isPacket, foreign, malformed}
 use Rattle.joining.specs.Joining.{carries, fit, closed, opened, stored, advanced, finishes, refused, sizeIn, sound, announcementRefusal, announce, packet, take-frame}
-use Rattle.joining.specs.Run.{soloStep, passes, Announces, Numbered}
+use Rattle.joining.specs.Run.{soloStep, isPassedOver, Announces, Numbered}
 use Rattle.joining.proofs.Frames.{sound-frame}
 
 -- Refused 1 to 4; refused and closed; a packet with no open session; a good announcement; the next packet; the last one.
 pub data Case (s : Session) (f : Frame) : Type 0 where
-  passed : (n : ℕ) → 1 ≤ n → n ≤ 4 → passes f ≡ true → soloStep s f ≡ refused n s → Case s f
-  shut : (n : ℕ) → passes f ≡ false → soloStep s f ≡ refused n (closed s) → Case s f
-  stray : passes f ≡ false → s .size ≡ 0 → soloStep s f ≡ refused 8 s → Case s f
-  good : passes f ≡ false → carries (sizeIn (f .data-bytes)) ≡ true → Announces (sizeIn (f .data-bytes)) f
+  passed : (n : ℕ) → 1 ≤ n → n ≤ 4 → isPassedOver f ≡ true → soloStep s f ≡ refused n s → Case s f
+  shut : (n : ℕ) → isPassedOver f ≡ false → soloStep s f ≡ refused n (closed s) → Case s f
+  stray : isPassedOver f ≡ false → s .size ≡ 0 → soloStep s f ≡ refused 8 s → Case s f
+  good : isPassedOver f ≡ false → carries (sizeIn (f .data-bytes)) ≡ true → Announces (sizeIn (f .data-bytes)) f
       → soloStep s f ≡ record { answer = Kept; session = opened (sizeIn (f .data-bytes)) } → Case s f
-  next : passes f ≡ false → (s .size ≡ 0 → ⊥) → Numbered (s .next) f → s .next < s .count
+  next : isPassedOver f ≡ false → (s .size ≡ 0 → ⊥) → Numbered (s .next) f → s .next < s .count
       → soloStep s f ≡ record { answer = Kept; session = advanced s (f .data-bytes) } → Case s f
-  last : passes f ≡ false → (s .size ≡ 0 → ⊥) → Numbered (s .next) f → s .count ≤ s .next
+  last : isPassedOver f ≡ false → (s .size ≡ 0 → ⊥) → Numbered (s .next) f → s .count ≤ s .next
       → soloStep s f ≡ finishes (stored s (f .data-bytes)) (s .size) → Case s f
 
 -- A frame that isn't refused 2 is an announcement or a data packet.
@@ -74,18 +74,18 @@ module _ (f : Frame) where
   unfolding announce announcementRefusal
   opening well a e₄ e₅ e₆ e₇ s fits = as-announcement well s fits a ∙ rw (e₄, e₅, e₆, e₇)
 
-  silent : fine ≡ false → passes f ≡ true
-  unfolding passes
+  silent : fine ≡ false → isPassedOver f ≡ true
+  unfolding isPassedOver
   silent e = rw e
 
-  other-first : isAnnouncement (f .identifier) ≡ true → first ≡ false → passes f ≡ true
-  unfolding passes
+  other-first : isAnnouncement (f .identifier) ≡ true → first ≡ false → isPassedOver f ≡ true
+  unfolding isPassedOver
   other-first a e = rw (a, e) (or-true (not fine))
 
-  told : fine ≡ true → (isAnnouncement (f .identifier) ≡ false) ⊎ (first ≡ true) → passes f ≡ false
-  unfolding passes
-  told e (inl a) = rw (e, a)
-  told e (inr b) = rw (e, b) (and-false (isAnnouncement (f .identifier)))
+  heard-of : fine ≡ true → (isAnnouncement (f .identifier) ≡ false) ⊎ (first ≡ true) → isPassedOver f ≡ false
+  unfolding isPassedOver
+  heard-of e (inl a) = rw (e, a)
+  heard-of e (inr b) = rw (e, b) (and-false (isAnnouncement (f .identifier)))
 
   module _ (s : Session) (fits : fit s ≡ true) where
     by-size : fine ≡ true → isAnnouncement (f .identifier) ≡ true → first ≡ true → sound (f .data-bytes) ≡ true → group ≡ true
@@ -93,18 +93,18 @@ module _ (f : Frame) where
     unfolding announce announcementRefusal
     by-size well a e₄ e₅ e₆ true e₇ =
         let opens = opening well a e₄ e₅ e₆ e₇ in
-        good (told well (inr e₄)) e₇ (record { announcement = a; says = refl; opens = opens }) (opens s fits)
-    by-size well a e₄ e₅ e₆ false e₇ = shut 7 (told well (inr e₄)) (as-announcement well s fits a ∙ rw (e₄, e₅, e₆, e₇))
+        good (heard-of well (inr e₄)) e₇ (record { announcement = a; says = refl; opens = opens }) (opens s fits)
+    by-size well a e₄ e₅ e₆ false e₇ = shut 7 (heard-of well (inr e₄)) (as-announcement well s fits a ∙ rw (e₄, e₅, e₆, e₇))
 
     by-group : fine ≡ true → isAnnouncement (f .identifier) ≡ true → first ≡ true → sound (f .data-bytes) ≡ true → (b : Bool) → group ≡ b → Case s f
     unfolding announce announcementRefusal
     by-group well a e₄ e₅ true e₆ = by-size well a e₄ e₅ e₆ (carries (sizeIn (f .data-bytes))) refl
-    by-group well a e₄ e₅ false e₆ = shut 6 (told well (inr e₄)) (as-announcement well s fits a ∙ rw (e₄, e₅, e₆))
+    by-group well a e₄ e₅ false e₆ = shut 6 (heard-of well (inr e₄)) (as-announcement well s fits a ∙ rw (e₄, e₅, e₆))
 
     by-count : fine ≡ true → isAnnouncement (f .identifier) ≡ true → first ≡ true → (b : Bool) → sound (f .data-bytes) ≡ b → Case s f
     unfolding announce announcementRefusal
     by-count well a e₄ true e₅ = by-group well a e₄ e₅ group refl
-    by-count well a e₄ false e₅ = shut 5 (told well (inr e₄)) (as-announcement well s fits a ∙ rw (e₄, e₅))
+    by-count well a e₄ false e₅ = shut 5 (heard-of well (inr e₄)) (as-announcement well s fits a ∙ rw (e₄, e₅))
 
     by-first : fine ≡ true → isAnnouncement (f .identifier) ≡ true → (b : Bool) → first ≡ b → Case s f
     unfolding announce announcementRefusal
@@ -112,8 +112,8 @@ module _ (f : Frame) where
     by-first well a false e₄ = passed 4 (lit≤ tt) (lit≤ tt) (other-first a e₄) (as-announcement well s fits a ∙ rw e₄)
 
     module _ (well : fine ≡ true) (a : isAnnouncement (f .identifier) ≡ false) where
-      heard : passes f ≡ false
-      heard = told well (inl a)
+      heard : isPassedOver f ≡ false
+      heard = heard-of well (inl a)
 
       carrying : getD (f .data-bytes) 0 0 ≡ s .next → Numbered (s .next) f
       carrying e =
@@ -154,10 +154,10 @@ pub cases : (s : Session) (f : Frame) → fit s ≡ true → Case s f
 cases s f fits = by-frame f s fits (fine f) refl
 
 -- The frames that `heard` leaves out are refused 1 to 4, and change nothing.
-pub passing : (s : Session) (f : Frame) → fit s ≡ true → passes f ≡ true → (n : ℕ) × (1 ≤ n) × (n ≤ 4) × (soloStep s f ≡ refused n s)
+pub passing : (s : Session) (f : Frame) → fit s ≡ true → isPassedOver f ≡ true → (n : ℕ) × (1 ≤ n) × (n ≤ 4) × (soloStep s f ≡ refused n s)
 passing s f fits h = go (cases s f fits)
   where
-    never : passes f ≡ false → ⊥
+    never : isPassedOver f ≡ false → ⊥
     never p = false≢true (sym p ∙ h)
 
     go : Case s f → (n : ℕ) × (1 ≤ n) × (n ≤ 4) × (soloStep s f ≡ refused n s)

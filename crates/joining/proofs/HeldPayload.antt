@@ -24,7 +24,7 @@ use Rattle.joining.specs.declared.Answer.the-variants.{Refused, Kept, Co
 use Rattle.joining.specs.declared.Taken.{Taken}
 use Rattle.joining.specs.Frame.{Frame}
 use Rattle.joining.specs.Joining.{fit, place, stored, yields, sizeHeld, payloadHeld, freshSession}
-use Rattle.joining.specs.Run.{soloStep, soloSession, freshSessions, sessionOf, sessionsAt, ownFrames}
+use Rattle.joining.specs.Run.{soloStep, soloSession, freshSessions, sessionOf, sessionsAfterAll, ownFrames}
 use Rattle.joining.proofs.Fitness.{Open, open-numbers, fit-other}
 use Rattle.joining.proofs.Cases.{Case, passed, shut, stray, good, next, last, cases}
 use Rattle.joining.proofs.Mixing.{mixing}
@@ -77,8 +77,8 @@ fresh-clean : Clean freshSession
 fresh-clean = record { long = length-replicate {A = ℕ} 84 255; past = λ h. absurd (h refl) }
 
 -- So are all that 254 fresh sessions come to.
-pub reached-clean : (fs : List Frame) (k : ℕ) → k < 254 → Clean (sessionOf k (sessionsAt freshSessions fs))
-unfolding sessionsAt
+pub reached-clean : (fs : List Frame) (k : ℕ) → k < 254 → Clean (sessionOf k (sessionsAfterAll freshSessions fs))
+unfolding sessionsAfterAll
 reached-clean fs k h =
     rw (mixing k h freshSessions fs (length-replicate 254 freshSession) .0, fresh-of k h)
     (solo-clean freshSession (ownFrames k fs) fresh-fit fresh-clean)

@@ -21,7 +21,7 @@ use Rattle.joining.specs.declared.Answer.{Answer}
 use Rattle.joining.specs.declared.Answer.the-variants.{Refused, Kept, Complete}
 use Rattle.joining.specs.Frame.{Frame, senderOf, frameRefusal}
 use Rattle.joining.specs.Joining.{packets, freshSession, isClosed, fit, opened, place, stored, advanced, yields}
-use Rattle.joining.specs.Run.{freshSessions, sessionOf, sessionsAfter, answerTo, sessionsAt, answersAt, soloStep, soloSession, ownFrames, OfSender, passes, heard, Announces, Numbered, InSequence, joined, Sent}
+use Rattle.joining.specs.Run.{freshSessions, sessionOf, sessionsAfter, answerTo, sessionsAfterAll, answersToAll, soloStep, soloSession, ownFrames, OfSender, isPassedOver, heard, Announces, Numbered, InSequence, joined, Sent}
 use Rattle.joining.proofs.Fitness.{Open}
 use Rattle.joining.proofs.Frames.{sound-frame}
 use Rattle.joining.proofs.Mixing.{mixing, own-answer}
@@ -162,10 +162,10 @@ holding (inl z) o = absurd (o z)
 holding (inr t) o = t
 
 -- An open session goes on holding it, frame by frame.
-step-traced : (s : Session) (h : List Frame) (f : Frame) → fit s ≡ true → Traced s h → Traced (soloStep s f .session) (cond (passes f) h (h ++ (f ∷ [])))
+step-traced : (s : Session) (h : List Frame) (f : Frame) → fit s ≡ true → Traced s h → Traced (soloStep s f .session) (cond (isPassedOver f) h (h ++ (f ∷ [])))
 step-traced s h f fits t = go (cases s f fits)
   where
-    go : Case s f → Traced (soloStep s f .session) (cond (passes f) h (h ++ (f ∷ [])))
+    go : Case s f → Traced (soloStep s f .session) (cond (isPassedOver f) h (h ++ (f ∷ [])))
     go (passed n l u p e) = rw (p, e) t
     go (shut n p e) = rw e (inl refl)
     go (stray p z e) = rw e (inl z)
@@ -177,7 +177,7 @@ solo-traced : (s : Session) (fs h : List Frame) → fit s ≡ true → Traced s 
 unfolding soloSession heard
 solo-traced s [] h fits t = rw append-nil t
 solo-traced s (f ∷ fs) h fits t =
-    rw (more (passes f)) (solo-traced (soloStep s f .session) fs (cond (passes f) h (h ++ (f ∷ []))) (step-fit s f fits) (step-traced s h f fits t))
+    rw (more (isPassedOver f)) (solo-traced (soloStep s f .session) fs (cond (isPassedOver f) h (h ++ (f ∷ []))) (step-fit s f fits) (step-traced s h f fits t))
   where
     more : (b : Bool) → h ++ cond b (heard fs) (f ∷ heard fs) ≡ cond b h (h ++ (f ∷ [])) ++ heard fs
     more true = refl
@@ -238,7 +238,7 @@ own-of k (f ∷ fs) = go (eqb (senderOf (f .identifier)) k) refl (own-of k fs)
 heard-of : (k : ℕ) (fs : List Frame) → OfSender k fs → OfSender k (heard fs)
 unfolding heard
 heard-of k [] h = tt
-heard-of k (f ∷ fs) h = go (passes f) (heard-of k fs (h .1))
+heard-of k (f ∷ fs) h = go (isPassedOver f) (heard-of k fs (h .1))
   where
     go : (b : Bool) → OfSender k (heard fs) → OfSender k (cond b (heard fs) (f ∷ heard fs))
     go true r = r
@@ -264,26 +264,26 @@ fresh-closed = refl
 
 -- The whole bus, all sessions fresh: where f yields a report after the frames fs of whatever senders, then f's own sender sent the announcement and,
 -- since then, exactly the packets that the report was read from, in sequence.
-pub sent-by-one : (fs : List Frame) (f : Frame) (r : Report) → answerTo (sessionsAt freshSessions fs) f ≡ Complete r
+pub sent-by-one : (fs : List Frame) (f : Frame) (r : Report) → answerTo (sessionsAfterAll freshSessions fs) f ≡ Complete r
     → (sent : Sent (ownFrames (senderOf (f .identifier)) fs) f r) × OfSender (senderOf (f .identifier)) (sent .announced ∷ sent .middle)
 sent-by-one fs f r h =
     let k : ℕ = senderOf (f .identifier) in
-    let known : k < 254 = known-sender (sessionsAt freshSessions fs) f r h in
-    let at : sessionOf k (sessionsAt freshSessions fs) ≡ soloSession freshSession (ownFrames k fs) =
+    let known : k < 254 = known-sender (sessionsAfterAll freshSessions fs) f r h in
+    let at : sessionOf k (sessionsAfterAll freshSessions fs) ≡ soloSession freshSession (ownFrames k fs) =
     mixing k known freshSessions fs (length-replicate 254 freshSession) .0
     ∙ ap (λ (s : Session). soloSession s (ownFrames k fs)) (fresh-of k known) in
     let sent = sent-alone freshSession (ownFrames k fs) f r fresh-closed
-    (ap (λ (s : Session). soloStep s f .answer) (sym at) ∙ sym (own-answer k known (sessionsAt freshSessions fs) f refl) ∙ h) in
+    (ap (λ (s : Session). soloStep s f .answer) (sym at) ∙ sym (own-answer k known (sessionsAfterAll freshSessions fs) f refl) ∙ h) in
     (sent, behind-of k (sent .before) _ (rw (sent .since) at (heard-of k (ownFrames k fs) (own-of k fs))))
 
 -- The answers of a run are those to its frames at the sessions that the frames before them left.
-pub answer-at : (ss : List Session) (fs : List Frame) (f : Frame) (gs : List Frame) (d : Answer) → getD (answersAt ss (fs ++ (f ∷ gs))) (length fs) d ≡ answerTo (sessionsAt ss fs) f
-unfolding answersAt sessionsAt
+pub answer-at : (ss : List Session) (fs : List Frame) (f : Frame) (gs : List Frame) (d : Answer) → getD (answersToAll ss (fs ++ (f ∷ gs))) (length fs) d ≡ answerTo (sessionsAfterAll ss fs) f
+unfolding answersToAll sessionsAfterAll
 answer-at ss [] f gs d = refl
 answer-at ss (g ∷ fs) f gs d = answer-at (sessionsAfter ss g) fs f gs d
 
 -- No made-up report: whatever was sent before and after by whom, where a run answers f with a report, f's own sender sent all that it was read from.
-pub no-made-up-report : (fs : List Frame) (f : Frame) (gs : List Frame) (d : Answer) (r : Report) → getD (answersAt freshSessions (fs ++ (f ∷ gs))) (length fs) d ≡ Complete r
+pub no-made-up-report : (fs : List Frame) (f : Frame) (gs : List Frame) (d : Answer) (r : Report) → getD (answersToAll freshSessions (fs ++ (f ∷ gs))) (length fs) d ≡ Complete r
     → (sent : Sent (ownFrames (senderOf (f .identifier)) fs) f r) × OfSender (senderOf (f .identifier)) (sent .announced ∷ sent .middle)
 no-made-up-report fs f gs d r h = sent-by-one fs f r (sym (answer-at freshSessions fs f gs d) ∙ h)
 

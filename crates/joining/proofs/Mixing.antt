@@ -13,7 +13,7 @@ use Rattle.joining.specs.declared.Session.{Session}
 use Rattle.joining.specs.declared.Answer.{Answer}
 use Rattle.joining.specs.Frame.{Frame, senderOf, frameRefusal}
 use Rattle.joining.specs.Joining.{take-frame}
-use Rattle.joining.specs.Run.{nobody, sessionOf, sessionsAfter, answerTo, sessionsAt, answersAt, soloStep, soloSession, soloAnswers, ownFrames, ownAnswers}
+use Rattle.joining.specs.Run.{nobody, sessionOf, sessionsAfter, answerTo, sessionsAfterAll, answersToAll, soloStep, soloSession, soloAnswers, ownFrames, ownAnswers}
 
 module _ (ss : List Session) (f : Frame) where
   sender : ℕ
@@ -48,8 +48,8 @@ refused-changes-none ss f h =
     (ap (set ss (sender ss f)) (refused-stays (sessionOf (sender ss f) ss) f h) ∙ set-getD ss (sender ss f) nobody)
     refl
 
-pub length-at : (ss : List Session) (fs : List Frame) → length (sessionsAt ss fs) ≡ length ss
-unfolding sessionsAt
+pub length-at : (ss : List Session) (fs : List Frame) → length (sessionsAfterAll ss fs) ≡ length ss
+unfolding sessionsAfterAll
 length-at ss [] = refl
 length-at ss (f ∷ fs) = length-at (sessionsAfter ss f) fs ∙ length-after ss f
 
@@ -64,9 +64,9 @@ module _ (k : ℕ) (known : k < 254) where
 
   -- Of every run, the session of k at the end and the answers to k are those of its own frames alone, in their order.
   pub mixing : (ss : List Session) (fs : List Frame) → length ss ≡ 254
-      → (sessionOf k (sessionsAt ss fs) ≡ soloSession (sessionOf k ss) (ownFrames k fs))
-      × (ownAnswers k fs (answersAt ss fs) ≡ soloAnswers (sessionOf k ss) (ownFrames k fs))
-  unfolding sessionsAt answersAt soloSession soloAnswers ownFrames ownAnswers
+      → (sessionOf k (sessionsAfterAll ss fs) ≡ soloSession (sessionOf k ss) (ownFrames k fs))
+      × (ownAnswers k fs (answersToAll ss fs) ≡ soloAnswers (sessionOf k ss) (ownFrames k fs))
+  unfolding sessionsAfterAll answersToAll soloSession soloAnswers ownFrames ownAnswers
   mixing ss [] n = (refl, refl)
   mixing ss (f ∷ fs) n =
       go (eqb (senderOf (f .identifier)) k) refl (mixing (sessionsAfter ss f) fs (length-after ss f ∙ n))
@@ -78,11 +78,11 @@ module _ (k : ℕ) (known : k < 254) where
       own = ownFrames k fs
 
       got : List Answer
-      got = ownAnswers k fs (answersAt next fs)
+      got = ownAnswers k fs (answersToAll next fs)
 
       go : (b : Bool) → eqb (senderOf (f .identifier)) k ≡ b
-          → (sessionOf k (sessionsAt next fs) ≡ soloSession (sessionOf k next) own) × (got ≡ soloAnswers (sessionOf k next) own)
-          → (sessionOf k (sessionsAt next fs) ≡ soloSession (sessionOf k ss) (cond b (f ∷ own) own))
+          → (sessionOf k (sessionsAfterAll next fs) ≡ soloSession (sessionOf k next) own) × (got ≡ soloAnswers (sessionOf k next) own)
+          → (sessionOf k (sessionsAfterAll next fs) ≡ soloSession (sessionOf k ss) (cond b (f ∷ own) own))
           × (cond b (answerTo ss f ∷ got) got ≡ soloAnswers (sessionOf k ss) (cond b (f ∷ own) own))
       go true e ih =
           let h = eqb-true (senderOf (f .identifier)) k e in
@@ -96,7 +96,7 @@ module _ (k : ℕ) (known : k < 254) where
 
   -- So two runs in which k sends the same frames, whatever the others send in them, give k the same session and the same answers.
   pub unmixed : (ss ts : List Session) (fs gs : List Frame) → length ss ≡ 254 → length ts ≡ 254 → sessionOf k ss ≡ sessionOf k ts → ownFrames k fs ≡ ownFrames k gs
-      → (sessionOf k (sessionsAt ss fs) ≡ sessionOf k (sessionsAt ts gs)) × (ownAnswers k fs (answersAt ss fs) ≡ ownAnswers k gs (answersAt ts gs))
+      → (sessionOf k (sessionsAfterAll ss fs) ≡ sessionOf k (sessionsAfterAll ts gs)) × (ownAnswers k fs (answersToAll ss fs) ≡ ownAnswers k gs (answersToAll ts gs))
   unmixed ss ts fs gs n m s e =
       let a = mixing ss fs n in
       let b = mixing ts gs m in

@@ -15,7 +15,7 @@ use Rattle.wire.proofs.Fields.{bytes-part}
 use Rattle.joining.specs.declared.Session.{Session}
 use Rattle.joining.specs.Frame.{Frame, senderOf}
 use Rattle.joining.specs.Joining.{carries, freshSession, isClosed, isOpen, fit, opened, stored, advanced, place}
-use Rattle.joining.specs.Run.{nobody, freshSessions, sessionOf, sessionsAt, soloStep, soloSession, ownFrames}
+use Rattle.joining.specs.Run.{nobody, freshSessions, sessionOf, sessionsAfterAll, soloStep, soloSession, ownFrames}
 use Rattle.joining.proofs.Fitness.{Open, open-numbers, fit-other, carried-range}
 use Rattle.joining.proofs.Mixing.{mixing}
 use Rattle.joining.proofs.Cases.{Case, passed, shut, stray, good, next, last, cases}
@@ -64,7 +64,7 @@ pub fresh-of : (k : ℕ) → k < 254 → sessionOf k freshSessions ≡ freshSess
 fresh-of k h = getD-replicate 254 k freshSession nobody h
 
 -- Whatever is sent by whom, every session that 254 fresh ones come to is fit.
-pub reached-fit : (fs : List Frame) (k : ℕ) → k < 254 → fit (sessionOf k (sessionsAt freshSessions fs)) ≡ true
+pub reached-fit : (fs : List Frame) (k : ℕ) → k < 254 → fit (sessionOf k (sessionsAfterAll freshSessions fs)) ≡ true
 reached-fit fs k h =
     rw (mixing k h freshSessions fs (length-replicate 254 freshSession) .0, fresh-of k h) (solo-fit freshSession (ownFrames k fs) fresh-fit)
 
@@ -130,7 +130,7 @@ own-bytes k (f ∷ fs) b = go (eqb (senderOf (f .identifier)) k) (own-bytes k fs
     go true h = (b .0, h)
     go false h = h
 
-pub reached-held : (fs : List Frame) → OfBytes fs → (k : ℕ) → k < 254 → Held (sessionOf k (sessionsAt freshSessions fs) .bytes)
+pub reached-held : (fs : List Frame) → OfBytes fs → (k : ℕ) → k < 254 → Held (sessionOf k (sessionsAfterAll freshSessions fs) .bytes)
 reached-held fs b k h =
     rw (mixing k h freshSessions fs (length-replicate 254 freshSession) .0, fresh-of k h)
     (solo-held freshSession (ownFrames k fs) fresh-fit (own-bytes k fs b) blank-held)

@@ -6,7 +6,7 @@ use lib.ListN.{getD, take, drop, replicate}
 use lib.Seq.{sets}
 use lib.Dec.{leb, ltb, eqb}
 use Rattle.wire.specs.Bytes.{number, part}
-use Rattle.report.specs.Payload.{largest, readPayload}
+use Rattle.report.specs.Payload.{largestPayload, readPayload}
 use Rattle.report.specs.declared.Reading.{Reading}
 use Rattle.report.specs.declared.Reading.the-variants as reading
 use Rattle.joining.specs.declared.Session.{Session}
@@ -21,11 +21,11 @@ packets size = (size + 6) / 7
 
 -- The sizes that a payload of ours can have: 17, or 20 to 84.
 unfoldable pub carries : ℕ → Bool
-carries size = eqb size 17 || leb 20 size && leb size largest
+carries size = eqb size 17 || leb 20 size && leb size largestPayload
 
 -- Rule 3.3: a fresh session is closed, and its payload bytes are 255.
 abbrev pub freshSession : Session
-freshSession = record { bytes = replicate largest 255; size = 0; count = 0; next = 0 }
+freshSession = record { bytes = replicate largestPayload 255; size = 0; count = 0; next = 0 }
 
 -- Rule 3.3: closing sets size, count and next packet to 0, and leaves the payload bytes alone.
 abbrev pub closed : Session → Session
@@ -33,7 +33,7 @@ closed s = record { bytes = s .bytes; size = 0; count = 0; next = 0 }
 
 -- Rule 3.4: opened for a payload of this size: packet 1 is next, and all payload bytes are 255.
 abbrev pub opened : ℕ → Session
-opened size = record { bytes = replicate largest 255; size = size; count = packets size; next = 1 }
+opened size = record { bytes = replicate largestPayload 255; size = size; count = packets size; next = 1 }
 
 unfoldable pub isClosed : Session → Bool
 isClosed s = eqb (s .size) 0 && eqb (s .count) 0 && eqb (s .next) 0

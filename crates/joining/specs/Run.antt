@@ -45,13 +45,13 @@ answerTo ss f =
     (Refused (frameRefusal (f .identifier) (f .data-bytes)))
 
 -- A run of frames: the sessions at its end, and the answers in order.
-unfoldable pub sessionsAt : List Session → List Frame → List Session
-sessionsAt ss [] = ss
-sessionsAt ss (f ∷ fs) = sessionsAt (sessionsAfter ss f) fs
+unfoldable pub sessionsAfterAll : List Session → List Frame → List Session
+sessionsAfterAll ss [] = ss
+sessionsAfterAll ss (f ∷ fs) = sessionsAfterAll (sessionsAfter ss f) fs
 
-unfoldable pub answersAt : List Session → List Frame → List Answer
-answersAt ss [] = []
-answersAt ss (f ∷ fs) = answerTo ss f ∷ answersAt (sessionsAfter ss f) fs
+unfoldable pub answersToAll : List Session → List Frame → List Answer
+answersToAll ss [] = []
+answersToAll ss (f ∷ fs) = answerTo ss f ∷ answersToAll (sessionsAfter ss f) fs
 
 -- Rule 3.8: a frame of a session's own sender, taken by it.
 abbrev pub soloStep : Session → Frame → Taken
@@ -83,15 +83,15 @@ OfSender k [] = Unit
 OfSender k (f ∷ fs) = (senderOf (f .identifier) ≡ k) × OfSender k fs
 
 -- Refusals 1 to 4, which are given whatever the session is, and change nothing.
-unfoldable pub passes : Frame → Bool
-passes f =
+unfoldable pub isPassedOver : Frame → Bool
+isPassedOver f =
     not (eqb (frameRefusal (f .identifier) (f .data-bytes)) 0)
     || isAnnouncement (f .identifier) && not (eqb (getD (f .data-bytes) 0 0) 32)
 
 -- The other frames, in their order.
 unfoldable pub heard : List Frame → List Frame
 heard [] = []
-heard (f ∷ fs) = cond (passes f) (heard fs) (f ∷ heard fs)
+heard (f ∷ fs) = cond (isPassedOver f) (heard fs) (f ∷ heard fs)
 
 -- Rule 3.4: an announcement that opens every fit session, open or closed, for this size.
 pub record Announces (size : ℕ) (f : Frame) : Type 0 where

@@ -5,7 +5,7 @@ ghost use mathlib.Core.List.{[]};
 ghost use Prim.Native.Nat.{_-_, _*_, _≤_};
 ghost use lib.ListN.{take, drop};
 ghost use lib.Seq.{sets};
-ghost use Rattle.report.specs.Payload.{largest, readPayload};
+ghost use Rattle.report.specs.Payload.{largestPayload, readPayload};
 ghost use Rattle.joining.specs.Frame.{foreign, frameRefusal, senderIn};
 ghost use Rattle.joining.specs.Joining.{packets, carries, freshSession, isOpen, fit, closed, opened, stored, finishes, yields, refused, sound, announcementRefusal, announce, packet, take-frame, sizeHeld, payloadHeld};
 
@@ -251,7 +251,7 @@ fn sound(data: &[u8]) -> bool
 
 // The session that an announcement opens, replacing what was under way.
 fn opened(size: u16) -> Session
-    requires { ⌜ size ≤ largest ⌝ }
+    requires { ⌜ size ≤ largestPayload ⌝ }
     ensures { λ r. ⌜ r ≡ opened size ⌝ }
 {
     let mut s = Session::fresh();
@@ -332,7 +332,7 @@ fn packet(s: Session, data: &[u8]) -> Taken
             },
         };
     }
-    finished(bytes, size)
+    finishes(bytes, size)
 }
 
 // The session's bytes with the expected packet's among them, those past the size left out.
@@ -361,7 +361,7 @@ pub fn store(bytes: &mut [u8], size: u8, sent: u8, data: &[u8])
 }
 
 // What the last packet answers, and the session that it closes.
-fn finished(bytes: [u8; Payload::LARGEST], size: u8) -> Taken
+fn finishes(bytes: [u8; Payload::LARGEST], size: u8) -> Taken
     ensures { λ r. ⌜ r ≡ finishes bytes size ⌝ }
 {
     let answer = answered(wire::front(&bytes, size as usize));

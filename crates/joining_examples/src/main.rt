@@ -25,10 +25,10 @@ use printing::text;
 fn main() {
     let mut space = io::large_buffer();
     let n = io::read_full(libc::STDIN_FILENO, &mut space);
-    all(wire::front(&space, n));
+    every_case(wire::front(&space, n));
 }
 
-fn all(text: &[u8]) {
+fn every_case(text: &[u8]) {
     let mut room = [0u8; Bus::ROOM];
     let mut session = Session::fresh();
     let mut at: usize = 0;

@@ -24,7 +24,7 @@ use Rattle.report.specs.declared.Report.{Report}
 use Rattle.joining.specs.Frame.{Frame, senderOf, malformed, foreign, frameRefusal, isAnnouncement}
 use Rattle.joining.specs.Joining.{fit, stored, announcementRefusal, announce, packet, take-frame, yields}
 use Rattle.joining.specs.Joining as joins
-use Rattle.joining.specs.Run.{freshSessions, sessionOf, answerTo, sessionsAt, answersAt}
+use Rattle.joining.specs.Run.{freshSessions, sessionOf, answerTo, sessionsAfterAll, answersToAll}
 use Rattle.joining.specs.declared.Session.{Session}
 use Rattle.joining.specs.declared.Taken.{Taken}
 use Rattle.joining.specs.declared.Answer.{Answer}
@@ -48,7 +48,7 @@ first x y z = cond x 1 (cond y 2 (cond z 3 0))
 
 refusal-fine : (id : ℕ) (d : List ℕ) → (frameRefusal id d ≡ 0 → ⊥) → Fine (Refused (frameRefusal id d))
 unfolding frameRefusal
-refusal-fine id d some = go (malformed id d) (foreign id) (ltb 253 (senderOf id)) some
+refusal-fine id d positive = go (malformed id d) (foreign id) (ltb 253 (senderOf id)) positive
   where
     go : (x y z : Bool) → (first x y z ≡ 0 → ⊥) → Fine (Refused (first x y z))
     go true y z h = (omega arith, omega arith)
@@ -69,7 +69,7 @@ solo-fine s fits id d = go (eqb (frameRefusal id d) 0) refl
         either A (isAnnouncement id)
         (λ t.
         either A (eqb (announcementRefusal d) 0) (λ e. tt)
-        (λ e. let some = eqb-false (announcementRefusal d) 0 e in (omega arith, omega (arith, announcement-refusals d))))
+        (λ e. let positive = eqb-false (announcementRefusal d) 0 e in (omega arith, omega (arith, announcement-refusals d))))
         (λ t.
         either A (eqb (s .size) 0) (λ e. (omega arith, omega arith))
         (λ e.
@@ -93,7 +93,7 @@ unheard-refused id d h = go (malformed id d) (foreign id) (ltb 253 (senderOf id)
     go false false false e f = clash {b = false} e refl
 
 -- What a log's sessions answer, where frames led to them.
-pub answer-fine : (fs : List Frame) (ss : List Session) → ss ≡ sessionsAt freshSessions fs → (f : Frame) → Fine (answerTo ss f)
+pub answer-fine : (fs : List Frame) (ss : List Session) → ss ≡ sessionsAfterAll freshSessions fs → (f : Frame) → Fine (answerTo ss f)
 answer-fine fs ss heard f =
     either Fine (ltb (senderOf (f .identifier)) 254)
     (λ t.
@@ -105,7 +105,7 @@ answer-fine fs ss heard f =
 
 -- Before any frame there are no reports.
 pub none-yet : enteredBy [] ≡ []
-unfolding enteredBy answersAt
+unfolding enteredBy answersToAll
 none-yet = take-nil 1000000
 
 completed-more : (l : List Answer) (a : Answer) → completed (l ++ a ∷ []) ≡ completed l ++ completed (a ∷ [])
@@ -126,22 +126,22 @@ take-more n l x =
 
 module _ (fs : List Frame) (f : Frame) where
   unfoldable pub answer : Answer
-  answer = answerTo (sessionsAt freshSessions fs) f
+  answer = answerTo (sessionsAfterAll freshSessions fs) f
 
-  with-answer : (a : Answer) → answer ≡ a → enteredBy (fs ++ f ∷ []) ≡ take 1000000 (completed (answersAt freshSessions fs) ++ completed (a ∷ []))
+  with-answer : (a : Answer) → answer ≡ a → enteredBy (fs ++ f ∷ []) ≡ take 1000000 (completed (answersToAll freshSessions fs) ++ completed (a ∷ []))
   unfolding enteredBy answer
   with-answer a e =
-      ap (λ l. take 1000000 (completed l)) (answers-more freshSessions fs f) ∙ ap (take 1000000) (completed-more (answersAt freshSessions fs) (answerTo (sessionsAt freshSessions fs) f))
-      ∙ ap (λ x. take 1000000 (completed (answersAt freshSessions fs) ++ completed (x ∷ []))) e
+      ap (λ l. take 1000000 (completed l)) (answers-more freshSessions fs f) ∙ ap (take 1000000) (completed-more (answersToAll freshSessions fs) (answerTo (sessionsAfterAll freshSessions fs) f))
+      ∙ ap (λ x. take 1000000 (completed (answersToAll freshSessions fs) ++ completed (x ∷ []))) e
 
   pub nothing-more : (a : Answer) → answer ≡ a → completed (a ∷ []) ≡ [] → enteredBy (fs ++ f ∷ []) ≡ enteredBy fs
   unfolding enteredBy
-  nothing-more a e z = with-answer a e ∙ ap (take 1000000) (ap (λ l. completed (answersAt freshSessions fs) ++ l) z ∙ append-nil (completed (answersAt freshSessions fs)))
+  nothing-more a e z = with-answer a e ∙ ap (take 1000000) (ap (λ l. completed (answersToAll freshSessions fs) ++ l) z ∙ append-nil (completed (answersToAll freshSessions fs)))
 
   pub one-more : (r : Report) → answer ≡ Complete r
       → enteredBy (fs ++ f ∷ []) ≡ cond (ltb (length (enteredBy fs)) 1000000) (enteredBy fs ++ r .values ∷ []) (enteredBy fs)
   unfolding enteredBy
-  one-more r e = with-answer (Complete r) e ∙ take-more 1000000 (completed (answersAt freshSessions fs)) (r .values)
+  one-more r e = with-answer (Complete r) e ∙ take-more 1000000 (completed (answersToAll freshSessions fs)) (r .values)
 
 pub enter-refusal : (b : Board) (v : Values) → enterWork b v .refusal ≡ enterRefusal (b .window .counts) v
 unfolding enterWork

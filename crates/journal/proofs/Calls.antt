@@ -8,7 +8,7 @@ use Rattle.text.specs.Text.{behind}
 use Rattle.text.proofs.Places.{none}
 use lib.Seq.{sets}
 use Rattle.journal.specs.declared.Log.{Log}
-use Rattle.journal.specs.Log.{Outcome, Stores, refused, quiet, unless}
+use Rattle.journal.specs.Log.{Outcome, Stores, refused, noText, unless}
 
 module _ {room left : List ℕ} {at next : ℕ} {log₁ : Log} where
   -- The same outcome, said otherwise.
@@ -31,5 +31,5 @@ module _ {room left : List ℕ} {at next : ℕ} {log₁ : Log} where
       → Stores (record { text = text; log = log }) room at log₁ next left
   stores log text e p = record { leaves = e; place = p .0; stored = p .1 }
 
-pub silent : (room : List ℕ) (at : ℕ) {log₁ : Log} (log : Log) → at < 2 ^ 64 → log₁ ≡ log → Stores (quiet log) room at log₁ at room
+pub silent : (room : List ℕ) (at : ℕ) {log₁ : Log} (log : Log) → at < 2 ^ 64 → log₁ ≡ log → Stores (noText log) room at log₁ at room
 silent room at log h e = let p = none room at h in record { leaves = e; place = p .place; stored = p .bytes }

@@ -14,7 +14,7 @@ use Rattle.wire.specs.declared.Field.the-variants.{Cut}
 use Rattle.wire.proofs.Fields.{whole, cut-short, cut-over}
 use Rattle.text.proofs.Decimal.{below-or}
 use Rattle.journal.specs.declared.Log.{Log}
-use Rattle.journal.specs.Log.{Outcome, Consumed, itemDone, after, none, first, items, consumed}
+use Rattle.journal.specs.Log.{Outcome, Consumed, itemDone, after, noItem, firstThen, consumedUpTo, consumed}
 
 -- The length that the first field's head says.
 abbrev pub size : List ℕ → ℕ
@@ -35,20 +35,20 @@ whole-or-cut : (s : List ℕ) → IsWhole s ⊎ (Cut ≡ fieldAt s 0)
 whole-or-cut s = ⊎-elim (λ over. inr (is-cut s over)) (λ fits. inl fits) (below-or (length s) (3 + size s) (ltb (length s) (3 + size s)) refl)
 
 items-whole : (n : ℕ) (log : Log) (s : List ℕ) → IsWhole s
-    → items (suc n) log s ≡ after (done log s .text) (items n (done log s .log) (drop (3 + size s) s))
-unfolding items
-items-whole n log s h = ap (first log s (λ l r. items n l r)) (sym (whole s 0 h))
+    → consumedUpTo (suc n) log s ≡ after (done log s .text) (consumedUpTo n (done log s .log) (drop (3 + size s) s))
+unfolding consumedUpTo
+items-whole n log s h = ap (firstThen log s (λ l r. consumedUpTo n l r)) (sym (whole s 0 h))
 
-items-cut : (n : ℕ) (log : Log) (s : List ℕ) → Cut ≡ fieldAt s 0 → items (suc n) log s ≡ none log s
-unfolding items
-items-cut n log s e = ap (first log s (λ l r. items n l r)) (sym e)
+items-cut : (n : ℕ) (log : Log) (s : List ℕ) → Cut ≡ fieldAt s 0 → consumedUpTo (suc n) log s ≡ noItem log s
+unfolding consumedUpTo
+items-cut n log s e = ap (firstThen log s (λ l r. consumedUpTo n l r)) (sym e)
 
-items-none : (log : Log) (s : List ℕ) → items zero log s ≡ none log s
-unfolding items
+items-none : (log : Log) (s : List ℕ) → consumedUpTo zero log s ≡ noItem log s
+unfolding consumedUpTo
 items-none log s = refl
 
 -- There are no more items than bytes.
-enough : (n m : ℕ) (log : Log) (s : List ℕ) → length s ≤ n → length s ≤ m → items n log s ≡ items m log s
+enough : (n m : ℕ) (log : Log) (s : List ℕ) → length s ≤ n → length s ≤ m → consumedUpTo n log s ≡ consumedUpTo m log s
 enough zero zero log s h k = refl
 enough zero (suc m) log s h k = items-none log s ∙ sym (items-cut m log s (cut-short s 0 (omega arith)))
 enough (suc n) zero log s h k = items-cut n log s (cut-short s 0 (omega arith)) ∙ sym (items-none log s)
@@ -68,7 +68,7 @@ consumed-whole log s w =
     enough (length s) (suc (length s)) log s (omega arith) (omega arith) ∙ items-whole (length s) log s w
     ∙ ap (after (done log s .text)) (enough (length s) (length (drop (3 + size s) s)) (done log s .log) (drop (3 + size s) s) (omega arith) (omega arith))
 
-pub consumed-cut : (log : Log) (s : List ℕ) → Cut ≡ fieldAt s 0 → consumed log s ≡ none log s
+pub consumed-cut : (log : Log) (s : List ℕ) → Cut ≡ fieldAt s 0 → consumed log s ≡ noItem log s
 unfolding consumed
 consumed-cut log s e = enough (length s) (suc (length s)) log s (omega arith) (omega arith) ∙ items-cut (length s) log s e
 

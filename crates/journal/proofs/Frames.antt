@@ -10,7 +10,7 @@ use Rattle.joining.specs.Joining.{take-frame}
 use Rattle.joining.specs.Run.{nobody}
 use Rattle.joining.specs.declared.Taken.{Taken}
 use Rattle.journal.specs.declared.Log.{Log}
-use Rattle.journal.specs.Log.{withSessions, refused, answered, frameItem}
+use Rattle.journal.specs.Log.{withSessions, refused, answerItem, frameItem}
 
 -- What the sender's session makes of a frame.
 module _ (log : Log) (id : ℕ) (ds : List ℕ) where
@@ -21,6 +21,6 @@ module _ (log : Log) (id : ℕ) (ds : List ℕ) where
   unfolding frameItem
   unheard h = sym (rw (le-ltb (id % 256) 254 h))
 
-  pub heard : id % 256 < 254 → answered (withSessions log (set (log .sessions) (id % 256) (taken .session))) (taken .answer) ≡ frameItem log (record { identifier = id; data-bytes = ds })
+  pub heard : id % 256 < 254 → answerItem (withSessions log (set (log .sessions) (id % 256) (taken .session))) (taken .answer) ≡ frameItem log (record { identifier = id; data-bytes = ds })
   unfolding frameItem
   heard h = sym (rw (lt-ltb (id % 256) 254 h))

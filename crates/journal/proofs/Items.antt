@@ -11,33 +11,33 @@ use Rattle.items.specs.Items.{settingIn, dataIn, itemIn}
 use Rattle.items.proofs.Reading.{set-read, frame-read, remove-read, show-read}
 use Rattle.board.proofs.Refusals.{zero-is}
 use Rattle.journal.specs.declared.Log.{Log}
-use Rattle.journal.specs.Log.{counted, refused, unless, early, itemRefusal, setItem, removeItem, showItem, frameIn, frameItem, byItem, itemDone}
+use Rattle.journal.specs.Log.{withItem, refused, unless, early, itemRefusal, setItem, removeItem, showItem, frameIn, frameItem, byItem, itemDone}
 
 -- An item that isn't refused before its call.
-pub done-by : (log : Log) (tag : ℕ) (v : List ℕ) {i : Item} → itemIn tag v ≡ i → itemRefusal (counted log) i ≡ 0 → itemDone log tag v ≡ byItem (counted log) i (dataIn v)
+pub done-by : (log : Log) (tag : ℕ) (v : List ℕ) {i : Item} → itemIn tag v ≡ i → itemRefusal (withItem log) i ≡ 0 → itemDone log tag v ≡ byItem (withItem log) i (dataIn v)
 unfolding itemDone unless
 done-by log tag v e passes = rw e (zero-is _ _ passes)
 
-pub unknown-done : (log : Log) (tag : ℕ) (v : List ℕ) → itemIn tag v ≡ Unknown → itemDone log tag v ≡ refused (counted log) 22
+pub unknown-done : (log : Log) (tag : ℕ) (v : List ℕ) → itemIn tag v ≡ Unknown → itemDone log tag v ≡ refused (withItem log) 22
 unfolding itemDone itemRefusal unless
 unknown-done log tag v e = rw e
 
 module _ (log : Log) (there : log .board .window .counts .size ≡ 0 → ⊥) where
-  in-place : early (counted log) ≡ 0
+  in-place : early (withItem log) ≡ 0
   in-place = rw (ne-eqb (log .board .window .counts .size) 0 there)
 
-  pub set-done : (v : List ℕ) → length v ≡ 6 → itemDone log 17 v ≡ setItem (counted log) (settingIn v)
+  pub set-done : (v : List ℕ) → length v ≡ 6 → itemDone log 17 v ≡ setItem (withItem log) (settingIn v)
   unfolding itemRefusal byItem
   set-done v e = done-by log 17 v (set-read v e) in-place
 
-  pub frame-done : (v : List ℕ) → length v ≡ 12 → itemDone log 18 v ≡ frameItem (counted log) (frameIn v)
+  pub frame-done : (v : List ℕ) → length v ≡ 12 → itemDone log 18 v ≡ frameItem (withItem log) (frameIn v)
   unfolding itemRefusal byItem
   frame-done v e = done-by log 18 v (frame-read v e) in-place
 
-  pub remove-done : (slot : ℕ) → itemDone log 19 (slot ∷ []) ≡ removeItem (counted log) slot
+  pub remove-done : (slot : ℕ) → itemDone log 19 (slot ∷ []) ≡ removeItem (withItem log) slot
   unfolding itemRefusal byItem
   remove-done slot = done-by log 19 (slot ∷ []) (remove-read slot) in-place
 
-  pub show-done : (slot : ℕ) → itemDone log 20 (slot ∷ []) ≡ showItem (counted log) slot
+  pub show-done : (slot : ℕ) → itemDone log 20 (slot ∷ []) ≡ showItem (withItem log) slot
   unfolding itemRefusal byItem
   show-done slot = done-by log 20 (slot ∷ []) (show-read slot) in-place

@@ -48,7 +48,7 @@ use Rattle.board.proofs.Known.{set-known, remove-known, enter-known}
 use Rattle.report.specs.declared.Report.{Report}
 use Rattle.joining.specs.Frame.{Frame}
 use Rattle.joining.specs.Joining.{fit}
-use Rattle.joining.specs.Run.{freshSessions, sessionsAfter, answerTo, sessionsAt}
+use Rattle.joining.specs.Run.{freshSessions, sessionsAfter, answerTo, sessionsAfterAll}
 use Rattle.joining.specs.declared.Session.{Session}
 use Rattle.joining.specs.declared.Answer.{Answer}
 use Rattle.joining.specs.declared.Answer.the-variants.{Refused, Kept, Complete}
@@ -62,7 +62,7 @@ use Rattle.items.specs.declared.Item.the-variants.{Window, Set, Remove, Show, U
 use Rattle.items.specs.declared.Item.the-variants as item
 use Rattle.items.specs.Items.{dataIn, itemIn}
 use Rattle.journal.specs.declared.Log.{Log}
-use Rattle.journal.specs.Log.{Outcome, freshLog, counted, nextItem, withBoard, withSessions, unless, early, itemRefusal, windowItem, settingRule, setItem, removeItem, showItem, sLines, enterItem, answered, frameItem, byItem, itemDone}
+use Rattle.journal.specs.Log.{Outcome, freshLog, withItem, nextItem, withBoard, withSessions, unless, early, itemRefusal, windowItem, settingRule, setItem, removeItem, showItem, sLines, enterItem, answerItem, frameItem, byItem, itemDone}
 use Rattle.journal.specs.Reached.{framed, frameOf, enteredBy}
 use Rattle.journal.proofs.Printed.{Prints, nothing, refusal, search, searches, list}
 use Rattle.journal.proofs.Answers.{Fine, answer-fine, none-yet, answer, nothing-more, one-more, enter-refusal, enters-when}
@@ -75,7 +75,7 @@ pub data Boarded (fs : List Frame) (b : Board) : Type 0 where
 
 pub record Own (fs : List Frame) (log : Log) : Type 0 where
   pub board-is : Boarded fs (log .board)
-  pub heard : log .sessions ≡ sessionsAt freshSessions fs
+  pub heard : log .sessions ≡ sessionsAfterAll freshSessions fs
 
 -- An item's outcome: the log stays its own, and the text is one of those that an item prints.
 pub record Does (fs : List Frame) (item : ℕ) (o : Outcome) : Type 0 where
@@ -87,7 +87,7 @@ module _ {fs : List Frame} (log : Log) (n : ℕ) where
   refuses : (done : Outcome) → Own fs log → n ≤ 23 → eqb n 0 ≡ false → Does fs (log .items) (unless log n done)
   unfolding unless
   refuses done own few t =
-      let some = eqb-false n 0 t in
+      let positive = eqb-false n 0 t in
       subst (Does fs (log .items)) (sym (if-not _ _ t)) (record { own = own; prints = refusal n (omega arith) few refl })
 
   does : {done : Outcome} → eqb n 0 ≡ true → Does fs (log .items) done → Does fs (log .items) (unless log n done)
@@ -184,7 +184,7 @@ module _ (b : Board) {n : ℕ} {past : List Values} (reached : board.Reached n p
         ∙ ap (λ (l : List Values). cond (ltb (length l) 1000000) (l ++ v ∷ []) l) same ∙ sym (one-more fs f r e)))
 
 -- The items of a log by what its board's calls leave.
-module _ (fs : List Frame) (log : Log) (heard : log .sessions ≡ sessionsAt freshSessions fs) where
+module _ (fs : List Frame) (log : Log) (heard : log .sessions ≡ sessionsAfterAll freshSessions fs) where
   abbrev b : Board
   b = log .board
 
@@ -254,14 +254,14 @@ module _ (fs : List Frame) (log : Log) (heard : log .sessions ≡ sessionsAt fre
   show-does slot is each = go (tested (ltb slot 32)) (tested (eqb (slotAt b slot .k) 0))
     where
       P : Shown → Type 0
-      P r = Does fs (log .items) (unless log (r .refusal) (record { text = qLine slot (take (r .len) (text.listed (r .numbers) (r .scores))); log = log }))
+      P r = Does fs (log .items) (unless log (r .refusal) (record { text = qLine slot (take (r .len) (text.entriesOf (r .numbers) (r .scores))); log = log }))
 
       go : Tested (ltb slot 32) → Tested (eqb (slotAt b slot .k) 0) → P (readWork b slot)
       go (passed t) (failed u) =
           let there = ltb-true slot 32 t in
           let q = slotAt b slot in
           let small = each slot there in
-          let short : length (take (q .len) (text.listed (q .numbers) (q .scores))) ≤ 16 = simp length-take (omega (arith, small .few)) in
+          let short : length (take (q .len) (text.entriesOf (q .numbers) (q .scores))) ≤ 16 = simp length-take (omega (arith, small .few)) in
           subst P (sym (if-so _ _ t ∙ if-not _ _ u))
           (does log 0 refl (record { own = owns is; prints = list slot _ there short (listed-in-range (q .len) (q .numbers) (q .scores) (small .numbers) (small .scores)) refl }))
       go (passed t) (passed u) = subst P (sym (if-so _ _ t ∙ if-so _ _ u)) (refused-does 17 _ is (omega arith) refl)
@@ -270,16 +270,16 @@ module _ (fs : List Frame) (log : Log) (heard : log .sessions ≡ sessionsAt fre
 -- ---- a frame
 
 -- What a frame's answer brings, to a log whose session has taken the frame.
-module _ (fs : List Frame) (f : Frame) (log : Log) (heard : log .sessions ≡ sessionsAt freshSessions (fs ++ f ∷ [])) {n : ℕ} {past : List Values} (reached : board.Reached n past (log .board))
+module _ (fs : List Frame) (f : Frame) (log : Log) (heard : log .sessions ≡ sessionsAfterAll freshSessions (fs ++ f ∷ [])) {n : ℕ} {past : List Values} (reached : board.Reached n past (log .board))
     (fits : fitBoard (log .board) ≡ true) (same : past ≡ enteredBy fs) where
-  answered-does : (a : Answer) → answer fs f ≡ a → Fine a → Does (fs ++ f ∷ []) (log .items) (answered log a)
+  answered-does : (a : Answer) → answer fs f ≡ a → Fine a → Does (fs ++ f ∷ []) (log .items) (answerItem log a)
   answered-does (Refused m) e h =
       record { own = record { board-is = window reached fits (same ∙ sym (nothing-more fs f (Refused m) e refl)); heard = heard }; prints = refusal m (h .0) (h .1) refl }
   answered-does Kept e h = record { own = record { board-is = window reached fits (same ∙ sym (nothing-more fs f Kept e refl)); heard = heard }; prints = nothing refl }
   answered-does (Complete r) e h =
       enter-does (fs ++ f ∷ []) log heard (kept reached .many) (r .values) (enter-board (log .board) reached fits fs same f r e h)
 
-frame-does : (fs : List Frame) (log : Log) → log .sessions ≡ sessionsAt freshSessions fs → {n : ℕ} {past : List Values} → board.Reached n past (log .board) → fitBoard (log .board) ≡ true
+frame-does : (fs : List Frame) (log : Log) → log .sessions ≡ sessionsAfterAll freshSessions fs → {n : ℕ} {past : List Values} → board.Reached n past (log .board) → fitBoard (log .board) ≡ true
     → past ≡ enteredBy fs → (f : Frame) → Does (fs ++ f ∷ []) (log .items) (frameItem log f)
 unfolding frameItem answer
 frame-does fs log heard reached fits same f =
@@ -318,7 +318,7 @@ pub has-window : (b : Board) → fitBoard b ≡ true → eqb (b .window .counts 
 unfolding fitBoard
 has-window b fits =
     let ranges = fit-facts (b .window) (and-both (fitWindow (b .window)) (allOf (slotFit (b .window)) (b .slots)) fits .0) .ranges in
-    ne-eqb (b .window .counts .size) 0 (λ e. omega (arith, ranges .ring .some))
+    ne-eqb (b .window .counts .size) 0 (λ e. omega (arith, ranges .ring .positive))
 
 module _ (fs : List Frame) (log : Log) (own : Own fs log) where
   -- Where there is a window, the board is one that the board's calls lead to.
@@ -352,7 +352,7 @@ module _ (fs : List Frame) (log : Log) (own : Own fs log) where
   by-item-does (Show slot) ds passes = standing passes (λ n past r fits same. no-frame (show-does fs log (own .heard) slot (own .board-is) (slots-small (log .board) r fits)))
 
 pub fresh-own : Own [] freshLog
-unfolding freshLog sessionsAt
+unfolding freshLog sessionsAfterAll
 fresh-own = record { board-is = none refl refl; heard = refl }
 
 -- Every item keeps what the log holds its own, and prints what an item can print.
@@ -364,16 +364,16 @@ item-does fs log own tag v = go (tested (eqb code-of 0))
     i = itemIn tag v
 
     code-of : ℕ
-    code-of = itemRefusal (counted log) i
+    code-of = itemRefusal (withItem log) i
 
-    more : Own fs (counted log)
+    more : Own fs (withItem log)
     more = record { board-is = own .board-is; heard = own .heard }
 
     A : List Frame → Type 0
     A gs = Does gs (nextItem (log .items)) (itemDone log tag v)
 
     go : Tested (eqb code-of 0) → A (fs ++ frameOf log tag v)
-    go (failed t) = subst A (sym (ap (λ x. fs ++ cond x (framed i (dataIn v)) []) t ∙ append-nil fs)) (refuses (counted log) code-of _ more (item-code (counted log) i) t)
+    go (failed t) = subst A (sym (ap (λ x. fs ++ cond x (framed i (dataIn v)) []) t ∙ append-nil fs)) (refuses (withItem log) code-of _ more (item-code (withItem log) i) t)
     go (passed t) =
         subst A (sym (ap (λ x. fs ++ cond x (framed i (dataIn v)) []) t))
-        (does (counted log) code-of t (by-item-does fs (counted log) more i (dataIn v) (eqb-true _ 0 t)))
+        (does (withItem log) code-of t (by-item-does fs (withItem log) more i (dataIn v) (eqb-true _ 0 t)))

@@ -6,7 +6,7 @@ use mathlib.Core.List.{List, [], _∷_, _++_, append-assoc, tail}
 use Prim.Native.Nat.{ℕ, suc, _+_, _*_, _^_, _≤_, _<_}
 use native.Mathlib.Omega.{arith}
 use lib.ListN.{length, getD, length-append}
-use Rattle.text.specs.Text.{Entry, decimal, word, sLine, rLine, qLine}
+use Rattle.text.specs.Text.{Entry, decimal, spaced, sLine, rLine, qLine}
 use Rattle.text.proofs.Decimal.{Digits, decimal-digits, decimal-injective}
 use Rattle.text.proofs.Lengths.{InRange, sLine-longest, rLine-longest, qLine-longest}
 use Rattle.journal.specs.Log.{sLines}
@@ -53,7 +53,7 @@ same-digits c low (a ∷ ds) (b ∷ es) x y h k e =
     (ap₂ (λ (d : ℕ) (l : List ℕ). d ∷ l) z (r .0), r .1)
 
 r-line : (item code : ℕ) → rLine item code ≡ 82 ∷ 32 ∷ (decimal item ++ 32 ∷ (decimal code ++ 10 ∷ []))
-unfolding rLine word
+unfolding rLine spaced
 r-line item code = simp append-assoc
 
 -- A refusal's line tells its code.

@@ -29,10 +29,10 @@ use Rattle.board.proofs.Known.{set-known, remove-known, read-known, enter-known
 use Rattle.board.proofs.Demands.{demand-2, reached-holds}
 use Rattle.board.proofs.Kept.{kept}
 use Rattle.joining.specs.Joining.{fit}
-use Rattle.joining.specs.Run.{freshSessions, sessionOf, sessionsAt}
+use Rattle.joining.specs.Run.{freshSessions, sessionOf, sessionsAfterAll}
 use Rattle.joining.specs.declared.Session.{Session}
 use Rattle.joining.proofs.Reached.{reached-fit}
-use Rattle.text.specs.Text.{Entry, rLine, qLine, listed}
+use Rattle.text.specs.Text.{Entry, rLine, qLine, entriesOf}
 use Rattle.journal.specs.declared.Log.{Log}
 use Rattle.journal.specs.Log.{Outcome, nextItem, itemDone, showItem, unless}
 use Rattle.journal.specs.Reached.{Reached, fresh, item, framesOf, enteredBy, shownAs}
@@ -58,15 +58,15 @@ none-held = empty-holds 0
 
 -- ---- a list as it is printed
 
-shown-lines : (n : ℕ) (ns : List ℕ) (ss : List ℤ) → take n (listed ns ss) ≡ shownAs (take n (linesOf ns ss))
-unfolding listed
+shown-lines : (n : ℕ) (ns : List ℕ) (ss : List ℤ) → take n (entriesOf ns ss) ≡ shownAs (take n (linesOf ns ss))
+unfolding entriesOf
 shown-lines zero ns ss = refl
 shown-lines (suc n) [] ss = refl
 shown-lines (suc n) (x ∷ ns) [] = refl
 shown-lines (suc n) (x ∷ ns) (s ∷ ss) = ap (λ (l : List Entry). record { number = x; score = s } ∷ l) (shown-lines n ns ss)
 
 show-text : (log : Log) (slot : ℕ) → eqb (log .board .window .counts .size) 0 ≡ false → slot < 32 → (slotAt (log .board) slot .k ≡ 0 → ⊥)
-    → itemDone log 20 (slot ∷ []) .text ≡ qLine slot (take (slotAt (log .board) slot .len) (listed (slotAt (log .board) slot .numbers) (slotAt (log .board) slot .scores)))
+    → itemDone log 20 (slot ∷ []) .text ≡ qLine slot (take (slotAt (log .board) slot .len) (entriesOf (slotAt (log .board) slot .numbers) (slotAt (log .board) slot .scores)))
 unfolding showItem readWork readIn unless
 show-text log slot there h used =
     ap (λ (o : Outcome). o .text) (show-done log (eqb-false (log .board .window .counts .size) 0 there) slot) ∙ rw (lt-ltb slot 32 h, ne-eqb (slotAt (log .board) slot .k) 0 used)
@@ -83,7 +83,7 @@ module _ {log : Log} (reached : Reached log) where
   no-24 tag v n e = never-24 (item-does (framesOf reached) log (own reached) tag v .prints) n e
 
   -- The sessions are those that the log's frames lead to.
-  pub log-sessions : log .sessions ≡ sessionsAt freshSessions (framesOf reached)
+  pub log-sessions : log .sessions ≡ sessionsAfterAll freshSessions (framesOf reached)
   log-sessions = own reached .heard
 
   pub session-fit : (k : ℕ) → k < 254 → fit (sessionOf k (log .sessions)) ≡ true

@@ -18,7 +18,7 @@ use Rattle.joining.specs.Run.{sessionsAfter, answerTo}
 use Rattle.joining.specs.declared.Answer.the-variants.{Complete}
 use Rattle.text.specs.Text.{sLine}
 use Rattle.journal.specs.declared.Log.{Log}
-use Rattle.journal.specs.Log.{Outcome, nextItem, counted, withBoard, withSessions, unless, ruleIn, setItem, sLines, enterItem, answered, frameIn, frameItem, itemDone}
+use Rattle.journal.specs.Log.{Outcome, nextItem, withItem, withBoard, withSessions, unless, ruleIn, setItem, sLines, enterItem, answerItem, frameIn, frameItem, itemDone}
 use Rattle.journal.specs.Reached.{Reached}
 use Rattle.journal.proofs.Answers.{enter-refusal}
 use Rattle.journal.proofs.Items.{set-done, frame-done}
@@ -39,10 +39,10 @@ module _ {log : Log} (reached : Reached log) (there : log .board .window .counts
 
   module _ (six : length v ≡ 6) (taken : placed .refusal ≡ 0) where
     -- It prints the steps of its search.
-    pub set-prints : itemDone log 17 v ≡ record { text = sLine (nextItem (log .items)) slot (placed .steps); log = withBoard (counted log) (placed .board) }
+    pub set-prints : itemDone log 17 v ≡ record { text = sLine (nextItem (log .items)) slot (placed .steps); log = withBoard (withItem log) (placed .board) }
     unfolding setItem unless
     set-prints =
-        let done : Placed → Outcome = λ r. record { text = sLine (nextItem (log .items)) slot (r .steps); log = withBoard (counted log) (r .board) } in
+        let done : Placed → Outcome = λ r. record { text = sLine (nextItem (log .items)) slot (r .steps); log = withBoard (withItem log) (r .board) } in
         let same = same-answers reached there .set slot (getD v 1 0) (ruleIn v) in
         set-done log there v six ∙ zero-is _ _ (sym (ap (λ (r : Placed). r .refusal) same) ∙ taken) ∙ sym (ap done same)
 
@@ -64,13 +64,13 @@ module _ {log : Log} (reached : Reached log) (there : log .board .window .counts
     pub enter-prints : itemDone log 18 v
         ≡ record {
           text = sLines (nextItem (log .items)) 0 (entered .searched) (entered .steps);
-          log = withBoard (withSessions (counted log) (sessionsAfter (log .sessions) (frameIn v))) (entered .board);
+          log = withBoard (withSessions (withItem log) (sessionsAfter (log .sessions) (frameIn v))) (entered .board);
         }
     unfolding frameItem enterItem unless
     enter-prints =
-        let next = withSessions (counted log) (sessionsAfter (log .sessions) (frameIn v)) in
+        let next = withSessions (withItem log) (sessionsAfter (log .sessions) (frameIn v)) in
         let done : Entered → Outcome = λ x. record { text = sLines (nextItem (log .items)) 0 (x .searched) (x .steps); log = withBoard next (x .board) } in
-        frame-done log there v twelve ∙ ap (answered next) completes
+        frame-done log there v twelve ∙ ap (answerItem next) completes
         ∙ zero-is _ _ (enter-refusal b (r .values) ∙ taken)
         ∙ sym (ap done (same-answers reached there .enter (r .values)))
 

@@ -25,7 +25,7 @@ use Rattle.joining.specs.Run.{freshSessions, sessionsAfter, answerTo}
 use Rattle.joining.specs.declared.Session.{Session}
 use Rattle.joining.specs.declared.Answer.{Answer}
 use Rattle.joining.specs.declared.Answer.the-variants.{Refused, Kept, Complete}
-use Rattle.text.specs.Text.{sLine, rLine, qLine, listed, behind}
+use Rattle.text.specs.Text.{sLine, rLine, qLine, entriesOf, behind}
 use Rattle.journal.specs.declared.Log.{Log}
 
 -- No item yet, no window, fresh sessions.
@@ -48,8 +48,8 @@ unfoldable pub nextItem : ℕ → ℕ
 nextItem items = min (items + 1) (2 ^ 64 - 1)
 
 -- The log with one item more, with that board, with those sessions.
-abbrev pub counted : Log → Log
-counted log = record { items = nextItem (log .items); board = log .board; sessions = log .sessions }
+abbrev pub withItem : Log → Log
+withItem log = record { items = nextItem (log .items); board = log .board; sessions = log .sessions }
 
 abbrev pub withBoard : Log → Board → Log
 withBoard log b = record { items = log .items; board = b; sessions = log .sessions }
@@ -58,8 +58,8 @@ abbrev pub withSessions : Log → List Session → Log
 withSessions log ss = record { items = log .items; board = log .board; sessions = ss }
 
 -- An item that prints nothing.
-abbrev pub quiet : Log → Outcome
-quiet log = record { text = []; log = log }
+abbrev pub noText : Log → Outcome
+noText log = record { text = []; log = log }
 
 -- Rules 11.4 and 9.2: a refusal prints its line, and changes nothing.
 abbrev pub refused : Log → ℕ → Outcome
@@ -86,7 +86,7 @@ itemRefusal log (Show slot) = early log
 unfoldable pub windowItem : Log → ℕ → Outcome
 windowItem log n =
     let made = freshBoard n in
-    unless log (made .refusal) (quiet (withBoard log (made .board)))
+    unless log (made .refusal) (noText (withBoard log (made .board)))
 
 -- The weights a and b of a question that is to be set, its rule, and that in an item's value.
 abbrev pub weightsOf : Setting → Weights
@@ -108,13 +108,13 @@ setItem log s =
 unfoldable pub removeItem : Log → ℕ → Outcome
 removeItem log slot =
     let removed = removeWork (log .board) slot in
-    unless log (removed .refusal) (quiet (withBoard log (removed .board)))
+    unless log (removed .refusal) (noText (withBoard log (removed .board)))
 
 -- Tag 20: the Q line of a question's list (rule 11.3).
 unfoldable pub showItem : Log → ℕ → Outcome
 showItem log slot =
     let shown = readWork (log .board) slot in
-    unless log (shown .refusal) (record { text = qLine slot (take (shown .len) (listed (shown .numbers) (shown .scores))); log = log })
+    unless log (shown .refusal) (record { text = qLine slot (take (shown .len) (entriesOf (shown .numbers) (shown .scores))); log = log })
 
 -- Rule 11.2: the S lines of the searches that an item ran, from this slot on.
 unfoldable pub sLines : ℕ → ℕ → List Bool → List ℕ → List ℕ
@@ -130,10 +130,10 @@ enterItem log v =
     (record { text = sLines (log .items) 0 (entered .searched) (entered .steps); log = withBoard log (entered .board) })
 
 -- What a frame's answer brings: a refusal is printed, a report enters.
-abbrev pub answered : Log → Answer → Outcome
-answered log (Refused n) = refused log n
-answered log Kept = quiet log
-answered log (Complete r) = enterItem log (r .values)
+abbrev pub answerItem : Log → Answer → Outcome
+answerItem log (Refused n) = refused log n
+answerItem log Kept = noText log
+answerItem log (Complete r) = enterItem log (r .values)
 
 -- A frame in an item's value (rule 10.2).
 abbrev pub frameIn : List ℕ → Frame
@@ -141,7 +141,7 @@ frameIn v = record { identifier = number (part 0 4 v); data-bytes = dataIn v }
 
 -- Tag 18: the frame's sender's session takes it.
 unfoldable pub frameItem : Log → Frame → Outcome
-frameItem log f = answered (withSessions log (sessionsAfter (log .sessions) f)) (answerTo (log .sessions) f)
+frameItem log f = answerItem (withSessions log (sessionsAfter (log .sessions) f)) (answerTo (log .sessions) f)
 
 -- What an item does, with the data bytes that a frame has beside it. An unknown one is refused before.
 unfoldable pub byItem : Log → Item → List ℕ → Outcome
@@ -150,13 +150,13 @@ byItem log (Set s) ds = setItem log s
 byItem log (item.Frame id) ds = frameItem log (record { identifier = id; data-bytes = ds })
 byItem log (Remove slot) ds = removeItem log slot
 byItem log (Show slot) ds = showItem log slot
-byItem log Unknown ds = quiet log
+byItem log Unknown ds = noText log
 
 -- Rules 11.1 and 9.4: an item counts, also where it is skipped; 22, 23, then the refusals of its call. (21 is `ending`.)
 unfoldable pub itemDone : Log → ℕ → List ℕ → Outcome
 itemDone log tag v =
     let i = itemIn tag v in
-    unless (counted log) (itemRefusal (counted log) i) (byItem (counted log) i (dataIn v))
+    unless (withItem log) (itemRefusal (withItem log) i) (byItem (withItem log) i (dataIn v))
 
 -- Whole items one after the other: their text, the log that they leave, and the bytes behind the last of them.
 pub record Consumed : Type 0 where
@@ -169,24 +169,24 @@ abbrev pub after : List ℕ → Consumed → Consumed
 after text c = record { text = text ++ c .text; log = c .log; rest = c .rest }
 
 -- No whole item.
-abbrev pub none : Log → List ℕ → Consumed
-none log bs = record { text = []; log = log; rest = bs }
+abbrev pub noItem : Log → List ℕ → Consumed
+noItem log bs = record { text = []; log = log; rest = bs }
 
 -- The item that the bytes start with, and then the others; a field that the bytes end in is no item yet.
-abbrev pub first : Log → List ℕ → (Log → List ℕ → Consumed) → Field → Consumed
-first log bs others (Whole tag start size) =
+abbrev pub firstThen : Log → List ℕ → (Log → List ℕ → Consumed) → Field → Consumed
+firstThen log bs others (Whole tag start size) =
     let done = itemDone log tag (part start size bs) in
     after (done .text) (others (done .log) (drop (start + size) bs))
-first log bs others Cut = none log bs
+firstThen log bs others Cut = noItem log bs
 
 -- Rule 11.1: items are tagged fields: at most n of the whole ones that the bytes start with.
-unfoldable pub items : ℕ → Log → List ℕ → Consumed
-items zero log bs = none log bs
-items (suc n) log bs = first log bs (λ l r. items n l r) (fieldAt bs 0)
+unfoldable pub consumedUpTo : ℕ → Log → List ℕ → Consumed
+consumedUpTo zero log bs = noItem log bs
+consumedUpTo (suc n) log bs = firstThen log bs (λ l r. consumedUpTo n l r) (fieldAt bs 0)
 
 -- All whole items that the bytes start with: there are no more than bytes.
 unfoldable pub consumed : Log → List ℕ → Consumed
-consumed log bs = items (length bs) log bs
+consumed log bs = consumedUpTo (length bs) log bs
 
 -- Refusal 21, where the log ends inside an item; between items it just ends.
 unfoldable pub ending : Log → List ℕ → List ℕ

@@ -12,11 +12,11 @@ use Rattle.values.specs.declared.Values.{Values}
 use Rattle.window.specs.Rows.{reportLimit}
 use Rattle.text.specs.Text.{Entry}
 use Rattle.joining.specs.Frame.{Frame}
-use Rattle.joining.specs.Run.{freshSessions, answersAt}
+use Rattle.joining.specs.Run.{freshSessions, answersToAll}
 use Rattle.joining.specs.declared.Answer.{Answer}
 use Rattle.joining.specs.declared.Answer.the-variants.{Refused, Kept, Complete}
 use Rattle.journal.specs.declared.Log.{Log}
-use Rattle.journal.specs.Log.{freshLog, counted, itemRefusal, itemDone}
+use Rattle.journal.specs.Log.{freshLog, withItem, itemRefusal, itemDone}
 
 -- A fresh one, and what any whole item of any tag leaves of a reached one, also where it is skipped.
 pub data Reached : Log → Type 0 where
@@ -34,7 +34,7 @@ framed said.Unknown ds = []
 
 -- The frame of an item that isn't skipped, if it is one.
 abbrev pub frameOf : Log → ℕ → List ℕ → List Frame
-frameOf log tag v = cond (eqb (itemRefusal (counted log) (itemIn tag v)) 0) (framed (itemIn tag v) (dataIn v)) []
+frameOf log tag v = cond (eqb (itemRefusal (withItem log) (itemIn tag v)) 0) (framed (itemIn tag v) (dataIn v)) []
 
 -- The frames of all items that led to a log, in their order.
 abbrev pub framesOf : {log : Log} → Reached log → List Frame
@@ -50,7 +50,7 @@ completed (Complete r ∷ l) = r .values ∷ completed l
 
 -- Rules 5.2 and 5.3: every report that a frame completes is entered, as long as any can.
 unfoldable pub enteredBy : List Frame → List Values
-enteredBy fs = take reportLimit (completed (answersAt freshSessions fs))
+enteredBy fs = take reportLimit (completed (answersToAll freshSessions fs))
 
 -- The entries of a list, as a Q line has them.
 abbrev pub shownAs : List ranked.Entry → List Entry

@@ -5,7 +5,7 @@ ghost use mathlib.Core.List.{[]};
 ghost use lib.Seq.{sets};
 ghost use Rattle.joining.specs.Frame.{frameRefusal};
 ghost use Rattle.text.specs.Text.{behind, sLine};
-ghost use Rattle.journal.specs.Log.{Stores, freshLog, nextItem, counted, withBoard, withSessions, refused, itemRefusal, windowItem, weightsOf, settingRule, ruleIn, setItem, removeItem, showItem, sLines, enterItem, answered, frameItem, byItem, itemDone};
+ghost use Rattle.journal.specs.Log.{Stores, freshLog, nextItem, withItem, withBoard, withSessions, refused, itemRefusal, windowItem, weightsOf, settingRule, ruleIn, setItem, removeItem, showItem, sLines, enterItem, answerItem, frameItem, byItem, itemDone};
 use board::Board;
 use bus::Bus;
 use items::Item;
@@ -59,7 +59,7 @@ impl Log {
     pub fn item(self, tag: u8, value: &[u8], out: &mut [u8], at: usize) -> Done
         ensures { λ r. ⌜ Stores (itemDone self tag (now (value .entry))) (now (out .entry)) at (r .log) (r .at) (now (out .exit)) ⌝ }
     {
-        let log = self.counted();
+        let log = self.with_item();
         let item = Item::read(tag, value);
         let refusal = log.item_refusal(item);
         if refusal != 0 {
@@ -68,8 +68,8 @@ impl Log {
         log.by_item(item, Item::data_in(value), out, at)
     }
 
-    fn counted(self) -> Log
-        ensures { λ r. ⌜ r ≡ counted self ⌝ }
+    fn with_item(self) -> Log
+        ensures { λ r. ⌜ r ≡ withItem self ⌝ }
     {
         let mut log = self;
         let items = next_item(self.items);
@@ -155,7 +155,7 @@ impl Log {
     {
         let rule = setting_rule(s);
         let board = self.board;
-        let placed = board.set_known(s.slot, s.k, rule);
+        let placed = board.set_work(s.slot, s.k, rule);
         let refusal = placed.refusal;
         if refusal != 0 {
             return self.refused(refusal, out, at);
@@ -173,7 +173,7 @@ impl Log {
         ensures { λ r. ⌜ Stores (removeItem self slot) (now (out .entry)) at (r .log) (r .at) (now (out .exit)) ⌝ }
     {
         let board = self.board;
-        let removed = board.remove_known(slot);
+        let removed = board.remove_work(slot);
         let refusal = removed.refusal;
         if refusal != 0 {
             return self.refused(refusal, out, at);
@@ -190,7 +190,7 @@ impl Log {
         ensures { λ r. ⌜ Stores (showItem self slot) (now (out .entry)) at (r .log) (r .at) (now (out .exit)) ⌝ }
     {
         let board = self.board;
-        let shown = board.read_known(slot);
+        let shown = board.read_work(slot);
         let refusal = shown.refusal;
         if refusal != 0 {
             return self.refused(refusal, out, at);
@@ -218,12 +218,12 @@ impl Log {
         let left = taken.session;
         sessions[k] = left;
         let answer = taken.answer;
-        self.with_sessions(sessions).answered(answer, out, at)
+        self.with_sessions(sessions).answer_item(answer, out, at)
     }
 
     // Prints a frame's refusal, or enters its report.
-    fn answered(self, answer: Answer, out: &mut [u8], at: usize) -> Done
-        ensures { λ r. ⌜ Stores (answered self answer) (now (out .entry)) at (r .log) (r .at) (now (out .exit)) ⌝ }
+    fn answer_item(self, answer: Answer, out: &mut [u8], at: usize) -> Done
+        ensures { λ r. ⌜ Stores (answerItem self answer) (now (out .entry)) at (r .log) (r .at) (now (out .exit)) ⌝ }
     {
         match answer {
             Answer::Refused(n) => self.refused(n, out, at),
@@ -237,7 +237,7 @@ impl Log {
         ensures { λ r. ⌜ Stores (enterItem self values) (now (out .entry)) at (r .log) (r .at) (now (out .exit)) ⌝ }
     {
         let board = self.board;
-        let entered = board.enter_known(values);
+        let entered = board.enter_work(values);
         let refusal = entered.refusal;
         if refusal != 0 {
             return self.refused(refusal, out, at);

@@ -9,8 +9,8 @@ use Rattle.lines.proofs.tail.Kinds as tail-kinds
 use Rattle.lines.proofs.tail.Reads as tail-reads
 use Rattle.lines.proofs.word.Kinds as word-kinds
 use Rattle.lines.proofs.word.Reads as word-reads
-use Rattle.lines.proofs.equal.Kinds as equal-kinds
-use Rattle.lines.proofs.equal.Reads as equal-reads
+use Rattle.lines.proofs.same.Kinds as same-kinds
+use Rattle.lines.proofs.same.Reads as same-reads
 use Rattle.lines.proofs.Number.read.Kinds as read-kinds
 use Rattle.lines.proofs.Number.read.Reads as read-reads
 use Rattle.lines.proofs.Number.short.Kinds as short-kinds
@@ -25,8 +25,8 @@ tail-once κs a x y s t p q = p ∙ sym q
 word-once : OnePart 1 word-kinds.ps word-kinds.r word-reads.Post (λ κs x. now x)
 word-once κs a x y s t p q = p ∙ sym q
 
-equal-once : OneAnswer 2 equal-kinds.ps equal-kinds.r equal-reads.Post
-equal-once κs a x y s t p q = p ∙ sym q
+same-once : OneAnswer 2 same-kinds.ps same-kinds.r same-reads.Post
+same-once κs a x y s t p q = p ∙ sym q
 
 read-once : OneAnswer 1 read-kinds.ps read-kinds.r read-reads.Post
 read-once κs a x y s t p q = p ∙ sym q

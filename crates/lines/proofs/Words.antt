@@ -13,25 +13,25 @@ use lib.Seq.{drop-cons, drop-drop, take-all}
 use Rattle.wire.specs.Bytes.{same}
 use Rattle.lines.specs.declared.Run.{Run}
 use Rattle.lines.specs.declared.Run.the-variants.{Blanks, Letters}
-use Rattle.lines.specs.Words.{counted, run, trimmed, behindWord, tailAt}
+use Rattle.lines.specs.Words.{isOfKind, runLength, trimmed, behindWord, tailAt}
 
-pub run-more : (kind : Run) (s : List ℕ) (i : ℕ) → i < length s → counted kind (getD s i 0) ≡ true
-    → i + run kind (drop i s) ≡ i + 1 + run kind (drop (i + 1) s)
-unfolding run
+pub run-more : (kind : Run) (s : List ℕ) (i : ℕ) → i < length s → isOfKind kind (getD s i 0) ≡ true
+    → i + runLength kind (drop i s) ≡ i + 1 + runLength kind (drop (i + 1) s)
+unfolding runLength
 run-more kind s i h t = rw (add-one, drop-cons s i 0 h, t) (omega arith)
 
-pub run-stop : (kind : Run) (s : List ℕ) (i : ℕ) → i < length s → counted kind (getD s i 0) ≡ false → run kind (drop i s) ≡ 0
-unfolding run
+pub run-stop : (kind : Run) (s : List ℕ) (i : ℕ) → i < length s → isOfKind kind (getD s i 0) ≡ false → runLength kind (drop i s) ≡ 0
+unfolding runLength
 run-stop kind s i h f = rw (drop-cons s i 0 h, f)
 
-pub run-end : (kind : Run) (s : List ℕ) (i : ℕ) → length s ≤ i → run kind (drop i s) ≡ 0
-unfolding run
+pub run-end : (kind : Run) (s : List ℕ) (i : ℕ) → length s ≤ i → runLength kind (drop i s) ≡ 0
+unfolding runLength
 run-end kind s i h = rw (drop-of-length-le s {i = i} h)
 
-pub run-within : (kind : Run) (s : List ℕ) → run kind s ≤ length s
-unfolding run
+pub run-within : (kind : Run) (s : List ℕ) → runLength kind s ≤ length s
+unfolding runLength
 run-within kind [] = omega arith
-run-within kind (b ∷ s) = by-test (counted kind b) (run kind s) (length s) (run-within kind s)
+run-within kind (b ∷ s) = by-test (isOfKind kind b) (runLength kind s) (length s) (run-within kind s)
   where
     by-test : (t : Bool) (n m : ℕ) → n ≤ m → cond t (suc n) 0 ≤ suc m
     by-test true n m h = omega arith
@@ -42,32 +42,32 @@ pub all-behind : (s : List ℕ) (w : ℕ) → take (length s - w) (drop w s) ≡
 all-behind s w = take-all (length s - w) (drop w s) (omega (arith, length-drop w s))
 
 -- A run in a part to the end.
-pub run-behind : (kind : Run) (s : List ℕ) (w : ℕ) {n : ℕ} → n ≡ run kind (take (length s - w) (drop w s)) → n ≡ run kind (drop w s)
-run-behind kind s w e = e ∙ ap (run kind) (all-behind s w)
+pub run-behind : (kind : Run) (s : List ℕ) (w : ℕ) {n : ℕ} → n ≡ runLength kind (take (length s - w) (drop w s)) → n ≡ runLength kind (drop w s)
+run-behind kind s w e = e ∙ ap (runLength kind) (all-behind s w)
 
-pub run-fits : (kind : Run) (s : List ℕ) (w : ℕ) {n : ℕ} → w ≤ length s → n ≡ run kind (drop w s) → w + n ≤ length s
+pub run-fits : (kind : Run) (s : List ℕ) (w : ℕ) {n : ℕ} → w ≤ length s → n ≡ runLength kind (drop w s) → w + n ≤ length s
 run-fits kind s w h e = omega (arith, e, run-within kind (drop w s), length-drop w s)
 
 -- A run that fills a text goes on in what stands behind it, and one that doesn't ends there.
-pub run-over : (kind : Run) (p t : List ℕ) → length p ≤ run kind p → run kind (p ++ t) ≡ length p + run kind t
-unfolding run
+pub run-over : (kind : Run) (p t : List ℕ) → length p ≤ runLength kind p → runLength kind (p ++ t) ≡ length p + runLength kind t
+unfolding runLength
 run-over kind [] t h = omega arith
-run-over kind (b ∷ p) t h = by-test (counted kind b) (length p) (run kind p) (run kind t) h (run-over kind p t)
+run-over kind (b ∷ p) t h = by-test (isOfKind kind b) (length p) (runLength kind p) (runLength kind t) h (run-over kind p t)
   where
     by-test : (x : Bool) (l m k : ℕ) {n : ℕ} → suc l ≤ cond x (suc m) 0 → (l ≤ m → n ≡ l + k) → cond x (suc n) 0 ≡ suc l + k
     by-test true l m k h e = omega (arith, e (omega arith))
     by-test false l m k h e = absurd (omega arith)
 
-pub run-short : (kind : Run) (p t : List ℕ) → run kind p < length p → run kind (p ++ t) ≡ run kind p
-unfolding run
-run-short kind (b ∷ p) t h = by-test (counted kind b) (length p) (run kind p) h (run-short kind p t)
+pub run-short : (kind : Run) (p t : List ℕ) → runLength kind p < length p → runLength kind (p ++ t) ≡ runLength kind p
+unfolding runLength
+run-short kind (b ∷ p) t h = by-test (isOfKind kind b) (length p) (runLength kind p) h (run-short kind p t)
   where
     by-test : (x : Bool) (l m : ℕ) {n : ℕ} → cond x (suc m) 0 < suc l → (m < l → n ≡ m) → cond x (suc n) 0 ≡ cond x (suc m) 0
     by-test true l m h e = ap suc (e (omega arith))
     by-test false l m h e = refl
 
 -- Over a word and the blanks behind it.
-pub over-word : (s : List ℕ) {w n : ℕ} → w ≡ run Letters s → n ≡ run Blanks (drop w s) → drop (w + n) s ≡ trimmed (behindWord s)
+pub over-word : (s : List ℕ) {w n : ℕ} → w ≡ runLength Letters s → n ≡ runLength Blanks (drop w s) → drop (w + n) s ≡ trimmed (behindWord s)
 unfolding trimmed behindWord
 over-word s {w} {n} e f = sym (drop-drop n w s) ∙ rw (f, e)
 

@@ -4,8 +4,8 @@ ghost use mathlib.Core.Path.{_≡_};
 ghost use Prim.Native.Nat.{_+_, _*_, _≤_};
 ghost use lib.ListN.{drop, length};
 ghost use Rattle.wire.specs.Bytes.{same};
-ghost use Rattle.lines.specs.Words.{counted, run, tailAt, wordAt, trimmed, behindWord};
-ghost use Rattle.lines.specs.Numbers.{unknown, digitOf, withDigit, numberOn, numberIn, shortIn, negated};
+ghost use Rattle.lines.specs.Words.{isOfKind, runLength, tailAt, wordAt, trimmed, behindWord};
+ghost use Rattle.lines.specs.Numbers.{noNumber, digitOf, withDigit, numberOn, numberIn, shortIn, negated};
 
 // Which bytes in a row are counted.
 pub enum Run {
@@ -19,11 +19,11 @@ impl Run {
 
     // How many bytes at the front are of this kind.
     pub fn length(self, s: &[u8]) -> usize
-        ensures { λ r. ⌜ r ≡ run self (now (s .entry)) ⌝ }
+        ensures { λ r. ⌜ r ≡ runLength self (now (s .entry)) ⌝ }
     {
         let mut i: usize = 0;
         while i < s.len() {
-            if !self.counts(s[i]) {
+            if !self.is_of_kind(s[i]) {
                 return i;
             }
             i += 1;
@@ -32,8 +32,8 @@ impl Run {
     }
 
     // Whether a byte is of this kind.
-    fn counts(self, b: u8) -> bool
-        ensures { λ r. ⌜ r ≡ counted self b ⌝ }
+    fn is_of_kind(self, b: u8) -> bool
+        ensures { λ r. ⌜ r ≡ isOfKind self b ⌝ }
     {
         match self {
             Run::Blanks => b <= Run::LAST_BLANK,
@@ -68,14 +68,14 @@ fn start(s: &[u8], n: u8) -> usize
     let mut at = Run::Blanks.length(s);
     let mut i: u8 = 0;
     while i < n {
-        at += next(&s[at..]);
+        at += past_word(&s[at..]);
         i += 1;
     }
     at
 }
 
 // Where the next word starts, behind the one at the front.
-fn next(s: &[u8]) -> usize
+fn past_word(s: &[u8]) -> usize
     ensures { λ r. ⌜ (r ≤ length (now (s .entry))) × (drop r (now (s .entry)) ≡ trimmed (behindWord (now (s .entry)))) ⌝ }
 {
     let word = Run::Letters.length(s);
@@ -83,7 +83,7 @@ fn next(s: &[u8]) -> usize
 }
 
 // Whether two texts are the same.
-pub fn equal(s: &[u8], t: &[u8]) -> bool
+pub fn same(s: &[u8], t: &[u8]) -> bool
     ensures { λ r. ⌜ r ≡ same (now (s .entry)) (now (t .entry)) ⌝ }
 {
     if s.len() != t.len() {
@@ -110,7 +110,7 @@ impl Number {
     pub const NO_DIGIT: u8 = 255;
 
     fn unknown() -> Number
-        ensures { λ r. ⌜ r ≡ unknown ⌝ }
+        ensures { λ r. ⌜ r ≡ noNumber ⌝ }
     {
         Number {
             known: false,
@@ -132,14 +132,14 @@ impl Number {
         };
         let mut i: usize = 0;
         while i < s.len() {
-            n = n.with(s[i], base, most);
+            n = n.with_digit(s[i], base, most);
             i += 1;
         }
         n
     }
 
     // The number with one digit more.
-    fn with(self, b: u8, base: u8, most: u32) -> Number
+    fn with_digit(self, b: u8, base: u8, most: u32) -> Number
         ensures { λ r. ⌜ r ≡ withDigit base most self b ⌝ }
     {
         let d = digit(b);

@@ -14,10 +14,11 @@ use Rattle.laws.specs.Lists.{onLast}
 use Rattle.ranking.specs.Standing.{Entry}
 use Rattle.laws.proofs.Tests.{Tested, passed, failed, tested, clash, if-so, if-not}
 use Rattle.list.specs.Lines.{linesIn}
-use Rattle.list.specs.Bars.{barAt, barOf, leastAt, admits}
+use Rattle.list.specs.Bars.{barAt, barOf}
 use Rattle.list.specs.declared.Bar.{Bar}
 use Rattle.list.specs.declared.Lines.{Lines}
 use Rattle.list.proofs.Stored.{Roomy, last-shown}
+use Rattle.list.specs.Inner.{leastAt, admits}
 
 module _ (ns : List ℕ) (ss : List ℤ) (n : ℕ) (full : Bool) where
   pub bar-at-none : n ≡ 0 → barAt ns ss n full ≡ record { full = false; number = 0; score = pos 0 }
@@ -31,7 +32,7 @@ module _ (ns : List ℕ) (ss : List ℤ) (n : ℕ) (full : Bool) where
 -- where it is full, the bar is the last of k lines
 pub record Full (l : Lines) (k : ℕ) : Type 0 where
   pub as-many : l .len ≡ k
-  pub some : 1 ≤ k
+  pub positive : 1 ≤ k
   pub last : (p : Entry → Bool) → onLast p (linesIn l) ≡ p (record { number = barOf l k .number; score = barOf l k .score })
 
 module _ (l : Lines) (k : ℕ) where
@@ -57,7 +58,7 @@ module _ (l : Lines) (k : ℕ) where
           let many = eqb-true (l .len) k (sym (ap (λ (b : Bar). b .full) is) ∙ e) in
           record {
             as-many = many;
-            some = more n less refl many;
+            positive = more n less refl many;
             last = λ p.
                 last-shown (l .numbers) (l .scores) room (l .len) n refl (n - 1) (one n less) p
                 ∙ ap p (ap (λ (b : Bar). record { number = b .number; score = b .score }) (sym is));

@@ -20,7 +20,7 @@ use Rattle.laws.proofs.Whole.{equal-is}
 use Rattle.search.proofs.Best.{Falling}
 use Rattle.ranking.specs.Standing.{Entry}
 use Rattle.list.specs.declared.Lines.{Lines}
-use Rattle.list.specs.Lines.{linesOf, numbersOf, scoresOf, stored, linesIn, allOf, falls, blank}
+use Rattle.list.specs.Lines.{linesOf, numbersOf, scoresOf, columnsOf, linesIn, allOf, falls, blank}
 use Rattle.list.proofs.Stored.{Roomy, take-replicate, length-all, length-shown, column-numbers, column-scores}
 
 -- ---- tests over a list
@@ -90,7 +90,7 @@ module _ (l : Lines) (room : Roomy (l .numbers) (l .scores)) (short : l .len ≤
       let both = and-both (eqb (e .number) 0) (equal (e .score) (pos 0)) (all-in blank (drop (l .len) places) rest e m) in
       (eqb-true (e .number) 0 (both .0), equal-is (e .score) (pos 0) (both .1))
 
-  pub blank-stored : l ≡ stored (linesIn l)
+  pub blank-stored : l ≡ columnsOf (linesIn l)
   blank-stored i = record { numbers = numbers i; scores = scores i; len = len i }
     where
       long : length places ≡ 16

@@ -11,7 +11,7 @@ use lib.IntN.{ℤ}
 use lib.ListN.{length, take, getD}
 use Rattle.laws.specs.Lists.{onLast}
 use Rattle.laws.proofs.Tests.{Tested, passed, failed, tested, clash, if-so, if-not}
-use Rattle.search.specs.Best.{best, place}
+use Rattle.search.specs.Best.{best, placed}
 use Rattle.search.proofs.Best.{length-best-le, best-cons, best-skip}
 use Rattle.ranking.specs.declared.Rule.{Rule}
 use Rattle.ranking.specs.Standing.{Held, Entry, above, entry, entries, top}
@@ -19,9 +19,9 @@ use Rattle.ranking.proofs.Entries.{above-strict, entries-none, top-cons}
 use Rattle.window.specs.declared.Window.{Window}
 use Rattle.window.specs.Rows.{reportIn, standing}
 use Rattle.list.specs.declared.Lines.{Lines}
-use Rattle.list.specs.Lines.{linesOf, stored}
-use Rattle.list.specs.Bars.{barAt, barOf, admits}
-use Rattle.list.specs.Inner.{Placing}
+use Rattle.list.specs.Lines.{linesOf, columnsOf}
+use Rattle.list.specs.Bars.{barAt, barOf}
+use Rattle.list.specs.Inner.{Placing, admits}
 use Rattle.list.proofs.Stored.{Roomy, roomy-stored}
 use Rattle.list.proofs.Sliding.{placed-stored}
 use Rattle.list.proofs.Placing.{best-none, best-back}
@@ -39,11 +39,11 @@ module _ (rule : Rule) (k : ℕ) (small : k ≤ 16) (w : Window) where
   gathered-few n len e = omega (arith, e, few-k n)
 
   -- before the first row
-  pub gathered-none : stored [] ≡ stored (top rule k (standing w 0))
-  gathered-none = best-none (above rule) k ∙ ap (λ l. stored (best (above rule) k l)) (sym (entries-none rule))
+  pub gathered-none : columnsOf [] ≡ columnsOf (top rule k (standing w 0))
+  gathered-none = best-none (above rule) k ∙ ap (λ l. columnsOf (best (above rule) k l)) (sym (entries-none rule))
 
   -- the bar as it is read of the arrays
-  pub gathered-bar : (ns : List ℕ) (ss : List ℤ) (len n : ℕ) → record { numbers = ns; scores = ss; len = len } ≡ stored (top rule k (standing w n)) → barAt ns ss len (eqb len k) ≡ barOf (stored (top rule k (standing w n))) k
+  pub gathered-bar : (ns : List ℕ) (ss : List ℤ) (len n : ℕ) → record { numbers = ns; scores = ss; len = len } ≡ columnsOf (top rule k (standing w n)) → barAt ns ss len (eqb len k) ≡ barOf (columnsOf (top rule k (standing w n))) k
   gathered-bar ns ss len n is =
       let short = gathered-few n len (ap (λ (l : Lines). l .len) is) in
       let all : len ≡ min len 16 = omega arith in
@@ -57,32 +57,32 @@ module _ (rule : Rule) (k : ℕ) (small : k ≤ 16) (w : Window) where
     report = entry rule (reportIn w n)
 
     -- a row whose report passes the bar, as the arrays have it
-    pub gathered-places : (ns ns' : List ℕ) (ss ss' : List ℤ) (len r : ℕ) (x : Entry) → record { numbers = ns; scores = ss; len = len } ≡ stored (top rule k (standing w n)) → Roomy ns' ss' → Placing (above rule) x len k (linesOf ns ss) (linesOf ns' ss') r → x ≡ entry rule (reportIn w n) → admits (above rule) (barOf (stored (top rule k (standing w n))) k) (entry rule (reportIn w n)) ≡ true → record { numbers = ns'; scores = ss'; len = r } ≡ stored (top rule k (standing w (n + 1)))
+    pub gathered-places : (ns ns' : List ℕ) (ss ss' : List ℤ) (len r : ℕ) (x : Entry) → record { numbers = ns; scores = ss; len = len } ≡ columnsOf (top rule k (standing w n)) → Roomy ns' ss' → Placing (above rule) x len k (linesOf ns ss) (linesOf ns' ss') r → x ≡ entry rule (reportIn w n) → admits (above rule) (barOf (columnsOf (top rule k (standing w n))) k) (entry rule (reportIn w n)) ≡ true → record { numbers = ns'; scores = ss'; len = r } ≡ columnsOf (top rule k (standing w (n + 1)))
     gathered-places ns ns' ss ss' len r x is room placing xe h = go (tested (eqb (getD (w .numbers) n 0) 0))
       where
-        go : Tested (eqb (getD (w .numbers) n 0) 0) → record { numbers = ns'; scores = ss'; len = r } ≡ stored (top rule k (standing w (n + 1)))
-        go (passed z) = clash h (admits-none (above rule) (barOf (stored (listed n)) k) report z)
+        go : Tested (eqb (getD (w .numbers) n 0) 0) → record { numbers = ns'; scores = ss'; len = r } ≡ columnsOf (top rule k (standing w (n + 1)))
+        go (passed z) = clash h (admits-none (above rule) (barOf (columnsOf (listed n)) k) report z)
         go (failed z) =
             placed-stored (above rule) (above-strict rule) k small ns ns' ss ss' len r (listed n) x is (few-k n) room placing
-            ∙ ap stored
-            (ap (λ e. take k (place (above rule) e (listed n))) xe
+            ∙ ap columnsOf
+            (ap (λ e. take k (placed (above rule) e (listed n))) xe
             ∙ sym (top-cons rule k (reportIn w n) (standing w n))
             ∙ sym (rows-more n (reportIn w n ∷ standing w n) (if-not (standing w n) (reportIn w n ∷ standing w n) z)))
 
     -- and one whose report doesn't
-    pub gathered-skips : admits (above rule) (barOf (stored (top rule k (standing w n))) k) (entry rule (reportIn w n)) ≡ false → top rule k (standing w n) ≡ top rule k (standing w (n + 1))
-    gathered-skips h = go (tested (eqb (getD (w .numbers) n 0) 0)) (tested (barOf (stored (listed n)) k .full))
+    pub gathered-skips : admits (above rule) (barOf (columnsOf (top rule k (standing w n))) k) (entry rule (reportIn w n)) ≡ false → top rule k (standing w n) ≡ top rule k (standing w (n + 1))
+    gathered-skips h = go (tested (eqb (getD (w .numbers) n 0) 0)) (tested (barOf (columnsOf (listed n)) k .full))
       where
-        go : Tested (eqb (getD (w .numbers) n 0) 0) → Tested (barOf (stored (listed n)) k .full) → top rule k (standing w n) ≡ top rule k (standing w (n + 1))
+        go : Tested (eqb (getD (w .numbers) n 0) 0) → Tested (barOf (columnsOf (listed n)) k .full) → top rule k (standing w n) ≡ top rule k (standing w (n + 1))
         go (passed z) t = sym (rows-more n (standing w n) (if-so (standing w n) (reportIn w n ∷ standing w n) z))
-        go (failed z) (failed t) = clash (admits-room (above rule) (barOf (stored (listed n)) k) report z t) h
+        go (failed z) (failed t) = clash (admits-room (above rule) (barOf (columnsOf (listed n)) k) report z t) h
         go (failed z) (passed t) =
-            let full = bar-full (stored (listed n)) k (roomy-stored (listed n)) t in
+            let full = bar-full (columnsOf (listed n)) k (roomy-stored (listed n)) t in
             sym
-            (best-skip (above rule) (above-strict rule) k report (entries rule (standing w n)) (full .some) (full .as-many)
+            (best-skip (above rule) (above-strict rule) k report (entries rule (standing w n)) (full .positive) (full .as-many)
             (ap (onLast (above rule report)) (sym (best-back (above rule) (above-strict rule) k small (entries rule (standing w n))))
             ∙ full .last (above rule report)
-            ∙ sym (admits-full (above rule) (barOf (stored (listed n)) k) report z t)
+            ∙ sym (admits-full (above rule) (barOf (columnsOf (listed n)) k) report z t)
             ∙ h))
             ∙ best-cons (above rule) (above-strict rule) k report (entries rule (standing w n))
             ∙ sym (top-cons rule k (reportIn w n) (standing w n))

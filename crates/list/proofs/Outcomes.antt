@@ -4,10 +4,10 @@ use mathlib.Core.Path.{sym, _∙_}
 use Rattle.laws.proofs.Outcomes.{OneAnswer}
 use Rattle.list.proofs.Lines.none.Kinds as none-kinds
 use Rattle.list.proofs.Lines.none.Reads as none-reads
-use Rattle.list.proofs.Lines.shown.Kinds as shown-kinds
-use Rattle.list.proofs.Lines.shown.Reads as shown-reads
-use Rattle.list.proofs.Lines.first.Kinds as first-kinds
-use Rattle.list.proofs.Lines.first.Reads as first-reads
+use Rattle.list.proofs.Lines.line_count.Kinds as line-count-kinds
+use Rattle.list.proofs.Lines.line_count.Reads as line-count-reads
+use Rattle.list.proofs.Lines.first_lines.Kinds as first-lines-kinds
+use Rattle.list.proofs.Lines.first_lines.Reads as first-lines-reads
 use Rattle.list.proofs.Lines.placed.Kinds as placed-kinds
 use Rattle.list.proofs.Lines.placed.Reads as placed-reads
 use Rattle.list.proofs.Lines.best.Kinds as best-kinds
@@ -24,11 +24,11 @@ use Rattle.list.proofs.gathered.Reads as gathered-reads
 none-once : OneAnswer 0 none-kinds.ps none-kinds.r none-reads.Post
 none-once κs a x y s t p q = p ∙ sym q
 
-shown-once : OneAnswer 0 shown-kinds.ps shown-kinds.r shown-reads.Post
-shown-once κs a x y s t p q = p ∙ sym q
+line-count-once : OneAnswer 0 line-count-kinds.ps line-count-kinds.r line-count-reads.Post
+line-count-once κs a x y s t p q = p ∙ sym q
 
-first-once : OneAnswer 0 first-kinds.ps first-kinds.r first-reads.Post
-first-once κs a x y s t p q = p ∙ sym q
+first-lines-once : OneAnswer 0 first-lines-kinds.ps first-lines-kinds.r first-lines-reads.Post
+first-lines-once κs a x y s t p q = p ∙ sym q
 
 placed-once : OneAnswer 0 placed-kinds.ps placed-kinds.r placed-reads.Post
 placed-once κs a x y s t p q = p ∙ sym q

@@ -8,7 +8,7 @@ use native.Mathlib.Nat.{add-zero, zero-add, le-of-suc-le-suc, not-suc-le-zero}
 use native.Mathlib.Omega.{arith}
 use lib.ListN.{length, take, drop, getD}
 use lib.Seq.{take-take, take-append-le, length-take-le}
-use Rattle.search.specs.Best.{place}
+use Rattle.search.specs.Best.{placed}
 use Rattle.laws.proofs.Orders.{StrictTotal, one-way}
 use Rattle.search.proofs.Best.{place-first, place-later, place-same}
 use Rattle.laws.proofs.Tests.{Tested, passed, failed, tested, clash}
@@ -56,11 +56,11 @@ module _ {E : Type 0} (above : E → E → Bool) (strict : StrictTotal above) wh
       go (failed t) ih = absurd (no (subst (λ n. suc (length ys) ≤ n) (rank-here x y ys t) h))
 
   -- a new entry stands at its rank
-  pub place-new : (x : E) (l : List E) → newIn above x l ≡ true → place above x l ≡ take (rankIn above x l) l ++ (x ∷ drop (rankIn above x l) l)
+  pub place-new : (x : E) (l : List E) → newIn above x l ≡ true → placed above x l ≡ take (rankIn above x l) l ++ (x ∷ drop (rankIn above x l) l)
   place-new x [] h = refl
   place-new x (y ∷ ys) h = go (tested (above y x)) (place-new x ys)
     where
-      go : Tested (above y x) → (newIn above x ys ≡ true → place above x ys ≡ take (rankIn above x ys) ys ++ (x ∷ drop (rankIn above x ys) ys)) → place above x (y ∷ ys) ≡ take (rankIn above x (y ∷ ys)) (y ∷ ys) ++ (x ∷ drop (rankIn above x (y ∷ ys)) (y ∷ ys))
+      go : Tested (above y x) → (newIn above x ys ≡ true → placed above x ys ≡ take (rankIn above x ys) ys ++ (x ∷ drop (rankIn above x ys) ys)) → placed above x (y ∷ ys) ≡ take (rankIn above x (y ∷ ys)) (y ∷ ys) ++ (x ∷ drop (rankIn above x (y ∷ ys)) (y ∷ ys))
       go (passed t) ih =
           place-later above x y ys (one-way above strict y x t) t
           ∙ ap (λ l. y ∷ l) (ih (rw (t, newIn) at h))
@@ -69,22 +69,22 @@ module _ {E : Type 0} (above : E → E → Bool) (strict : StrictTotal above) wh
           place-first above x y ys (rw (t, newIn) at h) ∙ ap (λ n. take n (y ∷ ys) ++ (x ∷ drop n (y ∷ ys))) (sym (rank-here x y ys t))
 
   -- one that is there already changes nothing
-  pub place-old : (x : E) (l : List E) → newIn above x l ≡ false → place above x l ≡ l
+  pub place-old : (x : E) (l : List E) → newIn above x l ≡ false → placed above x l ≡ l
   place-old x [] h = clash {b = true} refl h
   place-old x (y ∷ ys) h = go (tested (above y x)) (place-old x ys)
     where
-      go : Tested (above y x) → (newIn above x ys ≡ false → place above x ys ≡ ys) → place above x (y ∷ ys) ≡ y ∷ ys
+      go : Tested (above y x) → (newIn above x ys ≡ false → placed above x ys ≡ ys) → placed above x (y ∷ ys) ≡ y ∷ ys
       go (passed t) ih = place-later above x y ys (one-way above strict y x t) t ∙ ap (λ l. y ∷ l) (ih (rw (t, newIn) at h))
       go (failed t) ih = place-same above x y ys (rw (t, newIn) at h) t
 
   -- one whose rank is past the room changes nothing in it
-  pub place-over : (x : E) (l : List E) (room : ℕ) → room ≤ rankIn above x l → take room (place above x l) ≡ take room l
+  pub place-over : (x : E) (l : List E) (room : ℕ) → room ≤ rankIn above x l → take room (placed above x l) ≡ take room l
   place-over x l room h = go (tested (newIn above x l))
     where
       n : ℕ
       n = rankIn above x l
 
-      go : Tested (newIn above x l) → take room (place above x l) ≡ take room l
+      go : Tested (newIn above x l) → take room (placed above x l) ≡ take room l
       go (failed t) = ap (take room) (place-old x l t)
       go (passed t) =
           ap (take room) (place-new x l t)

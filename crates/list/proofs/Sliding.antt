@@ -10,13 +10,13 @@ use native.Mathlib.Omega.{arith}
 use lib.IntN.{ℤ, pos}
 use lib.ListN.{length, take, drop, getD, set, replicate, length-append, length-take, length-drop, take-append-drop}
 use lib.Seq.{take-all, take-take, take-at, drop-at, length-take-le}
-use Rattle.search.specs.Best.{place}
+use Rattle.search.specs.Best.{placed}
 use Rattle.ranking.specs.Standing.{Entry}
 use Rattle.laws.proofs.Orders.{StrictTotal}
 use Rattle.search.proofs.Best.{place-length-ge}
 use Rattle.list.specs.declared.Lines.{Lines}
-use Rattle.list.specs.Lines.{linesOf, numbersOf, scoresOf, stored, linesIn, wiped}
-use Rattle.list.specs.Inner.{rankIn, newIn, slid, Placing}
+use Rattle.list.specs.Lines.{linesOf, numbersOf, scoresOf, columnsOf, linesIn}
+use Rattle.list.specs.Inner.{rankIn, newIn, slid, Placing, wiped}
 use Rattle.list.proofs.Stored.{Roomy, take-replicate, fewest, column-numbers, column-scores, lines-back}
 use Rattle.list.proofs.Placed.{rank-le, place-new, place-old, place-over, cut-new}
 
@@ -121,9 +121,9 @@ module _ {E : Type 0} (above : E → E → Bool) (strict : StrictTotal above) (x
   shown-length = length-take-le len old (omega arith)
 
   -- where nothing moves
-  stays : (r : ℕ) → r ≡ min room len → take room (place above x (take len old)) ≡ take room (take len old) → Placing above x len room old old r
+  stays : (r : ℕ) → r ≡ min room len → take room (placed above x (take len old)) ≡ take room (take len old) → Placing above x len room old old r
   stays r e h =
-      let cut : take room (place above x (take len old)) ≡ take r old = h ∙ sym (fewest room len old) ∙ ap (λ n. take n old) (sym e) in
+      let cut : take room (placed above x (take len old)) ≡ take r old = h ∙ sym (fewest room len old) ∙ ap (λ n. take n old) (sym e) in
       record {
         count = sym (ap length cut ∙ length-take-le r old (omega arith));
         front = sym cut;
@@ -167,7 +167,7 @@ module _ {E : Type 0} (above : E → E → Bool) (strict : StrictTotal above) (x
         cut : take (room - 1) (take len old) ≡ take last old
         cut = sym (fewest (room - 1) len old) ∙ ap (λ n. take n old) fewer
 
-        front : take (last + 1) (slid at last x old) ≡ take room (place above x (take len old))
+        front : take (last + 1) (slid at last x old) ≡ take room (placed above x (take len old))
         front =
             rw (add-one last) (slid-front x at last old at-last under)
             ∙ ap₂ (λ a b. a ++ (x ∷ drop at b)) (sym (take-take at len old (omega (arith, at-last, is)))) (sym cut)
@@ -177,7 +177,7 @@ module _ {E : Type 0} (above : E → E → Bool) (strict : StrictTotal above) (x
 
 -- no more than there is room for
 pub placing-few : {E : Type 0} {above : E → E → Bool} {x : E} {len room : ℕ} {old new : List E} {r : ℕ} → Placing above x len room old new r → room ≤ 16 → r ≤ 16
-placing-few {E} {above} {x} {len} {room} {old} p h = omega (arith, p .count, length-take room (place above x (take len old)))
+placing-few {E} {above} {x} {len} {room} {old} p h = omega (arith, p .count, length-take room (placed above x (take len old)))
 
 -- the columns as the code leaves them
 module _ {ns ns' : List ℕ} {ss ss' : List ℤ} (room : Roomy ns ss) (at last n : ℕ) (s : ℤ) (order : at ≤ last) (low : last < 16) (left : ns' ≡ slid at last n ns) (right : ss' ≡ slid at last s ss) where
@@ -207,7 +207,7 @@ column f (suc n) p (y ∷ l) = ap (λ r. f y ∷ r) (column f n p l)
 abbrev padded : List Entry → List Entry
 padded l = take 16 (l ++ replicate 16 blank)
 
-lines-stored : (ns : List ℕ) (ss : List ℤ) → Roomy ns ss → (l : List Entry) → linesOf ns ss ≡ padded l → (r : ℕ) → r ≡ length l → record { numbers = ns; scores = ss; len = r } ≡ stored l
+lines-stored : (ns : List ℕ) (ss : List ℤ) → Roomy ns ss → (l : List Entry) → linesOf ns ss ≡ padded l → (r : ℕ) → r ≡ length l → record { numbers = ns; scores = ss; len = r } ≡ columnsOf l
 lines-stored ns ss room l is r e = λ i. record { numbers = left i; scores = right i; len = e i }
   where
     left : ns ≡ numbersOf l
@@ -234,15 +234,15 @@ over (suc n) p q (z ∷ l) (y ∷ m) h g a b =
     ap (λ r. y ∷ r) (over n p q l m (le-of-suc-le-suc h) (le-of-suc-le-suc g) (omega arith) (omega arith))
 
 -- an entry put in its rank in the arrays of a stored list is stored with it
-module _ (above : Entry → Entry → Bool) (strict : StrictTotal above) (k : ℕ) (small : k ≤ 16) (ns ns' : List ℕ) (ss ss' : List ℤ) (len r : ℕ) (l : List Entry) (x : Entry) (is : record { numbers = ns; scores = ss; len = len } ≡ stored l) (few : length l ≤ k) (room : Roomy ns' ss') (placing : Placing above x len k (linesOf ns ss) (linesOf ns' ss') r) where
+module _ (above : Entry → Entry → Bool) (strict : StrictTotal above) (k : ℕ) (small : k ≤ 16) (ns ns' : List ℕ) (ss ss' : List ℤ) (len r : ℕ) (l : List Entry) (x : Entry) (is : record { numbers = ns; scores = ss; len = len } ≡ columnsOf l) (few : length l ≤ k) (room : Roomy ns' ss') (placing : Placing above x len k (linesOf ns ss) (linesOf ns' ss') r) where
   abbrev new : List Entry
-  new = take k (place above x l)
+  new = take k (placed above x l)
 
   front : take len (linesOf ns ss) ≡ l
   front = ap linesIn is ∙ lines-back l (omega arith)
 
   count : r ≡ length new
-  count = placing .count ∙ ap (λ m. length (take k (place above x m))) front
+  count = placing .count ∙ ap (λ m. length (take k (placed above x m))) front
 
   more : length l ≤ length new
   more = simp length-take (omega (arith, place-length-ge above strict x l))
@@ -253,9 +253,9 @@ module _ (above : Entry → Entry → Bool) (strict : StrictTotal above) (k : �
   lines-now : linesOf ns' ss' ≡ padded new
   lines-now =
       sym (take-append-drop r (linesOf ns' ss'))
-      ∙ ap₂ (λ a b. a ++ b) (placing .front ∙ ap (λ m. take k (place above x m)) front)
+      ∙ ap₂ (λ a b. a ++ b) (placing .front ∙ ap (λ m. take k (placed above x m)) front)
       (placing .rest ∙ ap₂ drop count (ap (λ (q : Lines). linesOf (q .numbers) (q .scores)) is ∙ stored-lines 16 16 l))
       ∙ over 16 16 16 l new more most (omega arith) (omega arith)
 
-  pub placed-stored : record { numbers = ns'; scores = ss'; len = r } ≡ stored (take k (place above x l))
+  pub placed-stored : record { numbers = ns'; scores = ss'; len = r } ≡ columnsOf (take k (placed above x l))
   placed-stored = lines-stored ns' ss' room new lines-now r count

@@ -17,8 +17,9 @@ use Rattle.ranking.specs.Standing.{Entry}
 use Rattle.laws.proofs.Lists.{last-at}
 use Rattle.laws.proofs.Tests.{Tested, passed, failed, tested}
 use Rattle.list.specs.declared.Lines.{Lines}
-use Rattle.list.specs.Lines.{linesOf, numbersOf, scoresOf, stored, linesIn, wiped}
+use Rattle.list.specs.Lines.{linesOf, numbersOf, scoresOf, columnsOf, linesIn}
 pub use Rattle.list.specs.Inner.{Roomy}
+use Rattle.list.specs.Inner.{wiped}
 
 -- ---- lists
 
@@ -59,7 +60,7 @@ read-back zero p (x ∷ l) h = absurd (not-suc-le-zero h)
 read-back (suc n) p (x ∷ l) h = ap (λ m. x ∷ m) (read-back n p l (le-of-suc-le-suc h))
 
 -- what is stored is read back
-pub lines-back : (l : List Entry) → length l ≤ 16 → linesIn (stored l) ≡ l
+pub lines-back : (l : List Entry) → length l ≤ 16 → linesIn (columnsOf l) ≡ l
 lines-back l h = read-back 16 16 l h
 
 -- a stored list has its room
@@ -138,7 +139,7 @@ module _ (ns : List ℕ) (ss : List ℤ) (r : Roomy ns ss) where
         (take-suc (take n (linesOf ns ss)) i (record { number = 0; score = pos 0 }) (rw length-front g) ∙ rw (line-at i g))
 
   -- the first m lines, 0 past them
-  pub wiped-stored : {ns' : List ℕ} {ss' : List ℤ} (m : ℕ) → m ≤ 16 → ns' ≡ wiped m 0 ns → ss' ≡ wiped m (pos 0) ss → record { numbers = ns'; scores = ss'; len = m } ≡ stored (take m (linesOf ns ss))
+  pub wiped-stored : {ns' : List ℕ} {ss' : List ℤ} (m : ℕ) → m ≤ 16 → ns' ≡ wiped m 0 ns → ss' ≡ wiped m (pos 0) ss → record { numbers = ns'; scores = ss'; len = m } ≡ columnsOf (take m (linesOf ns ss))
   wiped-stored m h left right = λ i.
       record {
         numbers = (left ∙ ap (λ l. take 16 (l ++ replicate 16 0)) (front (λ e. e .number) column-numbers)) i;
@@ -176,8 +177,8 @@ module _ (ns : List ℕ) (ss : List ℤ) (r : Roomy ns ss) where
     pub last-shown : (i : ℕ) → i + 1 ≡ n → (p : Entry → Bool) → onLast p (take len (linesOf ns ss)) ≡ p (lineAt ns ss i)
     last-shown i e p = go (take len (linesOf ns ss)) refl
       where
-        some : (l : List Entry) → length l ≡ i → getD (take len (linesOf ns ss)) (length l) (record { number = 0; score = pos 0 }) ≡ lineAt ns ss i
-        some l h =
+        line-is : (l : List Entry) → length l ≡ i → getD (take len (linesOf ns ss)) (length l) (record { number = 0; score = pos 0 }) ≡ lineAt ns ss i
+        line-is l h =
             ap (λ m. getD m (length l) (record { number = 0; score = pos 0 })) (sym take-shown)
             ∙ ap (λ m. getD (take n (linesOf ns ss)) m (record { number = 0; score = pos 0 })) h
             ∙ line-at n (omega arith) i (omega arith)
@@ -191,7 +192,7 @@ module _ (ns : List ℕ) (ss : List ℤ) (r : Roomy ns ss) where
             ap (onLast p) h
             ∙ last-at p (record { number = 0; score = pos 0 }) x l
             ∙ ap (λ m. p (getD m (length l) (record { number = 0; score = pos 0 }))) (sym h)
-            ∙ ap p (some l (fewer (length l) (sym (ap length h) ∙ length-shown)))
+            ∙ ap p (line-is l (fewer (length l) (sym (ap length h) ∙ length-shown)))
           where
             fewer : (m : ℕ) → suc m ≡ n → m ≡ i
             fewer m a = omega arith

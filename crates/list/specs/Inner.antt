@@ -1,17 +1,20 @@
--- What the inner functions of a list answer; no public contract cites it.
+-- What the inner functions of `list` answer, and what its proofs speak of; no public contract and no promise cites it.
 use mathlib.Core.Path.{_≡_}
 use Prim.Native.Nat.{ℕ, suc}
-use mathlib.Core.Bool.{Bool, true, cond}
+use mathlib.Core.Bool.{Bool, true, cond, not, _&&_, _||_}
 use mathlib.Core.List.{List, [], _∷_, _++_}
-use lib.ListN.{length, take, drop}
-use lib.IntN.{ℤ}
-use Rattle.search.specs.Best.{place}
-use Rattle.list.specs.Lines.{room}
+use lib.ListN.{length, take, drop, replicate}
+use lib.IntN.{ℤ, negsuc}
+use lib.Dec.{eqb}
+use Rattle.search.specs.Best.{placed}
+use Rattle.ranking.specs.Standing.{Entry}
+use Rattle.list.specs.Lines.{mostLines}
+use Rattle.list.specs.declared.Bar.{Bar}
 
 -- The columns have their room.
 pub record Roomy (ns : List ℕ) (ss : List ℤ) : Type 0 where
-  pub numbers : length ns ≡ room
-  pub scores : length ss ≡ room
+  pub numbers : length ns ≡ mostLines
+  pub scores : length ss ≡ mostLines
 
 -- x at a place, and what stood from there to the place `last` one place back; what stood at `last` goes.
 abbrev pub slid : {A : Type 0} → (at last : ℕ) → A → List A → List A
@@ -30,6 +33,19 @@ module _ {E : Type 0} (above : E → E → Bool) where
 
   -- The lines `new` have, as their first r, the first `len` of `old` with an entry in its rank, at most `most` of them; the rest is as it was.
   pub record Placing (e : E) (len most : ℕ) (old new : List E) (r : ℕ) : Type 0 where
-    pub count : r ≡ length (take most (place above e (take len old)))
-    pub front : take r new ≡ take most (place above e (take len old))
+    pub count : r ≡ length (take most (placed above e (take len old)))
+    pub front : take r new ≡ take most (placed above e (take len old))
     pub rest : drop r new ≡ drop r old
+
+-- No entry with a lower score passes it: the last line's score, or the least that an `i32` holds.
+unfoldable pub leastAt : Bar → ℤ
+leastAt bar = cond (bar .full) (bar .score) (negsuc 2147483647)
+
+-- An entry with a number passes the bar.
+unfoldable pub admits : (Entry → Entry → Bool) → Bar → Entry → Bool
+admits above bar e =
+    not (eqb (e .number) 0) && (not (bar .full) || above e (record { number = bar .number; score = bar .score }))
+
+-- The first n of a column, and d in the places past them.
+abbrev pub wiped : {A : Type 0} → ℕ → A → List A → List A
+wiped n d l = take mostLines (take n l ++ replicate mostLines d)

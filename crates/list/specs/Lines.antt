@@ -10,8 +10,8 @@ use Rattle.ranking.specs.Standing.{Entry}
 use Rattle.list.specs.declared.Lines.{Lines}
 
 -- How many lines a list has room for.
-abbrev pub room : ℕ
-room = 16
+abbrev pub mostLines : ℕ
+mostLines = 16
 
 -- The lines of a list, from their numbers and scores.
 abbrev pub linesOf : List ℕ → List ℤ → List Entry
@@ -21,21 +21,17 @@ linesOf (n ∷ ns) (s ∷ ss) = record { number = n; score = s } ∷ linesOf ns 
 
 -- A list as it is stored, and its columns: unused places are 0 (rule 9.6).
 abbrev pub numbersOf : List Entry → List ℕ
-numbersOf l = take room (map (λ e. e .number) l ++ replicate room 0)
+numbersOf l = take mostLines (map (λ e. e .number) l ++ replicate mostLines 0)
 
 abbrev pub scoresOf : List Entry → List ℤ
-scoresOf l = take room (map (λ e. e .score) l ++ replicate room (pos 0))
+scoresOf l = take mostLines (map (λ e. e .score) l ++ replicate mostLines (pos 0))
 
-abbrev pub stored : List Entry → Lines
-stored l = record { numbers = numbersOf l; scores = scoresOf l; len = length l }
+abbrev pub columnsOf : List Entry → Lines
+columnsOf l = record { numbers = numbersOf l; scores = scoresOf l; len = length l }
 
 -- The lines that a list has.
 abbrev pub linesIn : Lines → List Entry
 linesIn l = take (l .len) (linesOf (l .numbers) (l .scores))
-
--- The first n of a column, and d in the places past them.
-abbrev pub wiped : {A : Type 0} → ℕ → A → List A → List A
-wiped n d l = take room (take n l ++ replicate room d)
 
 -- Each passes the test.
 abbrev pub allOf : {A : Type 0} → (A → Bool) → List A → Bool

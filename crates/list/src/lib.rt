@@ -5,21 +5,21 @@ ghost use mathlib.Core.List.{[]};
 ghost use Prim.Native.Nat.{min, _≤_, _<_};
 ghost use lib.ListN.{take, drop};
 ghost use lib.IntN.{pos};
-ghost use Rattle.search.specs.Best.{best, place};
+ghost use Rattle.search.specs.Best.{best, placed};
 ghost use Rattle.ranking.specs.Standing.{above, top};
 ghost use Rattle.window.specs.Rows.{rowCount, standing};
-ghost use Rattle.list.specs.Lines.{room, linesOf, linesIn, stored, wiped, allOf, falls, blank};
-ghost use Rattle.list.specs.Bars.{barAt, barOf, leastAt, admits};
+ghost use Rattle.list.specs.Lines.{mostLines, linesOf, linesIn, columnsOf, allOf, falls, blank};
+ghost use Rattle.list.specs.Bars.{barAt, barOf};
 ghost use Rattle.list.specs.Rows.{rowsOf};
-ghost use Rattle.list.specs.Inner.{Roomy, rankIn, newIn, slid, Placing};
+ghost use Rattle.list.specs.Inner.{Roomy, rankIn, newIn, slid, Placing, leastAt, admits, wiped};
 use ranking::Rule;
 use values::Values;
 use window::Window;
 
 // The first `len` places are its lines. In a list that is well stored the others are 0.
 pub struct Lines {
-    pub numbers: [u32; Lines::ROOM],
-    pub scores: [i32; Lines::ROOM],
+    pub numbers: [u32; Lines::MOST],
+    pub scores: [i32; Lines::MOST],
     pub len: u8,
 }
 
@@ -32,14 +32,14 @@ pub struct Bar {
 
 impl Lines {
     // How many lines a list has room for.
-    pub const ROOM: usize = 16;
+    pub const MOST: usize = 16;
 
     // No lines.
     pub fn none() -> Lines
-        ensures { λ r. ⌜ r ≡ stored [] ⌝ }
+        ensures { λ r. ⌜ r ≡ columnsOf [] ⌝ }
     {
-        let numbers = [0u32; Lines::ROOM];
-        let scores = [0i32; Lines::ROOM];
+        let numbers = [0u32; Lines::MOST];
+        let scores = [0i32; Lines::MOST];
         Lines {
             numbers,
             scores,
@@ -48,17 +48,17 @@ impl Lines {
     }
 
     // How many lines there are.
-    pub fn shown(self) -> usize
-        ensures { λ r. ⌜ r ≡ min (self .len) room ⌝ }
+    pub fn line_count(self) -> usize
+        ensures { λ r. ⌜ r ≡ min (self .len) mostLines ⌝ }
     {
-        smaller(self.len as usize, Lines::ROOM)
+        smaller(self.len as usize, Lines::MOST)
     }
 
     // The first m lines.
-    pub fn first(self, m: usize) -> Lines
-        ensures { λ r. ⌜ r ≡ stored (take m (linesIn self)) ⌝ }
+    pub fn first_lines(self, m: usize) -> Lines
+        ensures { λ r. ⌜ r ≡ columnsOf (take m (linesIn self)) ⌝ }
     {
-        let n = smaller(m, self.shown());
+        let n = smaller(m, self.line_count());
         let mut numbers = self.numbers;
         let mut scores = self.scores;
         wipe(&mut numbers, &mut scores, n);
@@ -72,12 +72,12 @@ impl Lines {
 
     // One entry put in its rank among the lines, once, of which at most `most` are kept.
     pub fn placed(self, rule: Rule, most: usize, number: u32, score: i32) -> Lines
-        ensures { λ r. ⌜ r ≡ stored (take (min most room) (place (above rule) (record { number = number; score = score }) (linesIn self))) ⌝ }
+        ensures { λ r. ⌜ r ≡ columnsOf (take (min most mostLines) (placed (above rule) (record { number = number; score = score }) (linesIn self))) ⌝ }
     {
-        let n = self.shown();
+        let n = self.line_count();
         let mut numbers = self.numbers;
         let mut scores = self.scores;
-        let k = smaller(most, Lines::ROOM);
+        let k = smaller(most, Lines::MOST);
         let m = put_in(rule, &mut numbers, &mut scores, n, k, number, score);
         wipe(&mut numbers, &mut scores, m);
         let len = m as u8;
@@ -90,9 +90,9 @@ impl Lines {
 
     // The best k of the lines.
     pub fn best(self, rule: Rule, k: usize) -> Lines
-        ensures { λ r. ⌜ r ≡ stored (best (above rule) (min k room) (linesIn self)) ⌝ }
+        ensures { λ r. ⌜ r ≡ columnsOf (best (above rule) (min k mostLines) (linesIn self)) ⌝ }
     {
-        let n = self.shown();
+        let n = self.line_count();
         let numbers = self.numbers;
         let scores = self.scores;
         let mut list = Lines::none();
@@ -108,7 +108,7 @@ impl Lines {
     pub fn falls(self, rule: Rule) -> bool
         ensures { λ r. ⌜ r ≡ falls (above rule) (linesIn self) ⌝ }
     {
-        let n = self.shown();
+        let n = self.line_count();
         let mut i: usize = 0;
         while i + 1 < n {
             let next = i + 1;
@@ -129,8 +129,8 @@ impl Lines {
     pub fn rest_blank(self) -> bool
         ensures { λ r. ⌜ r ≡ allOf blank (drop (self .len) (linesOf (self .numbers) (self .scores))) ⌝ }
     {
-        let mut i = self.shown();
-        while i < Lines::ROOM {
+        let mut i = self.line_count();
+        while i < Lines::MOST {
             if self.numbers[i] != 0 {
                 return false;
             }
@@ -146,7 +146,7 @@ impl Lines {
     pub fn bar(self, k: u8) -> Bar
         ensures { λ r. ⌜ r ≡ barOf self k ⌝ }
     {
-        let n = self.shown();
+        let n = self.line_count();
         let full = self.len == k;
         bar_in(&self.numbers, &self.scores, n, full)
     }
@@ -187,13 +187,13 @@ pub fn gathered<'a>(
     rows: usize,
 ) -> Lines
     ensures { λ r. ⌜
-        r ≡ stored (top rule (min k room) (standing (rowsOf (now (losses .entry)) (now (shakes .entry)) (now (numbers .entry))) (min rows rowCount)))
+        r ≡ columnsOf (top rule (min k mostLines) (standing (rowsOf (now (losses .entry)) (now (shakes .entry)) (now (numbers .entry))) (min rows rowCount)))
         ⌝ }
 {
-    let most = smaller(k as usize, Lines::ROOM);
+    let most = smaller(k as usize, Lines::MOST);
     let end = smaller(rows, Window::ROWS);
-    let mut found = [0u32; Lines::ROOM];
-    let mut by = [0i32; Lines::ROOM];
+    let mut found = [0u32; Lines::MOST];
+    let mut by = [0i32; Lines::MOST];
     let mut len: usize = 0;
     let mut bar = bar_in(&found, &by, len, len == most);
     let mut least = bar.least();
@@ -225,12 +225,12 @@ pub fn gathered<'a>(
 
 // The bar of the first `len` lines of two arrays, where it is told whether they are a full list.
 fn bar_in<'a>(
-    numbers: &'a [u32; Lines::ROOM],
-    scores: &'a [i32; Lines::ROOM],
+    numbers: &'a [u32; Lines::MOST],
+    scores: &'a [i32; Lines::MOST],
     len: usize,
     full: bool,
 ) -> Bar
-    requires { ⌜ len ≤ room ⌝ }
+    requires { ⌜ len ≤ mostLines ⌝ }
     ensures { λ r. ⌜ r ≡ barAt (now (numbers .entry)) (now (scores .entry)) len full ⌝ }
 {
     if len == 0 {
@@ -249,13 +249,13 @@ fn bar_in<'a>(
 }
 
 // 0 in the places of two arrays from one on.
-fn wipe<'a>(numbers: &'a mut [u32; Lines::ROOM], scores: &'a mut [i32; Lines::ROOM], from: usize)
-    requires { ⌜ (from ≤ room) × Roomy (now numbers) (now scores) ⌝ }
+fn wipe<'a>(numbers: &'a mut [u32; Lines::MOST], scores: &'a mut [i32; Lines::MOST], from: usize)
+    requires { ⌜ (from ≤ mostLines) × Roomy (now numbers) (now scores) ⌝ }
     ensures { λ _. ⌜
         (now (numbers .exit) ≡ wiped from 0 (now (numbers .entry))) × (now (scores .exit) ≡ wiped from (pos 0) (now (scores .entry)))
         ⌝ }
 {
-    let mut i: usize = Lines::ROOM;
+    let mut i: usize = Lines::MOST;
     while from < i {
         i -= 1;
         numbers[i] = 0;
@@ -274,14 +274,14 @@ fn smaller(a: usize, b: usize) -> usize
 // number then. The lines past them stay.
 fn put_in<'a>(
     rule: Rule,
-    numbers: &'a mut [u32; Lines::ROOM],
-    scores: &'a mut [i32; Lines::ROOM],
+    numbers: &'a mut [u32; Lines::MOST],
+    scores: &'a mut [i32; Lines::MOST],
     len: usize,
     most: usize,
     number: u32,
     score: i32,
 ) -> usize
-    requires { ⌜ (len ≤ room) × (most ≤ room) × Roomy (now numbers) (now scores) ⌝ }
+    requires { ⌜ (len ≤ mostLines) × (most ≤ mostLines) × Roomy (now numbers) (now scores) ⌝ }
     ensures { λ r. ⌜
         Placing (above rule) (record { number = number; score = score }) len most (linesOf (now (numbers .entry)) (now (scores .entry))) (linesOf (now (numbers .exit)) (now (scores .exit))) r
         × Roomy (now (numbers .exit)) (now (scores .exit))
@@ -302,13 +302,13 @@ fn put_in<'a>(
 // How many of the first `len` lines of two arrays rank above an entry, before the first that doesn't.
 fn rank_in<'a>(
     rule: Rule,
-    numbers: &'a [u32; Lines::ROOM],
-    scores: &'a [i32; Lines::ROOM],
+    numbers: &'a [u32; Lines::MOST],
+    scores: &'a [i32; Lines::MOST],
     len: usize,
     number: u32,
     score: i32,
 ) -> usize
-    requires { ⌜ (len ≤ room) × Roomy (now numbers) (now scores) ⌝ }
+    requires { ⌜ (len ≤ mostLines) × Roomy (now numbers) (now scores) ⌝ }
     ensures { λ r. ⌜
         r ≡ rankIn (above rule) (record { number = number; score = score }) (take len (linesOf (now (numbers .entry)) (now (scores .entry))))
         ⌝ }
@@ -326,15 +326,15 @@ fn rank_in<'a>(
 // The line at an entry's rank is another.
 fn new_in<'a>(
     rule: Rule,
-    numbers: &'a [u32; Lines::ROOM],
-    scores: &'a [i32; Lines::ROOM],
+    numbers: &'a [u32; Lines::MOST],
+    scores: &'a [i32; Lines::MOST],
     len: usize,
     at: usize,
     number: u32,
     score: i32,
 ) -> bool
     requires { ⌜
-        (len ≤ room) × Roomy (now numbers) (now scores)
+        (len ≤ mostLines) × Roomy (now numbers) (now scores)
         × (at ≡ rankIn (above rule) (record { number = number; score = score }) (take len (linesOf (now numbers) (now scores))))
         ⌝ }
     ensures { λ r. ⌜
@@ -349,14 +349,14 @@ fn new_in<'a>(
 
 // An entry put at a place, and the lines from there to the last one moved one place back; the last one goes.
 fn slide<'a>(
-    numbers: &'a mut [u32; Lines::ROOM],
-    scores: &'a mut [i32; Lines::ROOM],
+    numbers: &'a mut [u32; Lines::MOST],
+    scores: &'a mut [i32; Lines::MOST],
     at: usize,
     last: usize,
     number: u32,
     score: i32,
 )
-    requires { ⌜ (at ≤ last) × (last < room) × Roomy (now numbers) (now scores) ⌝ }
+    requires { ⌜ (at ≤ last) × (last < mostLines) × Roomy (now numbers) (now scores) ⌝ }
     ensures { λ _. ⌜
         (now (numbers .exit) ≡ slid at last number (now (numbers .entry)))
         × (now (scores .exit) ≡ slid at last score (now (scores .entry)))

@@ -56,10 +56,10 @@ impl Extras {
     // With the next one, where there is one.
     fn with(self, line: &[u8]) -> Extras {
         let word = lines::word(line, self.at);
-        if lines::equal(word, b"note") {
+        if lines::same(word, b"note") {
             return self.with_note(line);
         }
-        if lines::equal(word, b"room") {
+        if lines::same(word, b"room") {
             return self.with_room(line);
         }
         self

@@ -20,7 +20,7 @@ use Rattle.journal.specs.declared.Log.{Log}
 use Rattle.pieces.specs.declared.Waiting.{Waiting}
 use Rattle.journal.specs.Log.{Outcome, itemDone}
 use Rattle.stretch.specs.Coming.{hasRoom}
-use Rattle.pieces.specs.Machine.{Came, nothing, withByte, isWhole, sizeIn, valueEnd, valueIn, run, ran}
+use Rattle.pieces.specs.Machine.{Came, nothing, withByte, isWhole, sizeIn, valueEnd, valueIn, bytesCame, frontCame}
 use Rattle.pieces.proofs.Waits.{Holds, holds-more, holds-size}
 use Rattle.pieces.proofs.Feeding.{Ran, step, run-more, run-append, came-whole, came-not}
 
@@ -80,15 +80,15 @@ module _ (log : Log) (w : Waiting) (bs : List ℕ) (room : length (w .bytes) ≡
         holds = subst (λ (v : Waiting). Holds v (take (suc m) bs)) (sym (ap (λ (d : Came). d .waiting) not)) here;
       }
 
-  still-none : Still log [] (run log w [])
-  unfolding run
+  still-none : Still log [] (bytesCame log w [])
+  unfolding bytesCame
   still-none = record { text = refl; same = refl; holds = record { room = room; counts = none; front = λ i h k. absurd (omega arith); short = omega arith } }
 
-  still : (m : ℕ) → m < 3 + v → Still log (take m bs) (run log w (take m bs))
+  still : (m : ℕ) → m < 3 + v → Still log (take m bs) (bytesCame log w (take m bs))
   still zero less = still-none
   still (suc m) less =
-      subst (Still log (take (suc m) bs)) (sym (run-more (take m bs) log w (getD bs m 0)) ∙ ap (run log w) (sym (next-byte m (omega arith))))
-      (still-more m less (run log w (take m bs)) (still m (omega arith)))
+      subst (Still log (take (suc m) bs)) (sym (run-more (take m bs) log w (getD bs m 0)) ∙ ap (bytesCame log w) (sym (next-byte m (omega arith))))
+      (still-more m less (bytesCame log w (take m bs)) (still m (omega arith)))
 
   -- With the last byte it is whole.
   module _ (tag : ℕ) (starts : getD bs 0 0 ≡ tag) where
@@ -99,7 +99,7 @@ module _ (log : Log) (w : Waiting) (bs : List ℕ) (room : length (w .bytes) ≡
     last-byte = sym (next-byte end (omega arith)) ∙ take-all (suc end) bs (omega (arith, all))
 
     abbrev before : Came
-    before = run log w (take end bs)
+    before = bytesCame log w (take end bs)
 
     abbrev last : Waiting
     last = withByte (before .waiting) (getD bs end 0)
@@ -128,19 +128,19 @@ module _ (log : Log) (w : Waiting) (bs : List ℕ) (room : length (w .bytes) ≡
         rw (last-size, le-leb v 12 few)
         (ap (drop 3) last-bytes ∙ sym (take-all v (drop 3 bs) (omega (arith, length-drop 3 bs, all))))
 
-    pub item-run : run log w bs ≡ record { text = itemDone log tag (part 3 v bs) .text; log = itemDone log tag (part 3 v bs) .log; waiting = nothing }
+    pub item-run : bytesCame log w bs ≡ record { text = itemDone log tag (part 3 v bs) .text; log = itemDone log tag (part 3 v bs) .log; waiting = nothing }
     item-run =
         let here = still end (omega arith) in
         let done = came-whole (before .log) (before .waiting) (getD bs end 0) refl last-whole in
         let item : itemDone (before .log) (getD (last .bytes) 0 0) (valueIn last) ≡ itemDone log tag (part 3 v bs) =
         (λ i. itemDone (here .same i) ((last-holds .front 0 (omega arith) (omega (arith, all)) ∙ starts) i) (last-value i)) in
-        ap (run log w) (sym last-byte) ∙ run-more (take end bs) log w (getD bs end 0)
+        ap (bytesCame log w) (sym last-byte) ∙ run-more (take end bs) log w (getD bs end 0)
         ∙ (λ i. record { text = here .text i ++ done i .text; log = done i .log; waiting = done i .waiting })
         ∙ ap (λ (o : Outcome). record { text = o .text; log = o .log; waiting = nothing }) item
 
 module _ (log : Log) (w : Waiting) (piece room : List ℕ) where
-  later : (i j : ℕ) → ran log w piece (i + j) ≡ record { text = ran log w piece i .text ++ run (ran log w piece i .log) (ran log w piece i .waiting) (part i j piece) .text; log = run (ran log w piece i .log) (ran log w piece i .waiting) (part i j piece) .log; waiting = run (ran log w piece i .log) (ran log w piece i .waiting) (part i j piece) .waiting }
-  later i j = ap (run log w) (take-add i j piece) ∙ run-append (take i piece) (part i j piece) log w
+  later : (i j : ℕ) → frontCame log w piece (i + j) ≡ record { text = frontCame log w piece i .text ++ bytesCame (frontCame log w piece i .log) (frontCame log w piece i .waiting) (part i j piece) .text; log = bytesCame (frontCame log w piece i .log) (frontCame log w piece i .waiting) (part i j piece) .log; waiting = bytesCame (frontCame log w piece i .log) (frontCame log w piece i .waiting) (part i j piece) .waiting }
+  later i j = ap (bytesCame log w) (take-add i j piece) ∙ run-append (take i piece) (part i j piece) log w
 
   pub ran-item : {i : ℕ} {log₁ log₂ : Log} {w₁ w₂ : Waiting} {at next : ℕ} {left₁ left₂ : List ℕ} (tag v : ℕ) (text : List ℕ) → v ≤ 12 → length room < 2 ^ 64 → i + (3 + v) ≤ length piece
       → Ran log w piece room i log₁ w₁ at left₁ → hasRoom (length room) at ≡ true
@@ -152,11 +152,11 @@ module _ (log : Log) (w : Waiting) (piece room : List ℕ) where
       let all : length bs ≡ 3 + v = length-part piece i (3 + v) h in
       let there : getD bs 0 0 ≡ tag = getD-take (3 + v) (drop i piece) 0 0 (omega arith) ∙ getD-drop i piece 0 0 ∙ ap (λ (k : ℕ). getD piece k 0) (omega arith) ∙ starts in
       let long : number (part 1 2 bs) ≡ v = ap number (part-part 1 2 i (3 + v) piece (omega arith)) ∙ size in
-      let whole : run log₁ w₁ bs ≡ record { text = text; log = log₂; waiting = nothing } =
+      let whole : bytesCame log₁ w₁ bs ≡ record { text = text; log = log₂; waiting = nothing } =
       item-run log₁ w₁ bs full none v few all long tag there ∙ ap (λ (l : List ℕ). record { text = itemDone log₁ tag l .text; log = itemDone log₁ tag l .log; waiting = nothing }) (part-part 3 v i (3 + v) piece (omega arith))
       ∙ ap (λ (o : Outcome). record { text = o .text; log = o .log; waiting = nothing }) e in
-      let here : run (ran log w piece i .log) (ran log w piece i .waiting) bs ≡ record { text = text; log = log₂; waiting = nothing } = (λ k. run (sym (r .leaves) k) (sym (r .waits) k) bs) ∙ whole in
-      let next = later i (3 + v) ∙ ap (λ (d : Came). record { text = ran log w piece i .text ++ d .text; log = d .log; waiting = d .waiting }) here in
+      let here : bytesCame (frontCame log w piece i .log) (frontCame log w piece i .waiting) bs ≡ record { text = text; log = log₂; waiting = nothing } = (λ k. bytesCame (sym (r .leaves) k) (sym (r .waits) k) bs) ∙ whole in
+      let next = later i (3 + v) ∙ ap (λ (d : Came). record { text = frontCame log w piece i .text ++ d .text; log = d .log; waiting = d .waiting }) here in
       record {
         leaves = sym (ap (λ (c : Came). c .log) next);
         waits = n ∙ sym (ap (λ (c : Came). c .waiting) next);
@@ -167,11 +167,11 @@ module _ (log : Log) (w : Waiting) (piece room : List ℕ) where
             (λ more.
             let m = j - i in
             let same : i + m ≡ j = omega arith in
-            let silent : run (ran log w piece i .log) (ran log w piece i .waiting) (part i m piece) .text ≡ [] =
-            (λ q. run (sym (r .leaves) q) (sym (r .waits) q) (part i m piece) .text) ∙ ap (λ (l : List ℕ). run log₁ w₁ l .text) (sym (take-take m (3 + v) (drop i piece) (omega arith)))
+            let silent : bytesCame (frontCame log w piece i .log) (frontCame log w piece i .waiting) (part i m piece) .text ≡ [] =
+            (λ q. bytesCame (sym (r .leaves) q) (sym (r .waits) q) (part i m piece) .text) ∙ ap (λ (l : List ℕ). bytesCame log₁ w₁ l .text) (sym (take-take m (3 + v) (drop i piece) (omega arith)))
             ∙ still log₁ w₁ bs full none v few all long m (omega arith) .text in
-            let text-so : ran log w piece j .text ≡ ran log w piece i .text =
-            ap (λ (q : ℕ). ran log w piece q .text) (sym same) ∙ ap (λ (c : Came). c .text) (later i m) ∙ ap (λ (t : List ℕ). ran log w piece i .text ++ t) silent ∙ append-nil (ran log w piece i .text) in
+            let text-so : frontCame log w piece j .text ≡ frontCame log w piece i .text =
+            ap (λ (q : ℕ). frontCame log w piece q .text) (sym same) ∙ ap (λ (c : Came). c .text) (later i m) ∙ ap (λ (t : List ℕ). frontCame log w piece i .text ++ t) silent ∙ append-nil (frontCame log w piece i .text) in
             ap (λ (t : List ℕ). hasRoom (length room) (behind 0 t)) text-so ∙ ap (hasRoom (length room)) (sym (r .stored .place)) ∙ has)
             (below-or j i (ltb j i) refl);
       }

@@ -18,21 +18,21 @@ use Rattle.journal.specs.declared.Log.{Log}
 use Rattle.pieces.specs.declared.Waiting.{Waiting}
 use Rattle.journal.specs.Log.{itemDone}
 use Rattle.stretch.specs.Coming.{hasRoom}
-use Rattle.pieces.specs.Machine.{Came, nothing, withByte, isWhole, valueIn, came, run, ran, Feeds}
+use Rattle.pieces.specs.Machine.{Came, nothing, withByte, isWhole, valueIn, came, bytesCame, frontCame, Feeds}
 
 -- What came, and what more bytes bring then.
 abbrev pub follow : Came → List ℕ → Came
 follow c bs =
-    let d = run (c .log) (c .waiting) bs in
+    let d = bytesCame (c .log) (c .waiting) bs in
     record { text = c .text ++ d .text; log = d .log; waiting = d .waiting }
 
-pub run-append : (bs cs : List ℕ) (log : Log) (w : Waiting) → run log w (bs ++ cs) ≡ follow (run log w bs) cs
-unfolding run
+pub run-append : (bs cs : List ℕ) (log : Log) (w : Waiting) → bytesCame log w (bs ++ cs) ≡ follow (bytesCame log w bs) cs
+unfolding bytesCame
 run-append [] cs log w = refl
 run-append (b ∷ bs) cs log w =
     let c = came log w b in
-    let r = run (c .log) (c .waiting) bs in
-    let d = run (r .log) (r .waiting) cs in
+    let r = bytesCame (c .log) (c .waiting) bs in
+    let d = bytesCame (r .log) (r .waiting) cs in
     let more = run-append bs cs (c .log) (c .waiting) in
     (λ i. record { text = c .text ++ more i .text; log = more i .log; waiting = more i .waiting })
     ∙ (λ i. record { text = sym (append-assoc (c .text) (r .text) (d .text)) i; log = d .log; waiting = d .waiting })
@@ -44,28 +44,28 @@ step c b =
     record { text = c .text ++ d .text; log = d .log; waiting = d .waiting }
 
 follow-one : (c : Came) (b : ℕ) → follow c (b ∷ []) ≡ step c b
-unfolding run
+unfolding bytesCame
 follow-one c b =
     let d = came (c .log) (c .waiting) b in
     λ i. record { text = c .text ++ append-nil (d .text) i; log = d .log; waiting = d .waiting }
 
-pub run-more : (bs : List ℕ) (log : Log) (w : Waiting) (b : ℕ) → run log w (bs ++ b ∷ []) ≡ step (run log w bs) b
-run-more bs log w b = run-append bs (b ∷ []) log w ∙ follow-one (run log w bs) b
+pub run-more : (bs : List ℕ) (log : Log) (w : Waiting) (b : ℕ) → bytesCame log w (bs ++ b ∷ []) ≡ step (bytesCame log w bs) b
+run-more bs log w b = run-append bs (b ∷ []) log w ∙ follow-one (bytesCame log w bs) b
 
 -- The first i bytes of a piece have come.
 pub record Ran (log : Log) (w : Waiting) (piece room : List ℕ) (i : ℕ) (log₁ : Log) (w₁ : Waiting) (at : ℕ) (left : List ℕ) : Type 0 where
-  pub leaves : log₁ ≡ ran log w piece i .log
-  pub waits : w₁ ≡ ran log w piece i .waiting
-  pub stored : Put room 0 (ran log w piece i .text) at left
-  pub roomy : (j : ℕ) → j < i → hasRoom (length room) (behind 0 (ran log w piece j .text)) ≡ true
+  pub leaves : log₁ ≡ frontCame log w piece i .log
+  pub waits : w₁ ≡ frontCame log w piece i .waiting
+  pub stored : Put room 0 (frontCame log w piece i .text) at left
+  pub roomy : (j : ℕ) → j < i → hasRoom (length room) (behind 0 (frontCame log w piece j .text)) ≡ true
 
 module _ (log : Log) (w : Waiting) (piece room : List ℕ) where
   pub ran-none : Ran log w piece room 0 log w 0 room
-  unfolding run
+  unfolding bytesCame
   ran-none = record { leaves = refl; waits = refl; stored = none room 0 (omega arith); roomy = λ j h. absurd (omega arith) }
 
-  pub ran-next : (i : ℕ) → i < length piece → ran log w piece (i + 1) ≡ step (ran log w piece i) (getD piece i 0)
-  ran-next i h = ap (run log w) (ap (λ (n : ℕ). take n piece) (add-one i) ∙ take-suc piece i 0 h) ∙ run-more (take i piece) log w (getD piece i 0)
+  pub ran-next : (i : ℕ) → i < length piece → frontCame log w piece (i + 1) ≡ step (frontCame log w piece i) (getD piece i 0)
+  ran-next i h = ap (bytesCame log w) (ap (λ (n : ℕ). take n piece) (add-one i) ∙ take-suc piece i 0 h) ∙ run-more (take i piece) log w (getD piece i 0)
 
   pub ran-more : {i : ℕ} {log₁ log₂ : Log} {w₁ w₂ : Waiting} {at next : ℕ} {left₁ left₂ : List ℕ} (text : List ℕ) → length room < 2 ^ 64 → i < length piece
       → Ran log w piece room i log₁ w₁ at left₁ → hasRoom (length room) at ≡ true
@@ -73,10 +73,10 @@ module _ (log : Log) (w : Waiting) (piece room : List ℕ) where
       → Ran log w piece room (i + 1) log₂ w₂ next left₂
   ran-more {i} {log₁} {log₂} {w₁} {w₂} text small h r has e p =
       let b = getD piece i 0 in
-      let here : came (ran log w piece i .log) (ran log w piece i .waiting) b ≡ record { text = text; log = log₂; waiting = w₂ } =
+      let here : came (frontCame log w piece i .log) (frontCame log w piece i .waiting) b ≡ record { text = text; log = log₂; waiting = w₂ } =
       (λ k. came (sym (r .leaves) k) (sym (r .waits) k) b) ∙ e in
-      let next : ran log w piece (i + 1) ≡ record { text = ran log w piece i .text ++ text; log = log₂; waiting = w₂ } =
-      ran-next i h ∙ ap (λ (d : Came). record { text = ran log w piece i .text ++ d .text; log = d .log; waiting = d .waiting }) here in
+      let next : frontCame log w piece (i + 1) ≡ record { text = frontCame log w piece i .text ++ text; log = log₂; waiting = w₂ } =
+      ran-next i h ∙ ap (λ (d : Came). record { text = frontCame log w piece i .text ++ d .text; log = d .log; waiting = d .waiting }) here in
       record {
         leaves = sym (ap (λ (c : Came). c .log) next);
         waits = sym (ap (λ (c : Came). c .waiting) next);
@@ -86,7 +86,7 @@ module _ (log : Log) (w : Waiting) (piece room : List ℕ) where
             ⊎-elim (λ less. r .roomy j less)
             (λ last.
             let same : j ≡ i = omega arith in
-            ap (λ (m : ℕ). hasRoom (length room) (behind 0 (ran log w piece m .text))) same ∙ ap (hasRoom (length room)) (sym (r .stored .place)) ∙ has)
+            ap (λ (m : ℕ). hasRoom (length room) (behind 0 (frontCame log w piece m .text))) same ∙ ap (hasRoom (length room)) (sym (r .stored .place)) ∙ has)
             (below-or j i (ltb j i) refl);
       }
 

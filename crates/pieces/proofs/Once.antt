@@ -15,7 +15,7 @@ use Rattle.journal.specs.declared.Log.{Log}
 use Rattle.pieces.specs.declared.Waiting.{Waiting}
 use Rattle.pieces.specs.declared.Fed.{Fed}
 use Rattle.stretch.specs.Coming.{hasRoom}
-use Rattle.pieces.specs.Machine.{Came, ran, Feeds}
+use Rattle.pieces.specs.Machine.{Came, frontCame, Feeds}
 
 module _ {log : Log} {w : Waiting} {piece room : List ℕ} where
   -- No call takes fewer bytes than another.
@@ -30,8 +30,8 @@ module _ {log : Log} {w : Waiting} {piece room : List ℕ} where
     same-taken : r .taken ≡ s .taken
     same-taken = omega (arith, not-fewer p q, not-fewer q p)
 
-    same-ran : ran log w piece (r .taken) ≡ ran log w piece (s .taken)
-    same-ran = ap (ran log w piece) same-taken
+    same-ran : frontCame log w piece (r .taken) ≡ frontCame log w piece (s .taken)
+    same-ran = ap (frontCame log w piece) same-taken
 
     pub fed-once : r ≡ s
     fed-once =

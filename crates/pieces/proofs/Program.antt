@@ -23,7 +23,7 @@ use Rattle.pieces.specs.declared.Waiting.{Waiting}
 use Rattle.pieces.specs.declared.Fed.{Fed}
 use Rattle.journal.specs.Log.{nextItem, freshLog, logText}
 use Rattle.stretch.specs.Coming.{hasRoom}
-use Rattle.pieces.specs.Machine.{Came, nothing, withByte, isWhole, came, run, ran, Feeds, endLine}
+use Rattle.pieces.specs.Machine.{Came, nothing, withByte, isWhole, came, bytesCame, frontCame, Feeds, endLine}
 use Rattle.journal.specs.Reached.{Reached, fresh, item}
 use Rattle.pieces.specs.Program.{Handed, Program, feeds, finishes}
 use Rattle.pieces.proofs.Feeding.{follow, run-append, ran-next}
@@ -43,8 +43,8 @@ unfolding came
 came-takes log w b r =
     either Takes (isWhole (withByte w b)) (λ t. record { reached = item r _ _; short = item-short r _ _ }) (λ t. record { reached = r; short = omega arith })
 
-pub run-reached : (bs : List ℕ) (log : Log) (w : Waiting) → Reached log → Reached (run log w bs .log)
-unfolding run
+pub run-reached : (bs : List ℕ) (log : Log) (w : Waiting) → Reached log → Reached (bytesCame log w bs .log)
+unfolding bytesCame
 run-reached [] log w r = r
 run-reached (b ∷ bs) log w r = run-reached bs (came log w b .log) (came log w b .waiting) (came-takes log w b r .reached)
 
@@ -60,27 +60,27 @@ front-is room text {next = next} small there place stored =
 module _ (log : Log) (w : Waiting) (piece room : List ℕ) where
   -- Nothing of a text is dropped.
   room-there : (n : ℕ) → Reached log → length room < 2 ^ 64 → n ≤ length piece
-      → ((j : ℕ) → j < n → hasRoom (length room) (behind 0 (ran log w piece j .text)) ≡ true) → length (ran log w piece n .text) ≤ length room
-  unfolding hasRoom behind run
+      → ((j : ℕ) → j < n → hasRoom (length room) (behind 0 (frontCame log w piece j .text)) ≡ true) → length (frontCame log w piece n .text) ≤ length room
+  unfolding hasRoom behind bytesCame
   room-there zero o small h roomy = omega arith
   room-there (suc n) o small h roomy =
-      let t = came-takes (ran log w piece n .log) (ran log w piece n .waiting) (getD piece n 0) (run-reached (take n piece) log w o) in
-      let before = leb-true (behind 0 (ran log w piece n .text) + 1056) (length room) (roomy n (omega arith)) in
-      let e = ap (λ (m : ℕ). ran log w piece m) (sym (add-one n)) ∙ ran-next log w piece room n h in
+      let t = came-takes (frontCame log w piece n .log) (frontCame log w piece n .waiting) (getD piece n 0) (run-reached (take n piece) log w o) in
+      let before = leb-true (behind 0 (frontCame log w piece n .text) + 1056) (length room) (roomy n (omega arith)) in
+      let e = ap (λ (m : ℕ). frontCame log w piece m) (sym (add-one n)) ∙ ran-next log w piece room n h in
       subst (λ (c : Came). length (c .text) ≤ length room) (sym e) (rw length-append (omega (arith, t .short, before)))
 
   -- What a call wrote is the text of the bytes that it took, whole.
-  pub wrote : {r : Fed} {left : List ℕ} → Reached log → length room < 2 ^ 64 → Feeds log w piece room r left → take (r .written) left ≡ ran log w piece (r .taken) .text
-  wrote {r} o small f = front-is room (ran log w piece (r .taken) .text) small (room-there (r .taken) o small (f .within) (f .roomy)) (f .place) (f .stored)
+  pub wrote : {r : Fed} {left : List ℕ} → Reached log → length room < 2 ^ 64 → Feeds log w piece room r left → take (r .written) left ≡ frontCame log w piece (r .taken) .text
+  wrote {r} o small f = front-is room (frontCame log w piece (r .taken) .text) small (room-there (r .taken) o small (f .within) (f .roomy)) (f .place) (f .stored)
 
   -- With a room of `Stretch::MOST` bytes a call takes at least one byte.
   pub goes-on : {r : Fed} {left : List ℕ} → 1 ≤ length piece → 1056 ≤ length room → Feeds log w piece room r left → 1 ≤ r .taken
-  unfolding hasRoom behind run
+  unfolding hasRoom behind bytesCame
   goes-on {r} some most f =
       ⊎-elim
       (λ no.
       let nought : r .taken ≡ 0 = omega arith in
-      let place : r .written ≡ 0 = f .place ∙ ap (λ (n : ℕ). behind 0 (ran log w piece n .text)) nought in
+      let place : r .written ≡ 0 = f .place ∙ ap (λ (n : ℕ). behind 0 (frontCame log w piece n .text)) nought in
       clash (ap (λ (n : ℕ). leb (n + 1056) (length room)) place ∙ le-leb 1056 (length room) most) (f .full (omega arith)))
       (λ yes. yes)
       (below-or (r .taken) 1 (ltb (r .taken) 1) refl)
@@ -96,18 +96,18 @@ end-short log w =
 abbrev ended : Came → List ℕ
 ended c = c .text ++ endLine (c .log) (c .waiting)
 
-all-printed : {log : Log} {w : Waiting} {bytes printed : List ℕ} → Reached log → Program log w bytes printed → printed ≡ ended (run log w bytes)
-unfolding run
+all-printed : {log : Log} {w : Waiting} {bytes printed : List ℕ} → Reached log → Program log w bytes printed → printed ≡ ended (bytesCame log w bytes)
+unfolding bytesCame
 all-printed o (finishes {log} {w} room small most place stored) = front-is room (endLine log w) small (omega (arith, end-short log w)) place stored
 all-printed o (feeds {log} {w} {r} piece later room small f rest) =
-    let a = ran log w piece (r .taken) in
+    let a = frontCame log w piece (r .taken) in
     let b = drop (r .taken) piece ++ later in
     let split : piece ++ later ≡ take (r .taken) piece ++ b =
     ap (λ (l : List ℕ). l ++ later) (sym (take-append-drop (r .taken) piece)) ∙ append-assoc (take (r .taken) piece) (drop (r .taken) piece) later in
-    let whole : run log w (piece ++ later) ≡ follow a b = ap (run log w) split ∙ run-append (take (r .taken) piece) b log w in
+    let whole : bytesCame log w (piece ++ later) ≡ follow a b = ap (bytesCame log w) split ∙ run-append (take (r .taken) piece) b log w in
     let next = all-printed (subst Reached (sym (f .leaves)) (run-reached (take (r .taken) piece) log w o)) rest in
-    ap₂ _++_ (wrote log w piece room o small f) (next ∙ ap₂ (λ (l : Log) (n : Waiting). ended (run l n b)) (f .leaves) (f .waits))
-    ∙ sym (append-assoc (a .text) (run (a .log) (a .waiting) b .text) _) ∙ sym (ap ended whole)
+    ap₂ _++_ (wrote log w piece room o small f) (next ∙ ap₂ (λ (l : Log) (n : Waiting). ended (bytesCame l n b)) (f .leaves) (f .waits))
+    ∙ sym (append-assoc (a .text) (bytesCame (a .log) (a .waiting) b .text) _) ∙ sym (ap ended whole)
 
 -- The claim: from a fresh log, whatever pieces the bytes come in and whatever rooms are lent, what is printed is the text of the whole log.
 pub program-prints : {bytes printed : List ℕ} → Bytes bytes → Program freshLog nothing bytes printed → printed ≡ logText bytes
@@ -116,7 +116,7 @@ program-prints {bytes} h p = all-printed fresh p ∙ writes bytes h
 -- ---- a turn of a program: what came so far, and what was handed over for printing
 
 pub handed-none : Handed [] [] freshLog nothing
-unfolding run
+unfolding bytesCame
 handed-none = record { bytes = λ i. omega arith; leaves = refl }
 
 bytes-join : (a b : List ℕ) → Bytes a → Bytes b → Bytes (a ++ b)
@@ -152,10 +152,10 @@ ends {log} {w} room {left} {come} {said} small most place stored t =
 -- ---- every log can be handed over so
 
 one-byte : (log : Log) (w : Waiting) (b : ℕ) (room : List ℕ) → 1056 ≤ length room
-    → (r : Fed) × (r .taken ≡ 1) × Feeds log w (b ∷ []) room r (sets room 0 (run log w (b ∷ []) .text))
-unfolding hasRoom behind run
+    → (r : Fed) × (r .taken ≡ 1) × Feeds log w (b ∷ []) room r (sets room 0 (bytesCame log w (b ∷ []) .text))
+unfolding hasRoom behind bytesCame
 one-byte log w b room most =
-    let c = run log w (b ∷ []) in (
+    let c = bytesCame log w (b ∷ []) in (
       record { log = c .log; waiting = c .waiting; taken = 1; written = behind 0 (c .text) },
       refl,
       record {
@@ -166,7 +166,7 @@ one-byte log w b room most =
         stored = refl;
         roomy = λ j h.
             let nought : j ≡ 0 = omega arith in
-            ap (λ (n : ℕ). leb (behind 0 (ran log w (b ∷ []) n .text) + 1056) (length room)) nought ∙ le-leb 1056 (length room) most;
+            ap (λ (n : ℕ). leb (behind 0 (frontCame log w (b ∷ []) n .text) + 1056) (length room)) nought ∙ le-leb 1056 (length room) most;
         full = λ h. absurd (omega arith);
       },
     )
@@ -184,4 +184,4 @@ some-program (b ∷ bs) log w =
     let r : Fed = f .0 in
     let rest = some-program bs (r .log) (r .waiting) in
     let left : drop (r .taken) (b ∷ []) ++ bs ≡ bs = ap (λ (n : ℕ). drop n (b ∷ []) ++ bs) (f .1) in
-    (take (r .written) (sets room 0 (run log w (b ∷ []) .text)) ++ rest .0, feeds (b ∷ []) bs room (omega arith) (f .2) (subst (λ (l : List ℕ). Program (r .log) (r .waiting) l (rest .0)) (sym left) (rest .1)))
+    (take (r .written) (sets room 0 (bytesCame log w (b ∷ []) .text)) ++ rest .0, feeds (b ∷ []) bs room (omega arith) (f .2) (subst (λ (l : List ℕ). Program (r .log) (r .waiting) l (rest .0)) (sym left) (rest .1)))

@@ -17,7 +17,7 @@ use Rattle.journal.specs.declared.Log.{Log}
 use Rattle.journal.specs.Log.{itemDone}
 use Rattle.stretch.specs.declared.Stretch.{Stretch}
 use Rattle.stretch.specs.Coming.{sizeAt, comes, hasRoom}
-use Rattle.stretch.specs.Doing.{Did, itemAt, after, did, all, Does}
+use Rattle.stretch.specs.Doing.{Did, itemAt, after, did, didAll, Does}
 use Rattle.stretch.proofs.Coming.{whole-there}
 use Rattle.stretch.proofs.Going.{did-zero, did-more, did-none, did-within}
 use Rattle.pieces.specs.declared.Waiting.{Waiting}
@@ -100,11 +100,11 @@ module _ (log₀ : Log) (w₀ : Waiting) (piece room : List ℕ) (small : length
           let done = itemAt log rest 0 in
           let end = 0 + (3 + sizeAt rest 0) in
           let later = did m (length room) (behind at (done .text)) (done .log) rest end in
-          let is : all (length left) at log rest ≡ after (done .text) later =
+          let is : didAll (length left) at log rest ≡ after (done .text) later =
           (λ k. did (sym e k) (left-long s k) at log rest 0) ∙ did-more (length room) rest m at log 0 t in
           let start : i ≡ i + 0 = omega arith in
           let first = ran-one 0 (ran-at start (λ k. log) (λ k. at) (λ k. left) s) full free t in
-          let whole = ran-after (all (length left) at log rest) later (done .text) at left (omega (arith, left-long s)) is (ran-did m end first) in
+          let whole = ran-after (didAll (length left) at log rest) later (done .text) at left (omega (arith, left-long s)) is (ran-did m end first) in
           let taken = d .taken ∙ ap (λ (x : Did). x .next) is in
           let within = did-within (length room) rest m (behind at (done .text)) (done .log) end (whole-there rest 0 (log .board .window .counts .size) c .0) in
           (ran-at (ap (λ (k : ℕ). i + k) (sym (d .taken))) (sym (d .leaves)) (sym (d .place)) (sym (d .stored)) whole, omega (arith, within .0, taken), omega (arith, within .1, taken, length-drop i piece))

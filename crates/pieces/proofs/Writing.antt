@@ -19,7 +19,7 @@ use Rattle.text.proofs.Decimal.{below-or}
 use Rattle.journal.specs.declared.Log.{Log}
 use Rattle.pieces.specs.declared.Waiting.{Waiting}
 use Rattle.journal.specs.Log.{Outcome, Consumed, itemDone, after, consumed, ending, textFrom, freshLog, logText}
-use Rattle.pieces.specs.Machine.{Came, nothing, withByte, sizeIn, isWhole, valueEnd, valueIn, came, run, endLine}
+use Rattle.pieces.specs.Machine.{Came, nothing, withByte, sizeIn, isWhole, valueEnd, valueIn, came, bytesCame, endLine}
 use Rattle.journal.proofs.Cutting.{size, done, is-cut, consumed-whole, consumed-cut, consumed-append}
 use Rattle.pieces.proofs.Feeding.{came-whole, came-not}
 use Rattle.pieces.proofs.Waits.{Holds, holds-nothing, holds-more, holds-size, too-long}
@@ -156,8 +156,8 @@ module _ (log : Log) (w : Waiting) (p : List ℕ) (b : ℕ) (s : Stands w p) (by
 
 -- ---- all bytes
 
-pub run-agrees : (bs : List ℕ) (log : Log) (w : Waiting) (p : List ℕ) → Stands w p → Bytes bs → Agrees (run log w bs) (consumed log (p ++ bs))
-unfolding run
+pub run-agrees : (bs : List ℕ) (log : Log) (w : Waiting) (p : List ℕ) → Stands w p → Bytes bs → Agrees (bytesCame log w bs) (consumed log (p ++ bs))
+unfolding bytesCame
 run-agrees [] log w p s h =
     let d = ap (consumed log) (append-nil p) ∙ consumed-cut log p (is-cut p (s .part-only)) in
     subst (Agrees (record { text = []; log = log; waiting = w })) (sym d) (record { text = refl; log = refl; waits = s })
@@ -168,7 +168,7 @@ run-agrees (b ∷ bs) log w p s h =
     let d : consumed log (p ++ b ∷ bs) ≡ after (c .text) (consumed (came log w b .log) (c .rest ++ bs)) =
     ap (consumed log) (sym (append-snoc p b bs)) ∙ consumed-append log (p ++ b ∷ []) bs
     ∙ ap (λ (l : Log). after (c .text) (consumed l (c .rest ++ bs))) (sym (one .log)) in
-    subst (Agrees (run log w (b ∷ bs))) (sym d)
+    subst (Agrees (bytesCame log w (b ∷ bs))) (sym d)
     (record { text = ap₂ _++_ (one .text) (rest .text); log = rest .log; waits = rest .waits })
 
 -- What is printed at the end.
@@ -179,13 +179,13 @@ end-same log w (b ∷ p) h = if-not _ _ (ne-eqb (w .have) 0 (λ e. omega (arith,
 
 -- A log that goes on from what waits.
 pub run-text : (bs : List ℕ) (log : Log) (w : Waiting) (p : List ℕ) → Stands w p → Bytes bs
-    → run log w bs .text ++ endLine (run log w bs .log) (run log w bs .waiting) ≡ textFrom log (p ++ bs)
+    → bytesCame log w bs .text ++ endLine (bytesCame log w bs .log) (bytesCame log w bs .waiting) ≡ textFrom log (p ++ bs)
 unfolding textFrom
 run-text bs log w p s h =
     let a = run-agrees bs log w p s h in
-    ap₂ _++_ (a .text) (ap (λ (l : Log). endLine l (run log w bs .waiting)) (a .log) ∙ end-same (consumed log (p ++ bs) .log) (run log w bs .waiting) (consumed log (p ++ bs) .rest) (a .waits .holds))
+    ap₂ _++_ (a .text) (ap (λ (l : Log). endLine l (bytesCame log w bs .waiting)) (a .log) ∙ end-same (consumed log (p ++ bs) .log) (bytesCame log w bs .waiting) (consumed log (p ++ bs) .rest) (a .waits .holds))
 
 -- The claim: the bytes of a whole log, one after the other, and then its end, print the text that the log fixes.
-pub writes : (bs : List ℕ) → Bytes bs → run freshLog nothing bs .text ++ endLine (run freshLog nothing bs .log) (run freshLog nothing bs .waiting) ≡ logText bs
+pub writes : (bs : List ℕ) → Bytes bs → bytesCame freshLog nothing bs .text ++ endLine (bytesCame freshLog nothing bs .log) (bytesCame freshLog nothing bs .waiting) ≡ logText bs
 unfolding logText
 writes bs h = run-text bs freshLog nothing [] stands-nothing h

@@ -15,12 +15,12 @@ use Rattle.journal.specs.Log.{nextItem, itemDone}
 use Rattle.stretch.specs.Coming.{hasRoom}
 
 -- What is kept of an item: its first 15 bytes.
-abbrev pub kept : ℕ
-kept = 15
+abbrev pub keptBytes : ℕ
+keptBytes = 15
 
 -- Nothing has come of the next item.
 abbrev pub nothing : Waiting
-nothing = record { bytes = replicate kept 0; have = 0 }
+nothing = record { bytes = replicate keptBytes 0; have = 0 }
 
 -- One byte more; those past the 15th are counted only.
 unfoldable pub withByte : Waiting → ℕ → Waiting
@@ -58,25 +58,25 @@ came log w b =
     (record { text = []; log = log; waiting = n })
 
 -- Bytes come one after the other.
-unfoldable pub run : Log → Waiting → List ℕ → Came
-run log w [] = record { text = []; log = log; waiting = w }
-run log w (b ∷ bs) =
+unfoldable pub bytesCame : Log → Waiting → List ℕ → Came
+bytesCame log w [] = record { text = []; log = log; waiting = w }
+bytesCame log w (b ∷ bs) =
     let c = came log w b in
-    let r = run (c .log) (c .waiting) bs in
+    let r = bytesCame (c .log) (c .waiting) bs in
     record { text = c .text ++ r .text; log = r .log; waiting = r .waiting }
 
 -- What is left of a piece's first n bytes.
-abbrev pub ran : Log → Waiting → List ℕ → ℕ → Came
-ran log w piece n = run log w (take n piece)
+abbrev pub frontCame : Log → Waiting → List ℕ → ℕ → Came
+frontCame log w piece n = bytesCame log w (take n piece)
 
 -- A piece is taken as long as there is room, and no further.
 pub record Feeds (log : Log) (w : Waiting) (piece room : List ℕ) (r : Fed) (left : List ℕ) : Type 0 where
   pub within : r .taken ≤ length piece
-  pub leaves : r .log ≡ ran log w piece (r .taken) .log
-  pub waits : r .waiting ≡ ran log w piece (r .taken) .waiting
-  pub place : r .written ≡ behind 0 (ran log w piece (r .taken) .text)
-  pub stored : left ≡ sets room 0 (ran log w piece (r .taken) .text)
-  pub roomy : (j : ℕ) → j < r .taken → hasRoom (length room) (behind 0 (ran log w piece j .text)) ≡ true
+  pub leaves : r .log ≡ frontCame log w piece (r .taken) .log
+  pub waits : r .waiting ≡ frontCame log w piece (r .taken) .waiting
+  pub place : r .written ≡ behind 0 (frontCame log w piece (r .taken) .text)
+  pub stored : left ≡ sets room 0 (frontCame log w piece (r .taken) .text)
+  pub roomy : (j : ℕ) → j < r .taken → hasRoom (length room) (behind 0 (frontCame log w piece j .text)) ≡ true
   pub full : r .taken < length piece → hasRoom (length room) (r .written) ≡ false
 
 -- Refusal 21: the line of a log that ends inside an item.

@@ -9,12 +9,12 @@ use Rattle.journal.specs.declared.Log.{Log}
 use Rattle.pieces.specs.declared.Waiting.{Waiting}
 use Rattle.pieces.specs.declared.Fed.{Fed}
 use Rattle.journal.specs.Log.{freshLog}
-use Rattle.pieces.specs.Machine.{nothing, run, Feeds, endLine}
+use Rattle.pieces.specs.Machine.{nothing, bytesCame, Feeds, endLine}
 
 -- These bytes came, this text was handed over for printing, and this is the log, and what waits, that they leave.
 pub record Handed (come said : List ℕ) (log : Log) (w : Waiting) : Type 0 where
   pub bytes : (i : ℕ) → getD come i 0 < 256
-  pub leaves : run freshLog nothing come ≡ record { text = said; log = log; waiting = w }
+  pub leaves : bytesCame freshLog nothing come ≡ record { text = said; log = log; waiting = w }
 
 -- From this log and what waits, with these bytes to come, that is printed.
 pub data Program : Log → Waiting → (bytes printed : List ℕ) → Type 0 where

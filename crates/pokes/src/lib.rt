@@ -83,7 +83,7 @@ fn with_numbers(question: Question, k: u8, rule: Rule, len: u8, next: u16) -> Qu
 
 fn with_line(question: Question, place: usize, number: u32, score: i32) -> Question {
     let mut changed = question;
-    if place < Lines::ROOM {
+    if place < Lines::MOST {
         changed.numbers[place] = number;
         changed.scores[place] = score;
     }

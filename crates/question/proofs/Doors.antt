@@ -47,7 +47,7 @@ module _ (w : Window) (q : Question) where
 
 -- what fitness says of the numbers
 pub record Ranges (q : Question) (held : ℕ) : Type 0 where
-  pub some : 1 ≤ q .k
+  pub positive : 1 ≤ q .k
   pub small : q .k ≤ 16
   pub rule-fits : fitRule (q .rule) ≡ true
   pub cell-range : q .next ≤ 256
@@ -61,7 +61,7 @@ ranges q held h =
     let c = and-both (leb 1 (q .k) && leb (q .k) 16) (fitRule (q .rule)) (b .0) in
     let d = and-both (leb 1 (q .k)) (leb (q .k) 16) (c .0) in
     record {
-      some = leb-true 1 (q .k) (d .0);
+      positive = leb-true 1 (q .k) (d .0);
       small = leb-true (q .k) 16 (d .1);
       rule-fits = c .1;
       cell-range = leb-true (q .next) 256 (b .1);
@@ -167,7 +167,7 @@ module _ (w : Window) (q : Question) where
     known = subst (State w q) (sym is) state
 
     pub step-refused : (r ≡ 0 → ⊥) → record { refusal = r; question = q } ≡ stepCall w q
-    step-refused some = go known some
+    step-refused positive = go known positive
       where
         go : {n : ℕ} → State w q n → (n ≡ 0 → ⊥) → record { refusal = n; question = q } ≡ stepCall w q
         go (unfit e) h = sym (step-unfit w q e)

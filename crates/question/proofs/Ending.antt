@@ -12,8 +12,7 @@ use Rattle.ranking.specs.Standing.{reaches}
 use Rattle.laws.proofs.Tests.{Tested, passed, failed, tested}
 use Rattle.list.proofs.Bars.{bar-full, bar-open}
 use Rattle.question.specs.declared.Question.{Question}
-use Rattle.question.specs.Lines.{listOf, lines, finished}
-use Rattle.question.specs.Inner.{barOf}
+use Rattle.question.specs.Lines.{listOf, lines, finished, barOf}
 use Rattle.question.proofs.Stored.{Roomy, no-lines}
 
 module _ (q : Question) where

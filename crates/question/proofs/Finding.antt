@@ -25,15 +25,15 @@ use Rattle.ranking.proofs.Standing.{found-best, steps-all, steps-full}
 use Rattle.window.specs.declared.Window.{Window}
 use Rattle.window.specs.Rows.{valuesIn, reportIn, standing}
 use Rattle.list.specs.declared.Bar.{Bar}
-use Rattle.list.specs.Lines.{stored}
+use Rattle.list.specs.Lines.{columnsOf}
 use Rattle.list.specs.Rows.{rowsOf}
 use Rattle.list.proofs.Stored.{roomy-stored, length-shown}
 use Rattle.list.proofs.Placing.{best-back}
 use Rattle.list.proofs.Bars.{bar-full, bar-open}
 use Rattle.question.specs.declared.Question.{Question}
 use Rattle.question.specs.declared.Searched.{Searched}
-use Rattle.question.specs.Lines.{lines, asked, withList, searched, searchedIn, inRows, searchedOn, searchedFirst}
-use Rattle.question.specs.Inner.{shown, at, barOf, endedOf}
+use Rattle.question.specs.Lines.{lines, asked, withList, searched, searchedIn, inRows, searchedOn, searchedFirst, endedOf, barOf, withNext}
+use Rattle.question.specs.Inner.{lineCount}
 
 -- ---- the end
 
@@ -67,7 +67,7 @@ module _ (q : Question) (small : q .k ≤ 16) (w : Window) (n : ℕ) where
   all-found = found-best (q .rule) hs (standing-permitted w n) (q .k)
 
   ending : ℕ → Searched
-  ending m = record { steps = m; question = at with-it (cellAt (q .rule) m) }
+  ending m = record { steps = m; question = withNext with-it (cellAt (q .rule) m) }
 
   -- a search by its number of steps
   by-steps : (m : ℕ) → steps (searchOf (q .rule)) (q .k) hs ≡ m → ending m ≡ searchedIn q hs
@@ -83,36 +83,36 @@ module _ (q : Question) (small : q .k ≤ 16) (w : Window) (n : ℕ) where
   unfolding endedOf ending
   ended-searched = go (tested (barOf with-it .full))
     where
-      few-lines : shown with-it ≡ length list
-      few-lines = sym (length-shown (with-it .numbers) (with-it .scores) (roomy-stored list) (length list) (shown with-it) refl) ∙ ap length back
+      few-lines : lineCount with-it ≡ length list
+      few-lines = sym (length-shown (with-it .numbers) (with-it .scores) (roomy-stored list) (length list) (lineCount with-it) refl) ∙ ap length back
 
       go : Tested (barOf with-it .full) → endedOf with-it ≡ searchedIn q hs
       go (passed t) =
-          let full = bar-full (stored list) (q .k) (roomy-stored list) t in
+          let full = bar-full (columnsOf list) (q .k) (roomy-stored list) t in
           let bar = barOf with-it in
           if-so _ _ t
           ∙ by-steps (reaching (q .rule) (bar .score))
-          (steps-full (q .rule) hs (standing-permitted w n) (q .k) (full .some) (full .as-many) (record { number = bar .number; score = bar .score })
+          (steps-full (q .rule) hs (standing-permitted w n) (q .k) (full .positive) (full .as-many) (record { number = bar .number; score = bar .score })
           (λ p. ap (onLast p) (sym back) ∙ full .last p))
       go (failed t) =
           if-not _ _ t
-          ∙ ap (λ c. record { steps = 256; question = at with-it c }) (sym all-taken)
+          ∙ ap (λ c. record { steps = 256; question = withNext with-it c }) (sym all-taken)
           ∙ by-steps 256 (steps-all (q .rule) hs (standing-permitted w n) (q .k) (open-list (tested (eqb (length list) (q .k)))))
         where
           open-list : Tested (eqb (length list) (q .k)) → (length list ≡ q .k → ⊥) ⊎ (length list ≡ 0)
-          open-list (passed m) = inr (sym few-lines ∙ bar-open (stored list) (q .k) t (eqb-true (length list) (q .k) m))
+          open-list (passed m) = inr (sym few-lines ∙ bar-open (columnsOf list) (q .k) t (eqb-true (length list) (q .k) m))
           open-list (failed m) = inl (eqb-false (length list) (q .k) m)
 
 -- as the code tells it
 module _ (q : Question) (bar : Bar) (is : bar ≡ barOf q) where
-  pub ended-full : bar .full ≡ true → (r : Reach) → r ≡ reachOf (q .rule) (bar .score) → record { steps = r .cells; question = at q (r .next) } ≡ endedOf q
+  pub ended-full : bar .full ≡ true → (r : Reach) → r ≡ reachOf (q .rule) (bar .score) → record { steps = r .cells; question = withNext q (r .next) } ≡ endedOf q
   unfolding endedOf reachOf
   ended-full t r e =
-      ap (λ (z : Reach). record { steps = z .cells; question = at q (z .next) }) e
-      ∙ ap (λ s. record { steps = reaching (q .rule) s; question = at q (cellAt (q .rule) (reaching (q .rule) s)) }) (ap (λ (b : Bar). b .score) is)
+      ap (λ (z : Reach). record { steps = z .cells; question = withNext q (z .next) }) e
+      ∙ ap (λ s. record { steps = reaching (q .rule) s; question = withNext q (cellAt (q .rule) (reaching (q .rule) s)) }) (ap (λ (b : Bar). b .score) is)
       ∙ sym (if-so _ _ (sym (ap (λ (b : Bar). b .full) is) ∙ t))
 
-  pub ended-open : bar .full ≡ false → record { steps = 256; question = at q 256 } ≡ endedOf q
+  pub ended-open : bar .full ≡ false → record { steps = 256; question = withNext q 256 } ≡ endedOf q
   unfolding endedOf
   ended-open t = sym (if-not _ _ (sym (ap (λ (b : Bar). b .full) is) ∙ t))
 

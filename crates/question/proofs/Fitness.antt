@@ -27,7 +27,7 @@ fifth-decides e p q r s = rw (p, q, r, s)
 -- ---- numbers that are held
 
 pub record Holds (c : Counts) (m : ℕ) : Type 0 where
-  pub some : 1 ≤ c .size
+  pub positive : 1 ≤ c .size
   pub within : c .size ≤ 1024
   pub first : 1 ≤ m
   pub was-entered : m ≤ c .entered
@@ -41,7 +41,7 @@ holds c m h =
     let d = and-both (sized (c .size)) (leb 1 m) (b .0) in
     let e = size-range (c .size) (d .0) in
     record {
-      some = e .0;
+      positive = e .0;
       within = e .1;
       first = leb-true 1 m (d .1);
       was-entered = leb-true m (c .entered) (b .1);
@@ -49,7 +49,7 @@ holds c m h =
     }
 
 pub row-within : {c : Counts} {m : ℕ} → Holds c m → rowOf (c .size) m < 1024
-row-within {c} {m} h = omega (arith, mod-lt (m - 1) (h .some), h .within)
+row-within {c} {m} h = omega (arith, mod-lt (m - 1) (h .positive), h .within)
 
 -- a list no longer than k is no longer than the smaller of k and what is held
 pub min-test : (len k held : ℕ) → len ≤ k → leb len (min k held) ≡ leb len held

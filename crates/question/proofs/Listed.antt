@@ -40,7 +40,7 @@ holds-is : {c : Counts} {m : ℕ} → Holds c m → holdsNumber c m ≡ true
 unfolding holdsNumber
 holds-is {c} {m} h =
     and-true
-    (and-true (and-true (window.is-sized (c .size) (h .some) (h .within)) (le-leb 1 m (h .first))) (le-leb m (c .entered) (h .was-entered)))
+    (and-true (and-true (window.is-sized (c .size) (h .positive) (h .within)) (le-leb 1 m (h .first))) (le-leb m (c .entered) (h .was-entered)))
     (lt-ltb (c .entered) (m + c .held) (h .late))
 
 module _ (w : Window) (fit : fitWindow w ≡ true) (rule : Rule) where
@@ -82,7 +82,7 @@ module _ (w : Window) (fit : fitWindow w ≡ true) (rule : Rule) where
           let late : w .counts .entered < s .0 + w .counts .held = s .1 in
           let was : s .0 ≤ w .counts .entered = s .2 in
           let h : Holds (w .counts) (s .0) = record {
-            some = counts .ring .some;
+            positive = counts .ring .positive;
             within = counts .within;
             first = omega (arith, counts .ring .were-entered);
             was-entered = was;
@@ -101,7 +101,7 @@ fit-asked w fit k rule l next r held fall =
     (and-true
     (and-true
     (and-true
-    (and-true (and-true (le-leb 1 k (r .some)) (le-leb k 16 (r .small))) (r .rule-fits))
+    (and-true (and-true (le-leb 1 k (r .positive)) (le-leb k 16 (r .small))) (r .rule-fits))
     (le-leb next 256 (r .cell-range)))
     (le-leb (length l) (min k (w .counts .held)) (r .short)))
     (subst (λ m. allOf (heldAs w rule) m ≡ true) (sym back) (all-is (heldAs w rule) l (λ e m. listed w fit rule e .1 (held e m)))))

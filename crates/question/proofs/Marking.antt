@@ -12,7 +12,7 @@ use lib.ListN.{length, take, set, length-set}
 use lib.Seq.{take-suc-set, take-all, take-length}
 use Rattle.laws.proofs.Lists.{map-append}
 use Rattle.laws.specs.Lists.{_∈_}
-use Rattle.ranking.specs.Cells.{before, count, visiting, placeOf, cellAt}
+use Rattle.ranking.specs.Cells.{before, numbersBelow, visiting, placeOf, cellAt}
 use Rattle.laws.proofs.Tests.{if-so, if-not, one-test}
 use Rattle.search.proofs.Search.{has-in, in-has}
 use Rattle.ranking.proofs.Cells.{visiting-in, length-visiting}
@@ -54,17 +54,17 @@ module _ (q : Question) where
           ap taken (steps-all h ∙ sym (length-visiting (q .rule)))
           ∙ take-length (visiting (q .rule))
 
-count-append : (n : ℕ) (rest : List ℕ) → count n rest ≡ count n [] ++ rest
+count-append : (n : ℕ) (rest : List ℕ) → numbersBelow n rest ≡ numbersBelow n [] ++ rest
 count-append zero rest = refl
 count-append (suc n) rest =
     count-append n (n ∷ rest)
-    ∙ sym (append-assoc (count n []) (n ∷ []) rest)
+    ∙ sym (append-assoc (numbersBelow n []) (n ∷ []) rest)
     ∙ ap (λ l. l ++ rest) (sym (count-append n (n ∷ [])))
 
 -- the first n places of a list hold f of each number
 pub record Filled (f : ℕ → Bool) (n : ℕ) (l : List Bool) : Type 0 where
   pub whole : length l ≡ 256
-  pub first : take n l ≡ map f (count n [])
+  pub first : take n l ≡ map f (numbersBelow n [])
 
 pub filled-more : (f : ℕ → Bool) (n : ℕ) (l : List Bool) → n < 256 → Filled f n l → Filled f (n + 1) (set l n (f n))
 filled-more f n l h s =
@@ -74,9 +74,9 @@ filled-more f n l h s =
           ap (λ m. take m (set l n (f n))) (add-one n)
           ∙ take-suc-set l n (f n) (omega (arith, s .whole))
           ∙ ap (λ m. m ++ (f n ∷ [])) (s .first)
-          ∙ sym (map-append f (count n []) (n ∷ []))
+          ∙ sym (map-append f (numbersBelow n []) (n ∷ []))
           ∙ ap (map f) (sym (count-append n (n ∷ [])))
-          ∙ ap (λ m. map f (count m [])) (sym (add-one n));
+          ∙ ap (λ m. map f (numbersBelow m [])) (sym (add-one n));
     }
 
 pub filled-all : (q : Question) (l : List Bool) → Filled (isMarked q) 256 l → l ≡ marksOf q

@@ -33,7 +33,7 @@ use Rattle.window.proofs.Reports.{length-held, held-distinct, held-latest}
 use Rattle.window.proofs.Standing.{held-permitted}
 use Rattle.question.specs.declared.Question.{Question}
 use Rattle.question.specs.declared.Searched.{Searched}
-use Rattle.question.specs.Lines.{lines, asked, stepsTaken, marked, isMarked, finished, begun, inCell, taken, stepped, takes, searched, searchedIn, inRows, searchedOn, searchedFirst}
+use Rattle.question.specs.Lines.{lines, asked, stepsTaken, marked, isMarked, finished, begun, inCell, steppedLines, stepped, afterSteps, searched, searchedIn, inRows, searchedOn, searchedFirst}
 use Rattle.question.specs.Calls.{fitQuestion, stepCall}
 use Rattle.question.proofs.Stored.{lines-asked}
 use Rattle.question.proofs.Marking.{steps-left, steps-all}
@@ -58,10 +58,10 @@ steps-few q = go (tested (ltb (q .next) 256))
 
 -- a question whose next cell is at the place n has taken n steps
 pub steps-at : (q : Question) (n : ℕ) → n ≤ 256 → q .next ≡ cellAt (q .rule) n → stepsTaken q ≡ n
-steps-at q n h e = ⊎-elim some none (lt-or-eq h)
+steps-at q n h e = ⊎-elim some-left none (lt-or-eq h)
   where
-    some : n < 256 → stepsTaken q ≡ n
-    some l =
+    some-left : n < 256 → stepsTaken q ≡ n
+    some-left l =
         steps-left q (subst (λ c. c < 256) (sym e) (cell-at (q .rule) n l))
         ∙ ap (placeOf (q .rule)) e
         ∙ place-at (q .rule) n l
@@ -71,7 +71,7 @@ steps-at q n h e = ⊎-elim some none (lt-or-eq h)
 
 -- Rule 7.7, for every question with a cell left: the next cell is marked, and the list is the best k of the lines it had and of that cell's reports.
 pub record Step (q : Question) (hs : List Held) : Type 0 where
-  pub list : lines (stepped q hs) ≡ taken q hs
+  pub list : lines (stepped q hs) ≡ steppedLines q hs
   pub each-once : Falling (above (q .rule)) (lines (stepped q hs))
   pub next-marked : marked (stepped q hs) ≡ marked q ++ (q .next ∷ [])
   pub counted : stepsTaken (stepped q hs) ≡ stepsTaken q + 1
@@ -138,8 +138,8 @@ module _ (q : Question) (small : q .k ≤ 16) (hs : List Held) where
   abbrev w : Rule
   w = q .rule
 
-  pub takes-reached : (n : ℕ) → n ≤ 256 → takes n (begun q) hs ≡ reached (q .k) w hs n
-  unfolding takes
+  pub takes-reached : (n : ℕ) → n ≤ 256 → afterSteps n (begun q) hs ≡ reached (q .k) w hs n
+  unfolding afterSteps
   takes-reached zero h = reached-none (q .k) small w hs
   takes-reached (suc n) h =
       ap (λ b. stepped b hs) (takes-reached n (omega arith)) ∙ reached-more (q .k) small w hs n h
@@ -157,7 +157,7 @@ module _ (q : Question) (small : q .k ≤ 16) (hs : List Held) where
       }
 
   -- From the beginning, by steps alone.
-  pub n-steps : (n : ℕ) → n ≤ 256 → After q hs n (takes n (begun q) hs)
+  pub n-steps : (n : ℕ) → n ≤ 256 → After q hs n (afterSteps n (begun q) hs)
   n-steps n h = subst (After q hs n) (sym (takes-reached n h)) (after-reached n h)
 
   -- ---- the end
@@ -168,9 +168,9 @@ module _ (q : Question) (small : q .k ≤ 16) (hs : List Held) where
 
   -- A search is stepping until it has ended, and it has not ended before.
   pub record Whole : Type 0 where
-    pub by-steps : searched q hs ≡ takes (steps (searchOf w) (q .k) hs) (begun q) hs
+    pub by-steps : searched q hs ≡ afterSteps (steps (searchOf w) (q .k) hs) (begun q) hs
     pub has-ended : finished (searched q hs) ≡ true
-    pub not-before : (n : ℕ) → n < steps (searchOf w) (q .k) hs → finished (takes n (begun q) hs) ≡ false
+    pub not-before : (n : ℕ) → n < steps (searchOf w) (q .k) hs → finished (afterSteps n (begun q) hs) ≡ false
     pub few : steps (searchOf w) (q .k) hs ≤ 256
     pub come-to : After q hs (steps (searchOf w) (q .k) hs) (searched q hs)
 
@@ -188,16 +188,16 @@ module _ (q : Question) (small : q .k ≤ 16) (hs : List Held) where
       less : {n : ℕ} → n < steps (searchOf w) (q .k) hs → n ≤ 256
       less l = omega (arith, steps-bounded w (q .k) hs)
 
-      before : (n : ℕ) → n ≤ 256 → n < steps (searchOf w) (q .k) hs → finished (takes n (begun q) hs) ≡ false
+      before : (n : ℕ) → n ≤ 256 → n < steps (searchOf w) (q .k) hs → finished (afterSteps n (begun q) hs) ≡ false
       before n h l = ap finished (takes-reached n h) ∙ reached-end (q .k) small w hs n h ∙ goes-on (searchOf w) (q .k) hs n l
 
 -- ---- in one pass
 
 -- What a search that is begun comes to by single steps: the first of the questions after 0, 1, 2 and more of them whose search has ended, and how many they are.
 pub record BySteps (q : Question) (hs : List Held) (r : Searched) : Type 0 where
-  pub stepped-to : r .question ≡ takes (r .steps) (begun q) hs
+  pub stepped-to : r .question ≡ afterSteps (r .steps) (begun q) hs
   pub has-ended : finished (r .question) ≡ true
-  pub not-before : (n : ℕ) → n < r .steps → finished (takes n (begun q) hs) ≡ false
+  pub not-before : (n : ℕ) → n < r .steps → finished (afterSteps n (begun q) hs) ≡ false
 
 -- `Question::searched` and `searched_in` hand back what single steps lead to, whatever the rows hold.
 module _ (q : Question) (small : q .k ≤ 16) (w : Window) where
@@ -223,7 +223,7 @@ pub record Found (w : Window) (q p : Question) : Type 0 where
 
 pub search-finds : (w : Window) → fitWindow w ≡ true → (q : Question) → 1 ≤ q .k → q .k ≤ 16 → Found w q (searched q (heldReports w))
 unfolding isMarked
-search-finds w fit q some small =
+search-finds w fit q positive small =
     record {
       list = list;
       length-is = ap length list ∙ length-top (q .rule) (q .k) hs (held-distinct w) ∙ ap (min (q .k)) (length-held w);
@@ -244,7 +244,7 @@ search-finds w fit q some small =
         (omega (arith, late .0, ranges .ring .were-entered), late .1)
 
     exact : Exact (q .rule) (q .k) hs (w .counts .entered)
-    exact = demand-3 (q .rule) (q .k) some hs (held-permitted w fit) (w .counts .entered) known
+    exact = demand-3 (q .rule) (q .k) positive hs (held-permitted w fit) (w .counts .entered) known
 
     come : After q hs (steps (searchOf (q .rule)) (q .k) hs) p
     come = whole-search q small hs .come-to
@@ -288,7 +288,7 @@ searched-held w fit q small =
 -- ---- by calls alone
 
 -- A question after n steps is fit, so its next step is not refused before the search's end, and is then.
-module _ (w : Window) (fit : fitWindow w ≡ true) (q : Question) (some : 1 ≤ q .k) (small : q .k ≤ 16) (fits : fitRule (q .rule) ≡ true) where
+module _ (w : Window) (fit : fitWindow w ≡ true) (q : Question) (positive : 1 ≤ q .k) (small : q .k ≤ 16) (fits : fitRule (q .rule) ≡ true) where
   abbrev hs : List Held
   hs = heldReports w
 
@@ -305,7 +305,7 @@ module _ (w : Window) (fit : fitWindow w ≡ true) (q : Question) (some : 1 ≤ 
   reached-fit n h =
       fit-asked w fit (q .k) (q .rule) l (cellAt (q .rule) n)
       (record {
-        some = some;
+        positive = positive;
         small = small;
         rule-fits = fits;
         cell-range = ⊎-elim near last (lt-or-eq h);
@@ -313,14 +313,14 @@ module _ (w : Window) (fit : fitWindow w ≡ true) (q : Question) (some : 1 ≤ 
       })
       (λ e m.
       let r = top-of (q .rule) (q .k) inside (subst (λ z. e ∈ z) after m) in
-      moved (r .2) (entries-in (q .rule) (only-of (λ (h : Held). has (cell (h .values)) taken) hs (r .1) .0)))
+      moved (r .2) (entries-in (q .rule) (only-of (λ (h : Held). has (cell (h .values)) steppedLines) hs (r .1) .0)))
       (best-falling (above (q .rule)) (above-strict (q .rule)) (q .k) (map (entry (q .rule)) inside))
     where
-      taken : List ℕ
-      taken = take n (visiting (q .rule))
+      steppedLines : List ℕ
+      steppedLines = take n (visiting (q .rule))
 
       inside : List Held
-      inside = heldIn (searchOf (q .rule)) taken hs
+      inside = heldIn (searchOf (q .rule)) steppedLines hs
 
       l : List Entry
       l = listAfter (searchOf (q .rule)) (q .k) hs n
@@ -333,8 +333,8 @@ module _ (w : Window) (fit : fitWindow w ≡ true) (q : Question) (some : 1 ≤ 
           omega (
             arith,
             ap length after,
-            top-short (q .rule) (q .k) inside (pairwise-only (λ (a b : Held). a .number ≡ b .number → ⊥) (λ r. has (cell (r .values)) taken) hs (held-distinct w)),
-            fewer (λ (r : Held). has (cell (r .values)) taken) hs,
+            top-short (q .rule) (q .k) inside (pairwise-only (λ (a b : Held). a .number ≡ b .number → ⊥) (λ r. has (cell (r .values)) steppedLines) hs (held-distinct w)),
+            fewer (λ (r : Held). has (cell (r .values)) steppedLines) hs,
             length-held w,
           )
 
@@ -348,8 +348,8 @@ module _ (w : Window) (fit : fitWindow w ≡ true) (q : Question) (some : 1 ≤ 
       last e = le-of-eq (getD-past 256 (visiting (q .rule)) n (left-none (q .rule) n (le-of-eq (sym e))))
 
   -- every step before the end is answered, and comes to the question after one step more
-  pub calls-step : (n : ℕ) → n < steps (searchOf (q .rule)) (q .k) hs → stepCall w (takes n (begun q) hs) ≡ record { refusal = 0; question = takes (suc n) (begun q) hs }
-  unfolding takes
+  pub calls-step : (n : ℕ) → n < steps (searchOf (q .rule)) (q .k) hs → stepCall w (afterSteps n (begun q) hs) ≡ record { refusal = 0; question = afterSteps (suc n) (begun q) hs }
+  unfolding afterSteps
   calls-step n l =
       ap (stepCall w) at
       ∙ step-goes w here fit fit-here going
@@ -361,7 +361,7 @@ module _ (w : Window) (fit : fitWindow w ≡ true) (q : Question) (some : 1 ≤ 
       here : Question
       here = reached (q .k) (q .rule) hs n
 
-      at : takes n (begun q) hs ≡ here
+      at : afterSteps n (begun q) hs ≡ here
       at = takes-reached q small hs n within
 
       fit-here : fitQuestion w here ≡ true

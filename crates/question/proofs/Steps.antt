@@ -91,7 +91,7 @@ module _ (k : ℕ) (small : k ≤ 16) (w : Rule) (hs : List Held) where
   -- it has ended when the search has
   pub reached-end : (n : ℕ) → n ≤ 256 → finished (reached k w hs n) ≡ ended (searchOf w) k hs n
   unfolding reached finished
-  reached-end n h = ⊎-elim some none (lt-or-eq h)
+  reached-end n h = ⊎-elim some-left none (lt-or-eq h)
     where
       l : List Entry
       l = listAfter (searchOf w) k hs n
@@ -99,8 +99,8 @@ module _ (k : ℕ) (small : k ≤ 16) (w : Rule) (hs : List Held) where
       short : List Entry → Bool
       short m = eqb (length l) k && onLast (λ e. not (reaches w (cellAt w n) e)) m
 
-      some : n < 256 → finished (reached k w hs n) ≡ ended (searchOf w) k hs n
-      some g =
+      some-left : n < 256 → finished (reached k w hs n) ≡ ended (searchOf w) k hs n
+      some-left g =
           ap (λ b. b || short (lines (reached k w hs n))) (lt-leb 256 (cellAt w n) (cell-at w n g))
           ∙ ap short (reached-lines n)
           ∙ sym (ap (stops (searchOf w) k l) (left-at w n g))

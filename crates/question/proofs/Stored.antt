@@ -15,7 +15,7 @@ use Rattle.list.proofs.Stored.{lineAt}
 pub use Rattle.list.proofs.Stored.{Roomy}
 use Rattle.question.specs.declared.Question.{Question}
 use Rattle.question.specs.Lines.{listOf, lines, asked}
-use Rattle.question.specs.Inner.{shown}
+use Rattle.question.specs.Inner.{lineCount}
 
 -- what is stored is read back
 pub lines-asked : (k : ℕ) (w : Rule) (l : List Entry) (next : ℕ) → length l ≤ 16 → lines (asked k w l next) ≡ l
@@ -26,15 +26,15 @@ pub roomy : (q : Question) → length (map (λ (n : ℕ). n) (q .numbers)) ≡ 1
 roomy q n s = list.roomy-known (q .numbers) (q .scores) n s
 
 module _ (q : Question) (r : Roomy (q .numbers) (q .scores)) where
-  pub shown-lines : (n : ℕ) → n ≡ shown q → take n (linesOf (q .numbers) (q .scores)) ≡ lines q
+  pub shown-lines : (n : ℕ) → n ≡ lineCount q → take n (linesOf (q .numbers) (q .scores)) ≡ lines q
   shown-lines = list.front-lines (listOf q) r
 
-  pub all-lines : (n : ℕ) → n ≡ shown q → (m : ℕ) → m ≡ n → take m (take n (linesOf (q .numbers) (q .scores))) ≡ lines q
+  pub all-lines : (n : ℕ) → n ≡ lineCount q → (m : ℕ) → m ≡ n → take m (take n (linesOf (q .numbers) (q .scores))) ≡ lines q
   all-lines = list.all-lines (listOf q) r
 
   -- the last line
-  pub last-line : (i : ℕ) → i + 1 ≡ shown q → (p : Entry → Bool) → onLast p (lines q) ≡ p (lineAt (q .numbers) (q .scores) i)
-  last-line = list.last-shown (q .numbers) (q .scores) r (q .len) (shown q) refl
+  pub last-line : (i : ℕ) → i + 1 ≡ lineCount q → (p : Entry → Bool) → onLast p (lines q) ≡ p (lineAt (q .numbers) (q .scores) i)
+  last-line = list.last-shown (q .numbers) (q .scores) r (q .len) (lineCount q) refl
 
-pub no-lines : (q : Question) → shown q ≡ 0 → lines q ≡ []
+pub no-lines : (q : Question) → lineCount q ≡ 0 → lines q ≡ []
 no-lines q = list.no-lines (listOf q)

@@ -14,7 +14,7 @@ use lib.Seq.{take-take}
 use Rattle.laws.specs.Lists.{only}
 use Rattle.laws.proofs.Lists.{_⊆_, Same, there, only-yes, only-no}
 use Rattle.laws.proofs.Tests.{Tested, passed, failed, tested, and-true, if-so, if-not}
-use Rattle.search.specs.Best.{best, place}
+use Rattle.search.specs.Best.{best, placed}
 use Rattle.search.proofs.Best.{best-cons, best-append, best-same, length-best-le}
 use Rattle.ranking.specs.declared.Rule.{Rule}
 use Rattle.ranking.specs.Cells.{placeOf, cellAt}
@@ -24,8 +24,8 @@ use Rattle.window.specs.declared.Window.{Window}
 use Rattle.window.specs.Rows.{reportIn, standing}
 use Rattle.list.proofs.Stored.{fewest, lines-back}
 use Rattle.question.specs.declared.Question.{Question}
-use Rattle.question.specs.Lines.{lines, asked, withList, cutToK, inCell, stepped, stepOn, inRows}
-use Rattle.question.specs.Inner.{joined, taking, listTaken, at}
+use Rattle.question.specs.Lines.{lines, asked, withList, cutToK, inCell, stepped, stepOn, inRows, withNext, cutWith}
+use Rattle.question.specs.Inner.{taking, listTaken}
 use Rattle.question.proofs.Stored.{lines-asked}
 
 -- the same behind others
@@ -50,31 +50,31 @@ module _ (q : Question) (h : Held) where
   unfolding taking
   taking-other e f = if-not _ _ e ∙ if-not _ _ f
 
-  pub taking-here : eqb (h .number) 0 ≡ false → inCell (q .next) h ≡ true → taking q h ≡ joined q (entry (q .rule) h)
+  pub taking-here : eqb (h .number) 0 ≡ false → inCell (q .next) h ≡ true → taking q h ≡ cutWith q (entry (q .rule) h)
   unfolding taking
   taking-here e f = if-not _ _ e ∙ if-so _ _ f
 
 -- ---- one entry
 
 -- one entry put in its rank, and the list cut
-pub joined-asked : (k : ℕ) (w : Rule) (l : List Entry) (next : ℕ) (e : Entry) → k ≤ 16 → length l ≤ 16 → joined (asked k w l next) e ≡ asked k w (take k (place (above w) e l)) next
+pub joined-asked : (k : ℕ) (w : Rule) (l : List Entry) (next : ℕ) (e : Entry) → k ≤ 16 → length l ≤ 16 → cutWith (asked k w l next) e ≡ asked k w (take k (placed (above w) e l)) next
 joined-asked k w l next e small r =
-    ap (λ m. cutToK (asked k w (take 16 (place (above w) e m)) next)) (lines-asked k w l next r)
-    ∙ ap (λ m. asked k w (take k m) next) (lines-asked k w (take 16 (place (above w) e l)) next (rw length-take (omega arith)))
-    ∙ ap (λ m. asked k w m next) (take-take k 16 (place (above w) e l) small)
+    ap (λ m. cutToK (asked k w (take 16 (placed (above w) e m)) next)) (lines-asked k w l next r)
+    ∙ ap (λ m. asked k w (take k m) next) (lines-asked k w (take 16 (placed (above w) e l)) next (rw length-take (omega arith)))
+    ∙ ap (λ m. asked k w m next) (take-take k 16 (placed (above w) e l) small)
 
 -- so the best k of some entries becomes the best k of one more
-pub joined-best : (k : ℕ) (w : Rule) (l : List Entry) (next : ℕ) (e : Entry) → k ≤ 16 → joined (asked k w (best (above w) k l) next) e ≡ asked k w (best (above w) k (e ∷ l)) next
+pub joined-best : (k : ℕ) (w : Rule) (l : List Entry) (next : ℕ) (e : Entry) → k ≤ 16 → cutWith (asked k w (best (above w) k l) next) e ≡ asked k w (best (above w) k (e ∷ l)) next
 joined-best k w l next e small =
     joined-asked k w (best (above w) k l) next e small (omega (arith, length-best-le (above w) (above-strict w) k l))
     ∙ ap (λ m. asked k w m next) (sym (best-cons (above w) (above-strict w) k e l))
 
 -- room for k lines, or for 16, is the list with the entry cut to k
-pub within-joined : (q : Question) (x : Entry) → withList q (take (min (q .k) 16) (place (above (q .rule)) x (lines q))) ≡ joined q x
+pub within-joined : (q : Question) (x : Entry) → withList q (take (min (q .k) 16) (placed (above (q .rule)) x (lines q))) ≡ cutWith q x
 within-joined q x = ap (withList q) (fewest (q .k) 16 whole ∙ ap (take (q .k)) (sym (lines-back (take 16 whole) (rw length-take (omega arith)))))
   where
     whole : List Entry
-    whole = place (above (q .rule)) x (lines q)
+    whole = placed (above (q .rule)) x (lines q)
 
 -- ---- the rows
 
@@ -165,6 +165,6 @@ module _ (q : Question) (w : Window) where
     unfolding stepOn
     step-is = if-so (stepped q (inRows w)) q (and-true (le-leb (q .k) 16 small) (lt-ltb (q .next) 256 left))
 
-    pub step-taken : stepOn q w ≡ at (listTaken q w 1024) (cellAt (q .rule) (placeOf (q .rule) (q .next) + 1))
+    pub step-taken : stepOn q w ≡ withNext (listTaken q w 1024) (cellAt (q .rule) (placeOf (q .rule) (q .next) + 1))
     unfolding stepped inRows
     step-taken = step-is

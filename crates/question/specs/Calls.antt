@@ -11,7 +11,7 @@ use Rattle.window.specs.declared.Counts.{Counts}
 use Rattle.window.specs.declared.Window.{Window}
 use Rattle.window.specs.Rows.{sized, rowOf, reportIn, heldReports, fitWindow}
 pub use Rattle.list.specs.Lines.{allOf}
-use Rattle.list.specs.Lines.{room, linesOf, falls, blank}
+use Rattle.list.specs.Lines.{mostLines, linesOf, falls, blank}
 use Rattle.question.specs.Lines.{lines, finished, begun, stepped}
 use Rattle.question.specs.declared.Question.{Question}
 use Rattle.question.specs.declared.Stepped.{Stepped}
@@ -28,7 +28,7 @@ heldAs w rule e =
 -- Rule 9.5: every number is in its range, and the list has at most k lines, and no more than reports are held.
 unfoldable pub rangesFit : Question → ℕ → Bool
 rangesFit q held =
-    leb 1 (q .k) && leb (q .k) room && fitRule (q .rule) && leb (q .next) cellCount && leb (q .len) (min (q .k) held)
+    leb 1 (q .k) && leb (q .k) mostLines && fitRule (q .rule) && leb (q .next) cellCount && leb (q .len) (min (q .k) held)
 
 -- Rules 9.5 and 9.6: each line names a held report with its score, the lines fall in rank, and places past the list's end are 0.
 unfoldable pub fitQuestion : Window → Question → Bool

@@ -5,17 +5,19 @@ use mathlib.Core.List.{List, [], _++_, map}
 use lib.ListN.{length, take}
 use lib.Dec.{leb, ltb, eqb}
 use Rattle.laws.specs.Lists.{onLast, only}
-use Rattle.search.specs.Best.{best, place}
+use Rattle.search.specs.Best.{best, placed}
 use Rattle.search.specs.Search.{has, steps, found}
 use Rattle.ranking.specs.declared.Rule.{Rule}
-use Rattle.ranking.specs.Cells.{noRule, cell, cellCount, cells, visiting, placeOf, cellAt}
+use Rattle.ranking.specs.Cells.{noRule, cell, cellCount, cells, visiting, placeOf, cellAt, reaching}
 use Rattle.ranking.specs.Standing.{Held, Entry, above, entries, reaches, searchOf}
 use Rattle.window.specs.declared.Window.{Window}
 use Rattle.window.specs.Rows.{rowCount, standing}
 use Rattle.list.specs.declared.Lines.{Lines}
-use Rattle.list.specs.Lines.{room, numbersOf, scoresOf, stored, linesIn}
+use Rattle.list.specs.Lines.{mostLines, numbersOf, scoresOf, columnsOf, linesIn}
 pub use Rattle.list.specs.Lines.{linesOf}
 pub use Rattle.list.specs.Rows.{rowsOf}
+use Rattle.list.specs.declared.Bar.{Bar}
+use Rattle.list.specs.Bars as bars
 use Rattle.question.specs.declared.Question.{Question}
 use Rattle.question.specs.declared.Searched.{Searched}
 
@@ -34,7 +36,7 @@ holding q l =
 
 -- And with some lines, as a list stores them.
 abbrev pub withList : Question → List Entry → Question
-withList q l = holding q (stored l)
+withList q l = holding q (columnsOf l)
 
 -- A question with that list and that next cell.
 abbrev pub asked : ℕ → Rule → List Entry → ℕ → Question
@@ -63,7 +65,7 @@ marksOf q = map (isMarked q) cells
 
 -- One entry put in its rank among the lines, which have each report once; a list has room for 16.
 abbrev pub withEntry : Question → Entry → Question
-withEntry q e = withList q (take room (place (above (q .rule)) e (lines q)))
+withEntry q e = withList q (take mostLines (placed (above (q .rule)) e (lines q)))
 
 -- Rule 8.1: the list cut to k.
 abbrev pub cutToK : Question → Question
@@ -83,19 +85,19 @@ abbrev pub inCell : ℕ → Held → Bool
 inCell c h = eqb (cell (h .values)) c
 
 -- Rule 7.7: the list after a step: the best k of the lines it had and of the next cell's reports.
-abbrev pub taken : Question → List Held → List Entry
-taken q hs =
+abbrev pub steppedLines : Question → List Held → List Entry
+steppedLines q hs =
     best (above (q .rule)) (q .k) (lines q ++ entries (q .rule) (only (inCell (q .next)) hs))
 
 -- Rule 7.7: a step: that list, and one cell more is marked.
 unfoldable pub stepped : Question → List Held → Question
 stepped q hs =
-    asked (q .k) (q .rule) (taken q hs) (cellAt (q .rule) (placeOf (q .rule) (q .next) + 1))
+    asked (q .k) (q .rule) (steppedLines q hs) (cellAt (q .rule) (placeOf (q .rule) (q .next) + 1))
 
 -- n steps, one after the other.
-unfoldable pub takes : ℕ → Question → List Held → Question
-takes zero q hs = q
-takes (suc n) q hs = stepped (takes n q hs) hs
+unfoldable pub afterSteps : ℕ → Question → List Held → Question
+afterSteps zero q hs = q
+afterSteps (suc n) q hs = stepped (afterSteps n q hs) hs
 
 -- A search from its beginning to its end.
 unfoldable pub searched : Question → List Held → Question
@@ -113,12 +115,35 @@ inRows w = standing w rowCount
 
 -- A step on whatever stands in a window's rows; none, where k is over 16 or no cell is left.
 unfoldable pub stepOn : Question → Window → Question
-stepOn q w = cond (leb (q .k) room && ltb (q .next) cellCount) (stepped q (inRows w)) q
+stepOn q w = cond (leb (q .k) mostLines && ltb (q .next) cellCount) (stepped q (inRows w)) q
 
 -- A search of whatever stands in a window's rows, and its steps; none, where k is over 16.
 unfoldable pub searchedOn : Question → Window → Searched
-searchedOn q w = cond (leb (q .k) room) (searchedIn q (inRows w)) (record { steps = 0; question = q })
+searchedOn q w = cond (leb (q .k) mostLines) (searchedIn q (inRows w)) (record { steps = 0; question = q })
 
 -- The same over what stands in the first n rows.
 unfoldable pub searchedFirst : Question → Window → ℕ → Searched
-searchedFirst q w n = cond (leb (q .k) room) (searchedIn q (standing w n)) (record { steps = 0; question = q })
+searchedFirst q w n = cond (leb (q .k) mostLines) (searchedIn q (standing w n)) (record { steps = 0; question = q })
+
+-- What an entry has to rank above to change its list, where it has k lines.
+abbrev pub barOf : Question → Bar
+barOf q = bars.barOf (listOf q) (q .k)
+
+-- The same list, and another cell is next.
+abbrev pub withNext : Question → ℕ → Question
+withNext q next =
+    record { k = q .k; rule = q .rule; numbers = q .numbers; scores = q .scores; len = q .len; next = next }
+
+-- Where the search that found this list ends.
+unfoldable pub endedOf : Question → Searched
+endedOf q =
+    cond (barOf q .full)
+    (record {
+      steps = reaching (q .rule) (barOf q .score);
+      question = withNext q (cellAt (q .rule) (reaching (q .rule) (barOf q .score)));
+    })
+    (record { steps = cellCount; question = withNext q cellCount })
+
+-- One entry among the first k.
+abbrev pub cutWith : Question → Entry → Question
+cutWith q e = cutToK (withEntry q e)

@@ -3,15 +3,15 @@ ghost use mathlib.Core.Path.{_≡_};
 ghost use mathlib.Core.List.{[]};
 ghost use Prim.Native.Nat.{min, _≤_};
 ghost use lib.ListN.{take, drop};
-ghost use Rattle.search.specs.Best.{best, place};
+ghost use Rattle.search.specs.Best.{best, placed};
 ghost use Rattle.values.specs.Range.{low};
 ghost use Rattle.ranking.specs.Standing.{above};
 ghost use Rattle.window.specs.Rows.{rowCount};
-ghost use Rattle.list.specs.Lines.{room, linesOf, allOf, blank};
+ghost use Rattle.list.specs.Lines.{mostLines, linesOf, allOf, blank};
 ghost use Rattle.list.specs.Rows.{rowsOf};
-ghost use Rattle.question.specs.Lines.{asked, listOf, holding, withList, lines, emptySlot, withEntry, cutToK, finished, begun, stepOn, searchedOn, searchedFirst, stepsTaken, isMarked, marksOf};
+ghost use Rattle.question.specs.Lines.{asked, listOf, holding, withList, lines, emptySlot, withEntry, cutToK, finished, begun, stepOn, searchedOn, searchedFirst, stepsTaken, isMarked, marksOf, endedOf, withNext, cutWith};
 ghost use Rattle.question.specs.Calls.{holdsNumber, heldAs, rangesFit, fitQuestion, stepCall, beginCall};
-ghost use Rattle.question.specs.Inner.{joined, taking, listTaken, at, endedOf, stepRefusal};
+ghost use Rattle.question.specs.Inner.{taking, listTaken, stepRefusal};
 use list::Lines;
 use list::gathered;
 use ranking::Grid;
@@ -25,8 +25,8 @@ use window::Window;
 pub struct Question {
     pub k: u8,
     pub rule: Rule,
-    pub numbers: [u32; Lines::ROOM],
-    pub scores: [i32; Lines::ROOM],
+    pub numbers: [u32; Lines::MOST],
+    pub scores: [i32; Lines::MOST],
     pub len: u8,
     pub next: u16,
 }
@@ -58,15 +58,15 @@ impl Question {
     pub fn fresh() -> Question
         ensures { λ r. ⌜ r ≡ emptySlot ⌝ }
     {
-        Question::blank(0, Rule::none(), 0)
+        Question::without_lines(0, Rule::none(), 0)
     }
 
     // A question with no lines.
-    fn blank(k: u8, rule: Rule, next: u16) -> Question
+    fn without_lines(k: u8, rule: Rule, next: u16) -> Question
         ensures { λ r. ⌜ r ≡ asked k rule [] next ⌝ }
     {
-        let numbers = [0u32; Lines::ROOM];
-        let scores = [0i32; Lines::ROOM];
+        let numbers = [0u32; Lines::MOST];
+        let scores = [0i32; Lines::MOST];
         Question {
             k,
             rule,
@@ -108,31 +108,31 @@ impl Question {
     }
 
     // One entry put in its rank among the lines, once, of which at most `most` are kept.
-    fn within(self, most: usize, number: u32, score: i32) -> Question
-        ensures { λ r. ⌜ r ≡ withList self (take (min most room) (place (above (self .rule)) (record { number = number; score = score }) (lines self))) ⌝ }
+    fn placed_within(self, most: usize, number: u32, score: i32) -> Question
+        ensures { λ r. ⌜ r ≡ withList self (take (min most mostLines) (placed (above (self .rule)) (record { number = number; score = score }) (lines self))) ⌝ }
     {
         self.holding(self.list().placed(self.rule, most, number, score))
     }
 
     // One entry put in its rank among the lines, once, of which at most 16 are kept.
-    pub fn added(self, number: u32, score: i32) -> Question
+    pub fn with_entry(self, number: u32, score: i32) -> Question
         ensures { λ r. ⌜ r ≡ withEntry self (record { number = number; score = score }) ⌝ }
     {
-        self.within(Lines::ROOM, number, score)
+        self.placed_within(Lines::MOST, number, score)
     }
 
     // The first k lines.
-    pub fn cut(self) -> Question
+    pub fn cut_to_k(self) -> Question
         ensures { λ r. ⌜ r ≡ cutToK self ⌝ }
     {
-        self.holding(self.list().first(self.k as usize))
+        self.holding(self.list().first_lines(self.k as usize))
     }
 
     // One entry among the first k.
-    pub fn joined(self, number: u32, score: i32) -> Question
-        ensures { λ r. ⌜ r ≡ joined self (record { number = number; score = score }) ⌝ }
+    pub fn cut_with(self, number: u32, score: i32) -> Question
+        ensures { λ r. ⌜ r ≡ cutWith self (record { number = number; score = score }) ⌝ }
     {
-        self.within(self.k as usize, number, score)
+        self.placed_within(self.k as usize, number, score)
     }
 
     // The search has ended (rule 7.6): no cell is left, or k lines are there and the cell that comes next can't reach the
@@ -146,7 +146,7 @@ impl Question {
         }
         let bar = self.list().bar(self.k);
         if bar.full {
-            return self.rule.best(next as u8) < bar.score;
+            return self.rule.best_score(next as u8) < bar.score;
         }
         false
     }
@@ -155,12 +155,12 @@ impl Question {
     fn begun(self) -> Question
         ensures { λ r. ⌜ r ≡ begun self ⌝ }
     {
-        Question::blank(self.k, self.rule, self.rule.first() as u16)
+        Question::without_lines(self.k, self.rule, self.rule.first_cell() as u16)
     }
 
     // The best k of the lines.
     fn ranked(self) -> Question
-        requires { ⌜ self .k ≤ room ⌝ }
+        requires { ⌜ self .k ≤ mostLines ⌝ }
         ensures { λ r. ⌜ r ≡ withList self (best (above (self .rule)) (self .k) (lines self)) ⌝ }
     {
         self.holding(self.list().best(self.rule, self.k as usize))
@@ -178,12 +178,12 @@ impl Question {
         if cell != next {
             return self;
         }
-        self.joined(number, self.rule.score(values))
+        self.cut_with(number, self.rule.score(values))
     }
 
     // The best k of the lines and of the next cell's reports.
     fn list_taken(self, window: Window) -> Question
-        requires { ⌜ self .k ≤ room ⌝ }
+        requires { ⌜ self .k ≤ mostLines ⌝ }
         ensures { λ r. ⌜ r ≡ listTaken self window rowCount ⌝ }
     {
         let mut list = self.ranked();
@@ -198,8 +198,8 @@ impl Question {
     }
 
     // The same list, and another cell is next.
-    fn at(self, next: u16) -> Question
-        ensures { λ r. ⌜ r ≡ at self next ⌝ }
+    fn with_next(self, next: u16) -> Question
+        ensures { λ r. ⌜ r ≡ withNext self next ⌝ }
     {
         let mut question = self;
         question.next = next;
@@ -218,7 +218,7 @@ impl Question {
             return self;
         }
         let list = self.list_taken(window);
-        list.at(self.rule.next(next as u8))
+        list.with_next(self.rule.next_cell(next as u8))
     }
 
     // A search from its beginning to its end, whatever the window's rows hold; none, where k is over 16.
@@ -262,12 +262,12 @@ impl Question {
             let reach = self.rule.reach(bar.score);
             return Searched {
                 steps: reach.cells,
-                question: self.at(reach.next),
+                question: self.with_next(reach.next),
             };
         }
         Searched {
             steps: Grid::CELLS,
-            question: self.at(Grid::CELLS),
+            question: self.with_next(Grid::CELLS),
         }
     }
 
@@ -277,13 +277,13 @@ impl Question {
     {
         let next = self.next;
         if next < Grid::CELLS {
-            return self.rule.rank(next as u8);
+            return self.rule.place_of(next as u8);
         }
         Grid::CELLS
     }
 
     // The search has taken this cell.
-    pub fn marked(self, cell: u8) -> bool
+    pub fn is_marked(self, cell: u8) -> bool
         ensures { λ r. ⌜ r ≡ isMarked self cell ⌝ }
     {
         let next = self.next;
@@ -300,7 +300,7 @@ impl Question {
         let mut marks = [false; Question::MARKS];
         let mut cell: usize = 0;
         while cell < Question::MARKS {
-            marks[cell] = self.marked(cell as u8);
+            marks[cell] = self.is_marked(cell as u8);
             cell += 1;
         }
         marks
@@ -328,7 +328,7 @@ impl Question {
     pub fn step(self, window: Window) -> Stepped
         ensures { λ r. ⌜ r ≡ stepCall window self ⌝ }
     {
-        let refusal = self.refusal(window);
+        let refusal = self.step_refusal(window);
         if refusal != 0 {
             return self.refused(refusal);
         }
@@ -343,7 +343,7 @@ impl Question {
     pub fn begin(self, window: Window) -> Stepped
         ensures { λ r. ⌜ r ≡ beginCall window self ⌝ }
     {
-        if self.refusal(window) == Question::FINISHED {
+        if self.step_refusal(window) == Question::FINISHED {
             return Stepped {
                 refusal: 0,
                 question: self.begun(),
@@ -353,7 +353,7 @@ impl Question {
     }
 
     // What a step is refused with; 0, where it goes on.
-    fn refusal(self, window: Window) -> u8
+    fn step_refusal(self, window: Window) -> u8
         ensures { λ r. ⌜ r ≡ stepRefusal window self ⌝ }
     {
         if window.fit() {
@@ -404,7 +404,7 @@ impl Question {
     fn lines_held(self, window: Window) -> bool
         ensures { λ r. ⌜ r ≡ allOf (heldAs window (self .rule)) (lines self) ⌝ }
     {
-        let n = self.list().shown();
+        let n = self.list().line_count();
         let mut i: usize = 0;
         while i < n {
             if !held_as(window, self.rule, self.numbers[i], self.scores[i]) {

@@ -18,7 +18,7 @@ use Rattle.laws.specs.Lists.{_∈_}
 use Rattle.values.specs.declared.Values.{Values}
 use Rattle.values.specs.Range.{inRange}
 use Rattle.values.proofs.Facts.{range-facts, range-is}
-use Rattle.ranking.specs.Cells.{weightFits, fitRule, score, cell, corner, cornerOf, bestScore, greater, before, count, cells, visiting}
+use Rattle.ranking.specs.Cells.{weightFits, fitRule, score, cell, corner, cornerOf, bestScore, greater, before, numbersBelow, cells, visiting}
 use Rattle.ranking.specs.declared.Rule.{Rule}
 use Rattle.laws.proofs.Tests.{Tested, passed, failed, tested, clash, and-both}
 use Rattle.laws.proofs.Lists.{Pairwise, Distinct, Same, there, pairwise-map, lt-or-eq}
@@ -116,7 +116,7 @@ before-strict rule =
 
 -- ---- the cells
 
-count-in : (n : ℕ) (rest : List ℕ) (c : ℕ) → (c < n) ⊎ (c ∈ rest) → c ∈ count n rest
+count-in : (n : ℕ) (rest : List ℕ) (c : ℕ) → (c < n) ⊎ (c ∈ rest) → c ∈ numbersBelow n rest
 count-in zero rest c (inl h) = absurd (not-suc-le-zero h)
 count-in zero rest c (inr m) = m
 count-in (suc n) rest c t = count-in n (n ∷ rest) c (⊎-elim small (λ m. inr (there m)) t)
@@ -124,7 +124,7 @@ count-in (suc n) rest c t = count-in n (n ∷ rest) c (⊎-elim small (λ m. inr
     small : c < suc n → (c < n) ⊎ (c ∈ n ∷ rest)
     small h = ⊎-elim (λ l. inl l) (λ e. inr (List·Memᴰ·head e)) (lt-or-eq (le-of-suc-le-suc h))
 
-count-of : (n : ℕ) (rest : List ℕ) (c : ℕ) → c ∈ count n rest → (c < n) ⊎ (c ∈ rest)
+count-of : (n : ℕ) (rest : List ℕ) (c : ℕ) → c ∈ numbersBelow n rest → (c < n) ⊎ (c ∈ rest)
 count-of zero rest c m = inr m
 count-of (suc n) rest c m = ⊎-elim (λ h. inl (below h)) (λ k. ⊎-elim (λ e. inl (at e)) (λ j. inr j) (List·Memᴰ·cases-cons k)) (count-of n (n ∷ rest) c m)
   where
@@ -135,7 +135,7 @@ count-of (suc n) rest c m = ⊎-elim (λ h. inl (below h)) (λ k. ⊎-elim (λ e
     at e = omega arith
 
 -- the numbers rise
-count-rises : (n : ℕ) (rest : List ℕ) → ((c : ℕ) → c ∈ rest → n ≤ c) → Pairwise (λ a b. a < b) rest → Pairwise (λ a b. a < b) (count n rest)
+count-rises : (n : ℕ) (rest : List ℕ) → ((c : ℕ) → c ∈ rest → n ≤ c) → Pairwise (λ a b. a < b) rest → Pairwise (λ a b. a < b) (numbersBelow n rest)
 count-rises zero rest h w = w
 count-rises (suc n) rest h w =
     count-rises n (n ∷ rest) (λ c m. ⊎-elim (λ e. at c e) (λ k. below c (h c k)) (List·Memᴰ·cases-cons m)) (h, w)

@@ -17,7 +17,7 @@ use Rattle.laws.proofs.Tests.{and-true}
 use Rattle.laws.proofs.Lists.{Same, Pairwise, Distinct, same-map, map-append, last-same}
 use Rattle.laws.proofs.Orders.{StrictTotal, one-way, ltb-strict}
 use Rattle.laws.proofs.Whole.{ltZ-strict, le-is, equal-refl}
-use Rattle.search.specs.Best.{place}
+use Rattle.search.specs.Best.{placed}
 use Rattle.search.proofs.Best.{best-same, best-of, best-rule, best-cons, length-best}
 use Rattle.ranking.specs.Cells.{noRule, isNone, score, greater}
 use Rattle.ranking.specs.Standing.{Held, Entry, goesFirst, above, entry, entries, top, passes, hasPlace, placeBy}
@@ -165,15 +165,15 @@ module _ (rule : Rule) where
         not-less n l = omega arith
 
     -- a report that enters after all others is put in its rank and the list is cut to k where it has a place, and else nothing changes
-    pub top-enters : top rule k (h ∷ hs) ≡ cond (hasPlace rule k (length (top rule k hs)) (top rule k hs) (score rule (h .values))) (take k (place (above rule) (entry rule h) (top rule k hs))) (top rule k hs)
+    pub top-enters : top rule k (h ∷ hs) ≡ cond (hasPlace rule k (length (top rule k hs)) (top rule k hs) (score rule (h .values))) (take k (placed (above rule) (entry rule h) (top rule k hs))) (top rule k hs)
     unfolding entries
     top-enters =
         best-rule (above rule) above-strict k (entry rule h) (entries rule hs) new-one
-        ∙ ap (λ b. cond b (take k (place (above rule) (entry rule h) (top rule k hs))) (top rule k hs))
+        ∙ ap (λ b. cond b (take k (placed (above rule) (entry rule h) (top rule k hs))) (top rule k hs))
         (sym (place-rule k (entry rule h) (top rule k hs) older))
 
   -- one report more, whether it has a place or not
-  pub top-cons : (k : ℕ) (h : Held) (hs : List Held) → top rule k (h ∷ hs) ≡ take k (place (above rule) (entry rule h) (top rule k hs))
+  pub top-cons : (k : ℕ) (h : Held) (hs : List Held) → top rule k (h ∷ hs) ≡ take k (placed (above rule) (entry rule h) (top rule k hs))
   unfolding entries
   top-cons k h hs = best-cons (above rule) above-strict k (entry rule h) (entries rule hs)
 
@@ -186,7 +186,7 @@ module _ (rule : Rule) where
 
     pub place-last : (l : List Entry) (e : Entry) → 1 ≤ len → ((p : Entry → Bool) → onLast p l ≡ p e) → hasPlace rule k len l s ≡ placeBy rule k len (e .score) s
     unfolding hasPlace placeBy
-    place-last l e some is =
+    place-last l e positive is =
         let other : len ≡ 0 → ⊥ = λ z. absurd (omega arith) in
         rw (ne-eqb len 0 other) (ap (λ b. ltb len k || b) (is (λ f. passes rule s (f .score))))
 

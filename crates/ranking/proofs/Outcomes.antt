@@ -18,16 +18,16 @@ use Rattle.ranking.proofs.Rule.passes.Kinds as passes-kinds
 use Rattle.ranking.proofs.Rule.passes.Reads as passes-reads
 use Rattle.ranking.proofs.Rule.has_place.Kinds as has-place-kinds
 use Rattle.ranking.proofs.Rule.has_place.Reads as has-place-reads
-use Rattle.ranking.proofs.Rule.best.Kinds as best-kinds
-use Rattle.ranking.proofs.Rule.best.Reads as best-reads
+use Rattle.ranking.proofs.Rule.best_score.Kinds as best-score-kinds
+use Rattle.ranking.proofs.Rule.best_score.Reads as best-score-reads
 use Rattle.ranking.proofs.Rule.before.Kinds as earlier-kinds
 use Rattle.ranking.proofs.Rule.before.Reads as earlier-reads
-use Rattle.ranking.proofs.Rule.rank.Kinds as rank-kinds
-use Rattle.ranking.proofs.Rule.rank.Reads as rank-reads
-use Rattle.ranking.proofs.Rule.first.Kinds as first-kinds
-use Rattle.ranking.proofs.Rule.first.Reads as first-reads
-use Rattle.ranking.proofs.Rule.next.Kinds as next-kinds
-use Rattle.ranking.proofs.Rule.next.Reads as next-reads
+use Rattle.ranking.proofs.Rule.place_of.Kinds as place-of-kinds
+use Rattle.ranking.proofs.Rule.place_of.Reads as place-of-reads
+use Rattle.ranking.proofs.Rule.first_cell.Kinds as first-cell-kinds
+use Rattle.ranking.proofs.Rule.first_cell.Reads as first-cell-reads
+use Rattle.ranking.proofs.Rule.next_cell.Kinds as next-cell-kinds
+use Rattle.ranking.proofs.Rule.next_cell.Reads as next-cell-reads
 use Rattle.ranking.proofs.Rule.reach.Kinds as reach-kinds
 use Rattle.ranking.proofs.Rule.reach.Reads as reach-reads
 use Rattle.ranking.proofs.Grid.cell.Kinds as cell-kinds
@@ -57,20 +57,20 @@ passes-once κs a x y s t p q = p ∙ sym q
 has-place-once : OneAnswer 0 has-place-kinds.ps has-place-kinds.r has-place-reads.Post
 has-place-once κs a x y s t p q = p ∙ sym q
 
-best-once : OneAnswer 0 best-kinds.ps best-kinds.r best-reads.Post
-best-once κs a x y s t p q = p ∙ sym q
+best-score-once : OneAnswer 0 best-score-kinds.ps best-score-kinds.r best-score-reads.Post
+best-score-once κs a x y s t p q = p ∙ sym q
 
 earlier-once : OneAnswer 0 earlier-kinds.ps earlier-kinds.r earlier-reads.Post
 earlier-once κs a x y s t p q = p ∙ sym q
 
-rank-once : OneAnswer 0 rank-kinds.ps rank-kinds.r rank-reads.Post
-rank-once κs a x y s t p q = p ∙ sym q
+place-of-once : OneAnswer 0 place-of-kinds.ps place-of-kinds.r place-of-reads.Post
+place-of-once κs a x y s t p q = p ∙ sym q
 
-first-once : OneAnswer 0 first-kinds.ps first-kinds.r first-reads.Post
-first-once κs a x y s t p q = p ∙ sym q
+first-cell-once : OneAnswer 0 first-cell-kinds.ps first-cell-kinds.r first-cell-reads.Post
+first-cell-once κs a x y s t p q = p ∙ sym q
 
-next-once : OneAnswer 0 next-kinds.ps next-kinds.r next-reads.Post
-next-once κs a x y s t p q = p ∙ sym q
+next-cell-once : OneAnswer 0 next-cell-kinds.ps next-cell-kinds.r next-cell-reads.Post
+next-cell-once κs a x y s t p q = p ∙ sym q
 
 reach-once : OneAnswer 0 reach-kinds.ps reach-kinds.r reach-reads.Post
 reach-once κs a x y s t p q = p ∙ sym q

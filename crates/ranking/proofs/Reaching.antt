@@ -14,8 +14,7 @@ use lib.IntN.{ℤ}
 use lib.ListN.{length, drop}
 use lib.Signed.{ltZ}
 use Rattle.laws.specs.Lists.{_∈_, only}
-use Rattle.ranking.specs.Cells.{bestScore, before, count, cells, visiting, reaching, reachOf}
-use Rattle.ranking.specs.Scan.{met, metRow}
+use Rattle.ranking.specs.Cells.{bestScore, before, numbersBelow, cells, visiting, reaching, reachOf}
 use Rattle.ranking.specs.declared.Sought.{Sought}
 use Rattle.ranking.specs.declared.Rule.{Rule}
 use Rattle.laws.proofs.Tests.{Tested, passed, failed, tested, clash, or-left, or-right}
@@ -25,6 +24,7 @@ use Rattle.search.proofs.Best.{length-same}
 use Rattle.laws.proofs.Whole.{ltZ-strict}
 use Rattle.ranking.proofs.Cells.{more, greater-by, greater-tie, Numbers, less, equal, numbers, less-by, before-best, cells-distinct, visiting-in, visiting-same, visiting-falling, visiting-distinct}
 use Rattle.ranking.proofs.Scan.{Scanned, scanned-none, scanned-take, scanned-leave, scanned-left, counted-yes, counted-no}
+use Rattle.ranking.specs.Inner.{met, metRow}
 
 -- what one cell more comes to
 module _ (at : Sought) (c : ℕ) (best s : ℤ) where
@@ -89,7 +89,7 @@ module _ (rule : Rule) (s : ℤ) where
 
   -- what is known after the cells below d have been looked at
   pub record Met (d : ℕ) (at : Sought) : Type 0 where
-    pub number : at .cells ≡ length (only reached (count d []))
+    pub number : at .cells ≡ length (only reached (numbersBelow d []))
     pub few : at .cells ≤ d
     pub first : Scanned rule below d (at .next)
     pub known : at .next < 256 → (at .next < d) × (at .best ≡ bestScore rule (at .next))

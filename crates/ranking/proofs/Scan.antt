@@ -13,36 +13,36 @@ use lib.Dec.{ltb}
 use lib.ListN.{length, take, drop, length-append, take-append-drop, drop-of-length-le}
 use lib.Seq.{take-suc, drop-cons}
 use Rattle.laws.specs.Lists.{_∈_, only}
-use Rattle.ranking.specs.Cells.{before, count, cells, visiting, placeOf, cellAt}
-use Rattle.ranking.specs.Scan.{leads, nearer, placeAfter}
+use Rattle.ranking.specs.Cells.{before, numbersBelow, cells, visiting, placeOf, cellAt}
 use Rattle.ranking.specs.declared.Rule.{Rule}
 use Rattle.laws.proofs.Tests.{Tested, passed, failed, tested, clash, and-both, and-true}
 use Rattle.laws.proofs.Lists.{Pairwise, here, drop-⊆, lt-or-eq, pairwise-at, pairwise-drop, pairwise-only, only-in, only-of, index-of, getD-in, getD-left, getD-past, only-append, Other}
 use Rattle.laws.proofs.Orders.{opposite, differs, ltb-strict}
 use Rattle.search.proofs.Best.{falling-place, length-same}
 use Rattle.ranking.proofs.Cells.{before-strict, visiting-in, visiting-of, visiting-same, visiting-falling, visiting-distinct, length-visiting, cells-distinct}
+use Rattle.ranking.specs.Inner.{leads, nearer, placeAfter}
 
 -- ---- counting
 
-count-append : (n : ℕ) (rest : List ℕ) → count n rest ≡ count n [] ++ rest
+count-append : (n : ℕ) (rest : List ℕ) → numbersBelow n rest ≡ numbersBelow n [] ++ rest
 count-append zero rest = refl
 count-append (suc n) rest =
     count-append n (n ∷ rest)
-    ∙ sym (append-assoc (count n []) (n ∷ []) rest)
+    ∙ sym (append-assoc (numbersBelow n []) (n ∷ []) rest)
     ∙ ap (λ l. l ++ rest) (sym (count-append n (n ∷ [])))
 
 -- one more number, which passes the test or not
-pub counted : (p : ℕ → Bool) (n : ℕ) → length (only p (count (n + 1) [])) ≡ length (only p (count n [])) + length (only p (n ∷ []))
+pub counted : (p : ℕ → Bool) (n : ℕ) → length (only p (numbersBelow (n + 1) [])) ≡ length (only p (numbersBelow n [])) + length (only p (n ∷ []))
 counted p n =
-    ap (λ m. length (only p (count m []))) (add-one n)
+    ap (λ m. length (only p (numbersBelow m []))) (add-one n)
     ∙ ap (λ l. length (only p l)) (count-append n (n ∷ []))
-    ∙ ap length (only-append p (count n []) (n ∷ []))
-    ∙ length-append (only p (count n [])) (only p (n ∷ []))
+    ∙ ap length (only-append p (numbersBelow n []) (n ∷ []))
+    ∙ length-append (only p (numbersBelow n [])) (only p (n ∷ []))
 
-pub counted-yes : (p : ℕ → Bool) (n : ℕ) → p n ≡ true → length (only p (count (n + 1) [])) ≡ length (only p (count n [])) + 1
+pub counted-yes : (p : ℕ → Bool) (n : ℕ) → p n ≡ true → length (only p (numbersBelow (n + 1) [])) ≡ length (only p (numbersBelow n [])) + 1
 counted-yes p n e = counted p n ∙ rw (e, only)
 
-pub counted-no : (p : ℕ → Bool) (n : ℕ) → p n ≡ false → length (only p (count (n + 1) [])) ≡ length (only p (count n []))
+pub counted-no : (p : ℕ → Bool) (n : ℕ) → p n ≡ false → length (only p (numbersBelow (n + 1) [])) ≡ length (only p (numbersBelow n []))
 counted-no p n e = counted p n ∙ rw (e, only) (omega arith)
 
 -- ---- places

@@ -17,9 +17,10 @@ use Rattle.laws.proofs.Lists.{Distinct, pairwise-map, pairwise-take, Same, Othe
 use Rattle.laws.proofs.Orders.{ahead, ltb-strict}
 use Rattle.laws.proofs.Whole.{ltZ-strict}
 use Rattle.search.specs.Best.{best}
-use Rattle.search.specs.Search.{heldIn, steps, found, marks, matters}
+use Rattle.search.specs.Search.{heldIn, steps, found, marks}
 use Rattle.search.proofs.Best.{length-same}
 use Rattle.search.proofs.Search.{All, Sound, Newest, found-is, steps-open, marked, mattering, steps-count, steps-le, wanted, local-found, local-marks, local-steps, length-marks}
+use Rattle.search.specs.Inner.{matters}
 use Rattle.ranking.specs.Cells.{score, cell, cornerOf, bestScore, before, cells, visiting, reaching}
 use Rattle.ranking.specs.Standing.{Held, Entry, goesFirst, above, entry, entries, top, reaches, searchOf, Permitted, foremost, Wanted}
 use Rattle.ranking.specs.declared.Rule.{Rule}
@@ -64,7 +65,7 @@ module _ (rule : Rule) where
   -- the report that is added goes before all others of its score
   pub foremost-first : (entered n : ℕ) → 1 ≤ n → n ≤ entered → goesFirst rule (foremost rule entered) n ≡ true
   unfolding goesFirst foremost
-  foremost-first entered n some h = lt-ltb n (entered + 1) (omega arith)
+  foremost-first entered n positive h = lt-ltb n (entered + 1) (omega arith)
 
   module _ (hs : List Held) (entered : ℕ) (known : Numbered entered hs) where
     -- the entry of a permitted pair of values of the cell c, added as that report
@@ -118,14 +119,14 @@ module _ (rule : Rule) where
               (subst (λ n. goesFirst rule (foremost rule entered) n ≡ false) (sym (f .numbered) ∙ ap (λ (z : Entry). z .number) (f .stands)) (first-strict rule .irreflexive (foremost rule entered)));
         }
 
-    module _ (good : All Permitted hs) (k : ℕ) (some : 1 ≤ k) where
+    module _ (good : All Permitted hs) (k : ℕ) (positive : 1 ≤ k) where
       -- Demand 3: the marked cells are the wanted ones.
       pub marks-wanted : (c : ℕ) → c < 256 → c ∈ marks (searchOf rule) k hs ↔ Wanted rule k hs entered c
       unfolding entries
       marks-wanted c h = (λ m. to (is .0 m), λ v. is .1 (from v))
         where
           is : c ∈ marks (searchOf rule) k hs ↔ ((e : Entry) × New c e × (e ∈ best (above rule) k (e ∷ entries rule hs)))
-          is = wanted (searchOf rule) sound hs good k some New new-facts c (visiting-in rule c h)
+          is = wanted (searchOf rule) sound hs good k positive New new-facts c (visiting-in rule c h)
 
           to : (e : Entry) × New c e × (e ∈ best (above rule) k (e ∷ entries rule hs)) → Wanted rule k hs entered c
           to (e, f, m) =
@@ -153,8 +154,8 @@ module _ (rule : Rule) where
       -- The test that the code makes says whether a cell is wanted.
       pub matters-wanted : (c : ℕ) → c < 256 → (matters (searchOf rule) k hs c ≡ true) ↔ Wanted rule k hs entered c
       matters-wanted c h = (
-        λ t. marks-wanted c h .0 (mattering (searchOf rule) sound hs good k some c (visiting-in rule c h) t),
-        λ v. marked (searchOf rule) sound hs good k some c (marks-wanted c h .1 v),
+        λ t. marks-wanted c h .0 (mattering (searchOf rule) sound hs good k positive c (visiting-in rule c h) t),
+        λ v. marked (searchOf rule) sound hs good k positive c (marks-wanted c h .1 v),
       )
 
   module _ (hs : List Held) (good : All Permitted hs) where
@@ -165,7 +166,7 @@ module _ (rule : Rule) where
 
     -- The number of steps is the number of cells that could matter, which are the wanted ones.
     pub steps-wanted : (k : ℕ) → 1 ≤ k → steps (searchOf rule) k hs ≡ length (only (matters (searchOf rule) k hs) cells)
-    steps-wanted k some = steps-count (searchOf rule) sound hs good k some cells cells-distinct (visiting-same rule)
+    steps-wanted k positive = steps-count (searchOf rule) sound hs good k positive cells cells-distinct (visiting-same rule)
 
     -- a list that isn't full, or has no entry, takes all cells
     pub steps-all : (k : ℕ) → (length (top rule k hs) ≡ k → ⊥) ⊎ (length (top rule k hs) ≡ 0) → steps (searchOf rule) k hs ≡ 256
@@ -175,8 +176,8 @@ module _ (rule : Rule) where
     -- a full one takes as many as reach its last score
     pub steps-full : (k : ℕ) → 1 ≤ k → length (top rule k hs) ≡ k → (last : Entry) → ((p : Entry → Bool) → onLast p (top rule k hs) ≡ p last) → steps (searchOf rule) k hs ≡ reaching rule (last .score)
     unfolding reaching entries
-    steps-full k some full last is =
-        steps-wanted k some
+    steps-full k positive full last is =
+        steps-wanted k positive
         ∙ ap length
         (only-same (matters (searchOf rule) k hs) (λ c. reaches rule c last) cells
         (λ c m. ap₂ (λ a b. a || b) (le-ltb (length (top rule k hs)) k (omega arith)) (is (reaches rule c))))
@@ -224,7 +225,7 @@ pub record Exact (rule : Rule) (k : ℕ) (hs : List Held) (entered : ℕ) : Type
   pub number : (t : ℕ → Bool) → ((c : ℕ) → c < 256 → (t c ≡ true) ↔ Wanted rule k hs entered c) → steps (searchOf rule) k hs ≡ length (only t cells)
 
 pub demand-3 : (rule : Rule) (k : ℕ) → 1 ≤ k → (hs : List Held) → All Permitted hs → (entered : ℕ) → Numbered entered hs → Exact rule k hs entered
-demand-3 rule k some hs good entered known =
+demand-3 rule k positive hs good entered known =
     record {
       list = found-best rule hs good k;
       cells-only = in-grid;
@@ -243,4 +244,4 @@ demand-3 rule k some hs good entered known =
     in-grid c m = visiting-of rule c (take-⊆ (steps (searchOf rule) k hs) (visiting rule) c m)
 
     is : (c : ℕ) → c < 256 → c ∈ marks (searchOf rule) k hs ↔ Wanted rule k hs entered c
-    is = marks-wanted rule hs entered known good k some
+    is = marks-wanted rule hs entered known good k positive

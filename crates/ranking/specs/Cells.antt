@@ -79,13 +79,13 @@ unfoldable pub before : Rule → ℕ → ℕ → Bool
 before rule c d = greater (bestScore rule c) (bestScore rule d) (ltb c d)
 
 -- the numbers below n, and then the rest
-abbrev pub count : ℕ → List ℕ → List ℕ
-count zero rest = rest
-count (suc n) rest = count n (n ∷ rest)
+abbrev pub numbersBelow : ℕ → List ℕ → List ℕ
+numbersBelow zero rest = rest
+numbersBelow (suc n) rest = numbersBelow n (n ∷ rest)
 
 -- the cells 0 to 255
 abbrev pub cells : List ℕ
-cells = count cellCount []
+cells = numbersBelow cellCount []
 
 -- all cells, in the order in which they are taken
 unfoldable pub visiting : Rule → List ℕ

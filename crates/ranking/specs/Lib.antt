@@ -1,3 +1,3 @@
 pub mod Cells
 pub mod Standing
-pub mod Scan
+pub mod Inner

@@ -6,8 +6,8 @@ ghost use lib.IntN.{pos, _*ℤ_};
 ghost use Rattle.laws.specs.Whole.{equal};
 ghost use Rattle.values.specs.Range.{valueCount, low};
 ghost use Rattle.ranking.specs.Cells.{columns, cellCount, ruleOf, noRule, isNone, weightFits, fitRule, score, cell, corner, bestScore, greater, before, placeOf, cellAt, reachOf};
-ghost use Rattle.ranking.specs.Scan.{leads, nearer, placeAfter, met, metRow};
 ghost use Rattle.ranking.specs.Standing.{above, passes, placeBy};
+ghost use Rattle.ranking.specs.Inner.{leads, nearer, placeAfter, met, metRow};
 use values::Values;
 
 // What a score is made with: a for loss, b for shake.
@@ -72,7 +72,7 @@ impl Rule {
         ensures { λ r. ⌜ r ≡ fitRule self ⌝ }
     {
         let weights = self.weights;
-        in_range(weights.loss) && in_range(weights.shake)
+        weight_fits(weights.loss) && weight_fits(weights.shake)
     }
 
     // The score of some values, of which the low 12 bits count.
@@ -80,7 +80,7 @@ impl Rule {
         ensures { λ r. ⌜ r ≡ score self (low values) ⌝ }
     {
         let weights = self.weights;
-        part(weights.loss, values.loss) + part(weights.shake, values.shake)
+        weighted(weights.loss, values.loss) + weighted(weights.shake, values.shake)
     }
 
     // A report ranks above another (rule 6.3): by its score, and of equal ones by its number.
@@ -114,7 +114,7 @@ impl Rule {
     }
 
     // A cell's best possible score.
-    pub fn best(self, cell: u8) -> i32
+    pub fn best_score(self, cell: u8) -> i32
         ensures { λ r. ⌜ r ≡ bestScore self cell ⌝ }
     {
         let n = cell as u16;
@@ -128,11 +128,11 @@ impl Rule {
     pub fn before(self, c: u8, d: u8) -> bool
         ensures { λ r. ⌜ r ≡ before self c d ⌝ }
     {
-        greater(self.best(c), self.best(d), c < d)
+        greater(self.best_score(c), self.best_score(d), c < d)
     }
 
     // How many cells a search takes before this one.
-    pub fn rank(self, cell: u8) -> u16
+    pub fn place_of(self, cell: u8) -> u16
         ensures { λ r. ⌜ r ≡ placeOf self cell ⌝ }
     {
         let mut n: u16 = 0;
@@ -147,14 +147,14 @@ impl Rule {
     }
 
     // The cell that a search takes first.
-    pub fn first(self) -> u8
+    pub fn first_cell(self) -> u8
         ensures { λ r. ⌜ r ≡ cellAt self 0 ⌝ }
     {
         self.seek(Grid::CELLS) as u8
     }
 
     // The cell that a search takes after this one; CELLS, where it is the last.
-    pub fn next(self, cell: u8) -> u16
+    pub fn next_cell(self, cell: u8) -> u16
         ensures { λ r. ⌜ r ≡ cellAt self (placeOf self cell + 1) ⌝ }
     {
         self.seek(cell as u16)
@@ -189,7 +189,7 @@ impl Rule {
         let mut column: u16 = 0;
         while column < Grid::COLUMNS {
             let cell = Grid::COLUMNS * row + column;
-            found = found.met(cell, self.best(cell as u8), score);
+            found = found.met(cell, self.best_score(cell as u8), score);
             column += 1;
         }
         found
@@ -269,7 +269,7 @@ impl Sought {
 }
 
 // The weight is SMALLEST to LARGEST.
-fn in_range(weight: i16) -> bool
+fn weight_fits(weight: i16) -> bool
     ensures { λ r. ⌜ r ≡ weightFits weight ⌝ }
 {
     Weights::SMALLEST <= weight && weight <= Weights::LARGEST
@@ -282,7 +282,7 @@ fn is_zero(weight: i16) -> bool
 }
 
 // What a value counts for by its weight.
-fn part(weight: i16, value: u16) -> i32
+fn weighted(weight: i16, value: u16) -> i32
     ensures { λ r. ⌜ r ≡ weight *ℤ pos (value % valueCount) ⌝ }
 {
     let a = weight as i32;

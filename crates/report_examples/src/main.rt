@@ -22,10 +22,10 @@ use values::Values;
 fn main() {
     let mut space = io::large_buffer();
     let n = io::read_full(libc::STDIN_FILENO, &mut space);
-    all(wire::front(&space, n));
+    every_case(wire::front(&space, n));
 }
 
-fn all(text: &[u8]) {
+fn every_case(text: &[u8]) {
     let mut at: usize = 0;
     while at < text.len() {
         case(cases::line(text, at));
@@ -117,13 +117,13 @@ fn count(p: &mut [u8; 96], size: usize, at: usize) {
     let mut more: u8 = 0;
     while more < 255 {
         more += 1;
-        count = std::num::wrapping_add_u64(count, takes(p, size, at, more));
+        count = std::num::wrapping_add_u64(count, reads_with(p, size, at, more));
     }
     number(count);
 }
 
 // 1 where the reader takes the byte that is `more` above the one at a place, else 0; that one is put back.
-fn takes(p: &mut [u8; 96], size: usize, at: usize, more: u8) -> u64 {
+fn reads_with(p: &mut [u8; 96], size: usize, at: usize, more: u8) -> u64 {
     let found = wire::byte(p, at);
     wire::put(p, at, std::num::wrapping_add_u8(found, more));
     let answer = Payload::read(wire::front(p, size));

@@ -13,7 +13,7 @@ use lib.Dec.{ltb}
 use lib.ListN.{length, take, getD, length-take}
 use lib.Seq.{take-all, take-take, take-append-seam}
 use Rattle.laws.specs.Lists.{_∈_, onLast, only}
-use Rattle.search.specs.Best.{place, rank, best}
+use Rattle.search.specs.Best.{placed, rank, best}
 use Rattle.laws.proofs.Tests.{Tested, passed, failed, tested, clash, or-left, or-right}
 use Rattle.laws.proofs.Orders.{StrictTotal, opposite, one-way, differs}
 use Rattle.laws.proofs.Lists.{_⊆_, Same, Pairwise, Distinct, here, there, moved, take-⊆, pairwise-map, pairwise-take, take-more, lt-or-eq, getD-in, only-all-fail}
@@ -48,17 +48,17 @@ module _ {E : Type 0} (above : E → E → Bool) where
       go (failed e) (passed f) = later e f
       go (failed e) (failed f) = same e f
 
-  pub place-first : (x y : E) (ys : List E) → above x y ≡ true → place above x (y ∷ ys) ≡ x ∷ y ∷ ys
-  place-first x y ys e = rw (e, place)
+  pub place-first : (x y : E) (ys : List E) → above x y ≡ true → placed above x (y ∷ ys) ≡ x ∷ y ∷ ys
+  place-first x y ys e = rw (e, placed)
 
-  pub place-later : (x y : E) (ys : List E) → above x y ≡ false → above y x ≡ true → place above x (y ∷ ys) ≡ y ∷ place above x ys
-  place-later x y ys e f = rw (e, f, place)
+  pub place-later : (x y : E) (ys : List E) → above x y ≡ false → above y x ≡ true → placed above x (y ∷ ys) ≡ y ∷ placed above x ys
+  place-later x y ys e f = rw (e, f, placed)
 
-  pub place-same : (x y : E) (ys : List E) → above x y ≡ false → above y x ≡ false → place above x (y ∷ ys) ≡ y ∷ ys
-  place-same x y ys e f = rw (e, f, place)
+  pub place-same : (x y : E) (ys : List E) → above x y ≡ false → above y x ≡ false → placed above x (y ∷ ys) ≡ y ∷ ys
+  place-same x y ys e f = rw (e, f, placed)
 
   -- what is cut off plays no part in the first k
-  pub take-place : (k : ℕ) (x : E) (l : List E) → take k (place above x l) ≡ take k (place above x (take k l))
+  pub take-place : (k : ℕ) (x : E) (l : List E) → take k (placed above x l) ≡ take k (placed above x (take k l))
   take-place zero x l = refl
   take-place (suc k) x [] = refl
   take-place (suc k) x (y ∷ ys) = go (stand x y) (take-place k x ys)
@@ -70,31 +70,31 @@ module _ {E : Type 0} (above : E → E → Bool) where
       one-more zero h = refl
       one-more (suc j) h = ap (λ l. y ∷ l) (sym (take-take j k ys (omega arith)))
 
-      go : Stand x y → take k (place above x ys) ≡ take k (place above x (take k ys)) → take (suc k) (place above x (y ∷ ys)) ≡ take (suc k) (place above x (y ∷ take k ys))
+      go : Stand x y → take k (placed above x ys) ≡ take k (placed above x (take k ys)) → take (suc k) (placed above x (y ∷ ys)) ≡ take (suc k) (placed above x (y ∷ take k ys))
       go (first e) ih = rw (place-first x y ys e, place-first x y (take k ys) e) (ap (λ l. x ∷ l) (one-more k (omega arith)))
       go (later e f) ih = rw (place-later x y ys e f, place-later x y (take k ys) e f) (ap (λ l. y ∷ l) ih)
       go (same e f) ih = rw (place-same x y ys e f, place-same x y (take k ys) e f) (ap (λ l. y ∷ l) again)
 
   module _ (order : StrictTotal above) where
-    pub place-in : (x : E) (l : List E) → x ∈ place above x l
+    pub place-in : (x : E) (l : List E) → x ∈ placed above x l
     place-in x [] = here
     place-in x (y ∷ ys) = go (stand x y) (place-in x ys)
       where
-        go : Stand x y → x ∈ place above x ys → x ∈ place above x (y ∷ ys)
+        go : Stand x y → x ∈ placed above x ys → x ∈ placed above x (y ∷ ys)
         go (first e) ih = rw (place-first x y ys e) here
         go (later e f) ih = rw (place-later x y ys e f) (there ih)
         go (same e f) ih = rw (place-same x y ys e f) (List·Memᴰ·head (order .total x y e f))
 
-    pub place-keeps : (x : E) (l : List E) → l ⊆ place above x l
+    pub place-keeps : (x : E) (l : List E) → l ⊆ placed above x l
     place-keeps x [] z m = absurd (List·Memᴰ·not-nil m)
     place-keeps x (y ∷ ys) z m = go (stand x y) (place-keeps x ys z)
       where
-        go : Stand x y → (z ∈ ys → z ∈ place above x ys) → z ∈ place above x (y ∷ ys)
+        go : Stand x y → (z ∈ ys → z ∈ placed above x ys) → z ∈ placed above x (y ∷ ys)
         go (first e) ih = rw (place-first x y ys e) (there m)
         go (later e f) ih = rw (place-later x y ys e f) (⊎-elim (λ q. List·Memᴰ·head q) (λ k. there (ih k)) (List·Memᴰ·cases-cons m))
         go (same e f) ih = rw (place-same x y ys e f) m
 
-    pub place-of : (x : E) (l : List E) {z : E} → z ∈ place above x l → (z ≡ x) ⊎ (z ∈ l)
+    pub place-of : (x : E) (l : List E) {z : E} → z ∈ placed above x l → (z ≡ x) ⊎ (z ∈ l)
     place-of x [] m = List·Memᴰ·cases-cons m
     place-of x (y ∷ ys) {z} m = go (stand x y) (place-of x ys)
       where
@@ -102,17 +102,17 @@ module _ {E : Type 0} (above : E → E → Bool) where
         pass (inl q) = inl q
         pass (inr k) = inr (there k)
 
-        go : Stand x y → (z ∈ place above x ys → (z ≡ x) ⊎ (z ∈ ys)) → (z ≡ x) ⊎ (z ∈ y ∷ ys)
+        go : Stand x y → (z ∈ placed above x ys → (z ≡ x) ⊎ (z ∈ ys)) → (z ≡ x) ⊎ (z ∈ y ∷ ys)
         go (first e) ih = List·Memᴰ·cases-cons (subst (λ l. z ∈ l) (place-first x y ys e) m)
         go (later e f) ih =
             ⊎-elim (λ q. inr (List·Memᴰ·head q)) (λ k. pass (ih k)) (List·Memᴰ·cases-cons (subst (λ l. z ∈ l) (place-later x y ys e f) m))
         go (same e f) ih = inr (subst (λ l. z ∈ l) (place-same x y ys e f) m)
 
-    pub place-falling : (x : E) (l : List E) → Falling l → Falling (place above x l)
+    pub place-falling : (x : E) (l : List E) → Falling l → Falling (placed above x l)
     place-falling x [] w = (λ z m. absurd (List·Memᴰ·not-nil m), tt)
     place-falling x (y ∷ ys) w = go (stand x y) (place-falling x ys (w .1))
       where
-        go : Stand x y → Falling (place above x ys) → Falling (place above x (y ∷ ys))
+        go : Stand x y → Falling (placed above x ys) → Falling (placed above x (y ∷ ys))
         go (first e) ih =
             rw (place-first x y ys e) (
               λ z m.
@@ -185,13 +185,13 @@ module _ {E : Type 0} (above : E → E → Bool) where
         ap (take k) (rank-falling-is (best above k l) (best-falling k l)) ∙ take-take k k (rank above l) (omega arith)
 
     -- one more
-    pub best-cons : (k : ℕ) (x : E) (l : List E) → best above k (x ∷ l) ≡ take k (place above x (best above k l))
+    pub best-cons : (k : ℕ) (x : E) (l : List E) → best above k (x ∷ l) ≡ take k (placed above x (best above k l))
     best-cons k x l = take-place k x (rank above l)
 
     pub best-after : (k : ℕ) (xs ys : List E) → best above k (xs ++ best above k ys) ≡ best above k (xs ++ ys)
     best-after k [] ys = best-best k ys
     best-after k (x ∷ xs) ys =
-        best-cons k x (xs ++ best above k ys) ∙ ap (λ l. take k (place above x l)) (best-after k xs ys) ∙ sym (best-cons k x (xs ++ ys))
+        best-cons k x (xs ++ best above k ys) ∙ ap (λ l. take k (placed above x l)) (best-after k xs ys) ∙ sym (best-cons k x (xs ++ ys))
 
     swapped : (xs ys : List E) → (xs ++ ys) ⊆ (ys ++ xs)
     swapped xs ys z m = ⊎-elim (λ k. Memᴰ·append-right ys k) (λ k. Memᴰ·append-left xs k) (List·Memᴰ·append-cases xs m)
@@ -219,19 +219,19 @@ module _ {E : Type 0} (above : E → E → Bool) where
         (λ z m. ⊎-elim (λ q. absurd (h (moved q m))) (λ j. j) (List·Memᴰ·cases-cons (best-of k (x ∷ l) z m))))
 
     -- all of a list rank above x: x stands behind them
-    pub place-behind : (x : E) (l : List E) → ((z : E) → z ∈ l → above z x ≡ true) → place above x l ≡ l ++ (x ∷ [])
+    pub place-behind : (x : E) (l : List E) → ((z : E) → z ∈ l → above z x ≡ true) → placed above x l ≡ l ++ (x ∷ [])
     place-behind x [] h = refl
     place-behind x (y ∷ ys) h = go (stand x y) (place-behind x ys (λ z m. h z (there m)))
       where
-        go : Stand x y → place above x ys ≡ ys ++ (x ∷ []) → place above x (y ∷ ys) ≡ y ∷ (ys ++ (x ∷ []))
+        go : Stand x y → placed above x ys ≡ ys ++ (x ∷ []) → placed above x (y ∷ ys) ≡ y ∷ (ys ++ (x ∷ []))
         go (first e) ih = opposite above order x y e (h y here)
         go (later e f) ih = rw (place-later x y ys e f) (ap (λ l. y ∷ l) ih)
         go (same e f) ih = clash (h y here) f
 
     -- x stands in the list already
-    pub place-there : (x : E) (l : List E) → Falling l → x ∈ l → place above x l ≡ l
+    pub place-there : (x : E) (l : List E) → Falling l → x ∈ l → placed above x l ≡ l
     place-there x l w m =
-        falling-same (place above x l) l (place-falling x l w) w
+        falling-same (placed above x l) l (place-falling x l w) w
         (λ z k. ⊎-elim (λ q. moved (sym q) m) (λ j. j) (place-of x l k), place-keeps x l)
 
     pub lowest : (x : E) (l : List E) → Falling (x ∷ l) → Lowest (x ∷ l)
@@ -287,29 +287,29 @@ module _ {E : Type 0} (above : E → E → Bool) where
         let ih : best above k (xs ++ l) ≡ best above k l = best-below-all k xs l full (λ z m. h z (there m)) in
         best-below k x (xs ++ l) (ap length ih ∙ full) (subst (λ m. onLast (λ z. above z x) m ≡ true) (sym ih) (h x here)) ∙ ih
 
-    place-length-le : (x : E) (l : List E) → length (place above x l) ≤ suc (length l)
+    place-length-le : (x : E) (l : List E) → length (placed above x l) ≤ suc (length l)
     place-length-le x [] = omega arith
     place-length-le x (y ∷ ys) = go (stand x y) (place-length-le x ys)
       where
-        go : Stand x y → length (place above x ys) ≤ suc (length ys) → length (place above x (y ∷ ys)) ≤ suc (suc (length ys))
+        go : Stand x y → length (placed above x ys) ≤ suc (length ys) → length (placed above x (y ∷ ys)) ≤ suc (suc (length ys))
         go (first e) ih = rw (place-first x y ys e) (omega arith)
         go (later e f) ih = rw (place-later x y ys e f) (omega arith)
         go (same e f) ih = rw (place-same x y ys e f) (omega arith)
 
-    pub place-length-ge : (x : E) (l : List E) → length l ≤ length (place above x l)
+    pub place-length-ge : (x : E) (l : List E) → length l ≤ length (placed above x l)
     place-length-ge x [] = omega arith
     place-length-ge x (y ∷ ys) = go (stand x y) (place-length-ge x ys)
       where
-        go : Stand x y → length ys ≤ length (place above x ys) → suc (length ys) ≤ length (place above x (y ∷ ys))
+        go : Stand x y → length ys ≤ length (placed above x ys) → suc (length ys) ≤ length (placed above x (y ∷ ys))
         go (first e) ih = rw (place-first x y ys e) (omega arith)
         go (later e f) ih = rw (place-later x y ys e f) (omega arith)
         go (same e f) ih = rw (place-same x y ys e f) (omega arith)
 
-    place-length : (x : E) (l : List E) → (x ∈ l → ⊥) → length (place above x l) ≡ suc (length l)
+    place-length : (x : E) (l : List E) → (x ∈ l → ⊥) → length (placed above x l) ≡ suc (length l)
     place-length x [] h = refl
     place-length x (y ∷ ys) h = go (stand x y) (place-length x ys (λ m. h (there m)))
       where
-        go : Stand x y → length (place above x ys) ≡ suc (length ys) → length (place above x (y ∷ ys)) ≡ suc (suc (length ys))
+        go : Stand x y → length (placed above x ys) ≡ suc (length ys) → length (placed above x (y ∷ ys)) ≡ suc (suc (length ys))
         go (first e) ih = rw (place-first x y ys e)
         go (later e f) ih = rw (place-later x y ys e f) (ap suc ih)
         go (same e f) ih = absurd (h (List·Memᴰ·head (order .total x y e f)))
@@ -329,12 +329,12 @@ module _ {E : Type 0} (above : E → E → Bool) where
     length-same l m v w s = sym (length-rank l v) ∙ ap length (rank-same l m s) ∙ length-rank m w
 
     -- above the last of a list: x stands among as many as there were
-    place-in-take : (x : E) (l : List E) → onLast (above x) l ≡ true → x ∈ take (length l) (place above x l)
+    place-in-take : (x : E) (l : List E) → onLast (above x) l ≡ true → x ∈ take (length l) (placed above x l)
     place-in-take x [] h = clash {b = false} h refl
     place-in-take x (y ∷ []) h = rw (place-first x y [] h) here
     place-in-take x (y ∷ u ∷ us) h = go (stand x y) (place-in-take x (u ∷ us) h)
       where
-        go : Stand x y → x ∈ take (suc (length us)) (place above x (u ∷ us)) → x ∈ take (suc (suc (length us))) (place above x (y ∷ u ∷ us))
+        go : Stand x y → x ∈ take (suc (length us)) (placed above x (u ∷ us)) → x ∈ take (suc (suc (length us))) (placed above x (y ∷ u ∷ us))
         go (first e) ih = rw (place-first x y (u ∷ us) e) here
         go (later e f) ih = rw (place-later x y (u ∷ us) e f) (there ih)
         go (same e f) ih = rw (place-same x y (u ∷ us) e f) (List·Memᴰ·head (order .total x y e f))
@@ -342,13 +342,13 @@ module _ {E : Type 0} (above : E → E → Bool) where
     pub enters : (k : ℕ) (x : E) (l : List E) → Enters k x l → x ∈ best above k (x ∷ l)
     enters k x l (inl short) =
         rw (best-cons k x l)
-        (rw (take-all k (place above x (best above k l)) (omega (arith, place-length-le x (best above k l)))) (place-in x (best above k l)))
+        (rw (take-all k (placed above x (best above k l)) (omega (arith, place-length-le x (best above k l)))) (place-in x (best above k l)))
     enters k x l (inr (inl m)) =
         rw (best-cons k x l)
         (rw (place-there x (best above k l) (best-falling k l) m) (rw (take-all k (best above k l) (length-best-le k l)) m))
     enters k x l (inr (inr h)) =
         rw (best-cons k x l)
-        (take-more (place above x (best above k l)) (length-best-le k l) x (place-in-take x (best above k l) h))
+        (take-more (placed above x (best above k l)) (length-best-le k l) x (place-in-take x (best above k l) h))
 
     pub entered : (k : ℕ) (x : E) (l : List E) → x ∈ best above k (x ∷ l) → Enters k x l
     entered zero x l m = absurd (List·Memᴰ·not-nil m)
@@ -378,7 +378,7 @@ module _ {E : Type 0} (above : E → E → Bool) where
         rw (e, only) (ap suc (falling-place d xs n (w .1) g))
 
     -- one more that is new: it is put in its rank and the list is cut to k where the list is short or it ranks above the last, and else nothing changes
-    pub best-rule : (k : ℕ) (x : E) (l : List E) → (x ∈ l → ⊥) → best above k (x ∷ l) ≡ cond (ltb (length (best above k l)) k || onLast (above x) (best above k l)) (take k (place above x (best above k l))) (best above k l)
+    pub best-rule : (k : ℕ) (x : E) (l : List E) → (x ∈ l → ⊥) → best above k (x ∷ l) ≡ cond (ltb (length (best above k l)) k || onLast (above x) (best above k l)) (take k (placed above x (best above k l))) (best above k l)
     best-rule k x l new = go (tested (short || over))
       where
         L : List E
@@ -396,12 +396,12 @@ module _ {E : Type 0} (above : E → E → Bool) where
             (⊎-elim (λ h. new (best-of k l x h)) (λ h. clash (or-right short over h) e))
             (entered k x l m)
 
-        go : Tested (short || over) → best above k (x ∷ l) ≡ cond (short || over) (take k (place above x L)) L
+        go : Tested (short || over) → best above k (x ∷ l) ≡ cond (short || over) (take k (placed above x L)) L
         go (passed e) = rw (e, cond) (best-cons k x l)
         go (failed e) = rw (e, cond) (best-leave k x l (refused e))
 
     -- one more at the end, as a scan meets it
-    pub best-snoc : (k : ℕ) (l : List E) (x : E) → best above k (l ++ (x ∷ [])) ≡ take k (place above x (best above k l))
+    pub best-snoc : (k : ℕ) (l : List E) (x : E) → best above k (l ++ (x ∷ [])) ≡ take k (placed above x (best above k l))
     best-snoc k l x = best-same k (l ++ (x ∷ [])) (x ∷ l) (swapped l (x ∷ []), swapped (x ∷ []) l) ∙ best-cons k x l
 
     -- a ranked list of at most k is its own best k
@@ -410,7 +410,7 @@ module _ {E : Type 0} (above : E → E → Bool) where
 
     -- what doesn't rank above the last of a full list changes nothing: it is below it, or is it
     pub best-skip : (k : ℕ) (x : E) (l : List E) → 1 ≤ k → length (best above k l) ≡ k → onLast (above x) (best above k l) ≡ false → best above k (x ∷ l) ≡ best above k l
-    best-skip k x l some full h = go (tested (onLast (λ z. above z x) L))
+    best-skip k x l positive full h = go (tested (onLast (λ z. above z x) L))
       where
         L : List E
         L = best above k l

@@ -11,7 +11,7 @@ use borrow.Author.Tests.{lt-ltb}
 use lib.Dec.{ltb}
 use lib.ListN.{length, length-take}
 use Rattle.laws.specs.Lists.{_∈_, onLast}
-use Rattle.search.specs.Best.{place, best}
+use Rattle.search.specs.Best.{placed, best}
 use Rattle.search.specs.Search.{Search, entries, marks}
 use Rattle.laws.proofs.Tests.{Tested, passed, failed, tested, or-left, or-right}
 use Rattle.laws.proofs.Lists.{lt-or-eq, take-⊆, moved}
@@ -23,7 +23,7 @@ module _ {E I : Type 0} (s : Search E I) where
   abbrev pub Guarded : ℕ → List ℕ → List E → Type 0
   Guarded k marked l = (c : ℕ) → c ∈ s .order → (c ∈ marked → ⊥) → (length l ≡ k) × (onLast (s .reaches c) l ≡ false)
 
-  module _ {Good : I → Type 0} (sound : Sound s Good) (k : ℕ) (some : 1 ≤ k) where
+  module _ {Good : I → Type 0} (sound : Sound s Good) (k : ℕ) (positive : 1 ≤ k) where
     lowest-full : (l : List E) → length (best (s .above) k l) ≡ k → Lowest (s .above) (best (s .above) k l)
     lowest-full l e = lowest-some (s .above) (sound .strict) (best (s .above) k l) (best-falling (s .above) (sound .strict) k l) (omega arith)
 
@@ -35,10 +35,10 @@ module _ {E I : Type 0} (s : Search E I) where
         L = best (s .above) k (entries s hs)
 
         full : (length L < k) ⊎ (length L ≡ k) → length L ≡ k
-        full = ⊎-elim (λ h. absurd (off (mattering s sound hs good k some c m (or-left (ltb (length L) k) (onLast (s .reaches c) L) (lt-ltb (length L) k h))))) (λ e. e)
+        full = ⊎-elim (λ h. absurd (off (mattering s sound hs good k positive c m (or-left (ltb (length L) k) (onLast (s .reaches c) L) (lt-ltb (length L) k h))))) (λ e. e)
 
         low : Tested (onLast (s .reaches c) L) → onLast (s .reaches c) L ≡ false
-        low (passed h) = absurd (off (mattering s sound hs good k some c m (or-right (ltb (length L) k) (onLast (s .reaches c) L) h)))
+        low (passed h) = absurd (off (mattering s sound hs good k positive c m (or-right (ltb (length L) k) (onLast (s .reaches c) L) h)))
         low (failed h) = h
 
     -- What enters an unmarked cell changes nothing.
@@ -66,10 +66,10 @@ module _ {E I : Type 0} (s : Search E I) where
           full : length (best (s .above) k (x ∷ l)) ≡ k
           full =
               ap length (best-cons (s .above) (sound .strict) k x l)
-              ∙ length-take k (place (s .above) x L)
+              ∙ length-take k (placed (s .above) x L)
               ∙ shorter (place-length-ge (s .above) (sound .strict) x L)
             where
-              shorter : length L ≤ length (place (s .above) x L) → min k (length (place (s .above) x L)) ≡ k
+              shorter : length L ≤ length (placed (s .above) x L) → min k (length (placed (s .above) x L)) ≡ k
               shorter h = omega (arith, was-full)
 
           low′ : Lowest (s .above) (best (s .above) k (x ∷ l))
@@ -90,7 +90,7 @@ module _ {E I : Type 0} (s : Search E I) where
               (λ e. subst (λ v. (v ≡ low .entry) ⊎ (s .above v (low .entry) ≡ true)) (sym e) (new (moved e t)))
               (low .rest z)
               (place-of (s .above) (sound .strict) x L
-              (take-⊆ k (place (s .above) x L) z (subst (λ b. z ∈ b) (best-cons (s .above) (sound .strict) k x l) t)))
+              (take-⊆ k (placed (s .above) x L) z (subst (λ b. z ∈ b) (best-cons (s .above) (sound .strict) k x l) t)))
 
           under : s .reaches c (low .entry) ≡ false
           under = sym (low .is-last (s .reaches c)) ∙ g c m off .1

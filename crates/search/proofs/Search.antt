@@ -14,12 +14,13 @@ use lib.ListN.{length, take, drop, take-append-drop, length-drop}
 use lib.Seq.{drop-length, length-take-le, take-nil}
 use Rattle.laws.specs.Lists.{_∈_, onLast, only}
 use Rattle.search.specs.Best.{best}
-use Rattle.search.specs.Search.{Search, has, entries, heldIn, listAfter, stops, ended, steps, found, marks, matters}
+use Rattle.search.specs.Search.{Search, has, entries, heldIn, listAfter, stops, ended, steps, found, marks}
 use Rattle.laws.proofs.Tests.{Tested, passed, failed, tested, clash, and-both, and-true, or-either, or-left, or-right}
 use Rattle.laws.proofs.Lists.{_⊆_, Same, Pairwise, Distinct, there, moved, take-⊆, take-more, lt-or-eq, pairwise-drop, pairwise-take, pairwise-only, only-in, only-of, only-all-fail, placed, take-next, Other}
 use Rattle.laws.proofs.Orders.{StrictTotal, ltb-strict, opposite, differs}
 use Rattle.search.proofs.Best.{Falling, Lowest, lowest-of, best-falling, best-of, best-same, best-append, best-part, best-below-all, length-best-le, length-same, enters, entered, lowest-some}
 use Rattle.search.proofs.Least.{least-before, least-holds, least-le, least-same}
+use Rattle.search.specs.Inner.{matters}
 
 -- ---- cells and tests
 
@@ -308,7 +309,7 @@ module _ {E I : Type 0} (s : Search E I) {Good : I → Type 0} (sound : Sound s 
             ⊎-elim (λ h. h (eqb-true (length L) k (both .0))) (λ h. clash (both .1) (no-last p L h)) room
 
     -- ---- why the steps are exact
-    module _ (k : ℕ) (some : 1 ≤ k) where
+    module _ (k : ℕ) (positive : 1 ≤ k) where
       abbrev L : List E
       L = best (s .above) k (entries s hs)
 

@@ -6,18 +6,18 @@ use lib.ListN.{take}
 
 module _ {E : Type 0} (above : E → E → Bool) where
   -- x put in its rank into a ranked list, and not put where it already stands: each stands there once
-  abbrev pub place : E → List E → List E
-  place x [] = x ∷ []
-  place x (y ∷ ys) =
+  abbrev pub placed : E → List E → List E
+  placed x [] = x ∷ []
+  placed x (y ∷ ys) =
       elim (above x y) [
         | true ↦ x ∷ y ∷ ys
-        | false ↦ elim (above y x) [ true ↦ y ∷ place x ys | false ↦ y ∷ ys ]
+        | false ↦ elim (above y x) [ true ↦ y ∷ placed x ys | false ↦ y ∷ ys ]
       ]
 
   -- the ranking: each once, highest first
   abbrev pub rank : List E → List E
   rank [] = []
-  rank (x ∷ xs) = place x (rank xs)
+  rank (x ∷ xs) = placed x (rank xs)
 
   -- rule 6.4: the first k of that ranking, or all of them
   abbrev pub best : ℕ → List E → List E

@@ -1,8 +1,8 @@
 -- The search over cells, for any rank order, cells and visiting order.
-use mathlib.Core.Bool.{Bool, true, false, not, _&&_, _||_}
+use mathlib.Core.Bool.{Bool, true, false, not, _&&_}
 use mathlib.Core.List.{List, [], _∷_, map}
 use Prim.Native.Nat.{ℕ, zero, suc}
-use lib.Dec.{eqb, ltb}
+use lib.Dec.{eqb}
 use lib.ListN.{length, take, drop}
 use Rattle.laws.specs.Lists.{onLast, only}
 use Rattle.search.specs.Best.{best}
@@ -61,9 +61,3 @@ module _ {E I : Type 0} (s : Search E I) where
   -- rule 7.5: the cells that a search has taken
   abbrev pub marks : ℕ → List I → List ℕ
   marks k hs = take (steps k hs) (s .order)
-
-  -- the cell could put an entry on the list of all that is held: it is short, or the cell reaches its last entry
-  abbrev pub matters : ℕ → List I → ℕ → Bool
-  matters k hs c =
-      let true-list = best (s .above) k (entries hs) in
-      ltb (length true-list) k || onLast (s .reaches c) true-list

@@ -39,7 +39,7 @@ fn stopped(next: Next) {
 
 // Writes a line's items, or what is wrong with it. False where its items could not be written.
 fn sent(found: Input, line: &[u8]) -> bool {
-    if found.cut() {
+    if found.is_cut() {
         return true;
     }
     let number = found.number;

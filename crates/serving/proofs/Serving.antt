@@ -25,7 +25,7 @@ use Rattle.board.specs.Work.{slotAt, withSlot, setWork, removeWork, readWork}
 use Rattle.board.proofs.Seats.{set-seated, set-kept}
 use Rattle.text.specs.Text.{rLine, sLine}
 use Rattle.journal.specs.declared.Log.{Log}
-use Rattle.journal.specs.Log.{Outcome, nextItem, counted, withBoard, unless, ruleIn, setItem, removeItem, showItem, itemDone}
+use Rattle.journal.specs.Log.{Outcome, nextItem, withItem, withBoard, unless, ruleIn, setItem, removeItem, showItem, itemDone}
 use Rattle.journal.proofs.Items as items
 use Rattle.serving.specs.Serving.{Served, shownText, seatedText, served}
 
@@ -73,16 +73,16 @@ module _ (log : Log) (window : sized (log .board .window .counts .size) ≡ true
 
   -- the log with another question in a slot
   abbrev pub holding : ℕ → Question → Log
-  holding s q = withBoard (counted log) (withSlot b s q)
+  holding s q = withBoard (withItem log) (withSlot b s q)
 
-  same-slot : (s : ℕ) → counted log ≡ holding s (slotAt b s)
-  same-slot s = λ i. withBoard (counted log) (record { window = b .window; slots = sym (set-getD (b .slots) s noQuestion) i })
+  same-slot : (s : ℕ) → withItem log ≡ holding s (slotAt b s)
+  same-slot s = λ i. withBoard (withItem log) (record { window = b .window; slots = sym (set-getD (b .slots) s noQuestion) i })
 
-  show-done : (s : ℕ) → s < 32 → itemDone log 20 (s ∷ []) ≡ record { text = shownText n s (slotAt b s); log = counted log }
+  show-done : (s : ℕ) → s < 32 → itemDone log 20 (s ∷ []) ≡ record { text = shownText n s (slotAt b s); log = withItem log }
   unfolding showItem readWork readIn unless shownText
   show-done s h = items.show-done log some-rows s ∙ go (tested (eqb (slotAt b s .k) 0))
     where
-      go : Tested (eqb (slotAt b s .k) 0) → showItem (counted log) s ≡ record { text = shownText n s (slotAt b s); log = counted log }
+      go : Tested (eqb (slotAt b s .k) 0) → showItem (withItem log) s ≡ record { text = shownText n s (slotAt b s); log = withItem log }
       go (passed t) = rw (lt-ltb s 32 h, t)
       go (failed t) = rw (lt-ltb s 32 h, t)
 
@@ -90,7 +90,7 @@ module _ (log : Log) (window : sized (log .board .window .counts .size) ≡ true
   unfolding removeItem removeWork unless emptied
   remove-done s h = items.remove-done log some-rows s ∙ go (tested (eqb (slotAt b s .k) 0))
     where
-      go : Tested (eqb (slotAt b s .k) 0) → removeItem (counted log) s ≡ record { text = cond (eqb (slotAt b s .k) 0) (rLine n 17) []; log = holding s (emptied (slotAt b s)) }
+      go : Tested (eqb (slotAt b s .k) 0) → removeItem (withItem log) s ≡ record { text = cond (eqb (slotAt b s .k) 0) (rLine n 17) []; log = holding s (emptied (slotAt b s)) }
       go (passed t) = rw (lt-ltb s 32 h, t) (λ i. record { text = rLine n 17; log = same-slot s i })
       go (failed t) = rw (lt-ltb s 32 h, t)
 
@@ -101,14 +101,14 @@ module _ (log : Log) (window : sized (log .board .window .counts .size) ≡ true
       let s = getD v 0 0 in
       let placed : setWork b s (getD v 1 0) (ruleIn v) ≡ record { refusal = seated .refusal; steps = seated .steps; board = withSlot b s (seated .question) } = set-seated b s (getD v 1 0) (ruleIn v) few e in
       let same : eqb (seated .refusal) 0 ≡ false → withSlot b s (seated .question) ≡ b = λ t. sym (ap (λ (p : Placed). p .board) placed) ∙ set-kept b s (getD v 1 0) (ruleIn v) (eqb-false _ 0 (ap (λ (p : Placed). eqb (p .refusal) 0) placed ∙ t)) in
-      items.set-done log some-rows v long ∙ ap (λ (p : Placed). unless (counted log) (p .refusal) (record { text = sLine n s (p .steps); log = withBoard (counted log) (p .board) })) placed
+      items.set-done log some-rows v long ∙ ap (λ (p : Placed). unless (withItem log) (p .refusal) (record { text = sLine n s (p .steps); log = withBoard (withItem log) (p .board) })) placed
       ∙ go (tested (eqb (seated .refusal) 0)) same
     where
       go : Tested (eqb (seated .refusal) 0) → (eqb (seated .refusal) 0 ≡ false → withSlot b (getD v 0 0) (seated .question) ≡ b)
-          → unless (counted log) (seated .refusal) (record { text = sLine n (getD v 0 0) (seated .steps); log = holding (getD v 0 0) (seated .question) })
+          → unless (withItem log) (seated .refusal) (record { text = sLine n (getD v 0 0) (seated .steps); log = holding (getD v 0 0) (seated .question) })
           ≡ record { text = seatedText n (getD v 0 0) (seated .refusal) (seated .steps); log = holding (getD v 0 0) (seated .question) }
       go (passed t) same = rw t
-      go (failed t) same = rw t (λ j. record { text = rLine n (seated .refusal); log = withBoard (counted log) (sym (same t) j) })
+      go (failed t) same = rw t (λ j. record { text = rLine n (seated .refusal); log = withBoard (withItem log) (sym (same t) j) })
 
   module _ (tag : ℕ) (v : List ℕ) (few : getD v 0 0 < 32) where
     abbrev does : Served

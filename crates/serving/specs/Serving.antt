@@ -15,7 +15,7 @@ use Rattle.journal.specs.Log.{ruleIn}
 
 -- What showing a slot prints that has that question in it.
 unfoldable pub shownText : (item slot : ℕ) → Question → List ℕ
-shownText item slot q = cond (eqb (q .k) 0) (rLine item 17) (qLine slot (take (q .len) (text.listed (q .numbers) (q .scores))))
+shownText item slot q = cond (eqb (q .k) 0) (rLine item 17) (qLine slot (take (q .len) (text.entriesOf (q .numbers) (q .scores))))
 
 -- What setting a question prints: the S line of its search, or the refusal's line.
 unfoldable pub seatedText : (item slot refusal steps : ℕ) → List ℕ

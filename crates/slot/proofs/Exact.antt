@@ -38,8 +38,8 @@ pub record Exactly (w : Window) (k : ℕ) (rule : Rule) (answered : ℕ) (p : Qu
 
 exactly : (w : Window) → fitWindow w ≡ true → (q : Question) → 1 ≤ q .k → q .k ≤ 16 → Exactly w (q .k) (q .rule) (searchedAmong q (inRows w) .steps) (searchedAmong q (inRows w) .question)
 unfolding searched
-exactly w fit q some small =
-    let f = search-finds w fit (asked (q .k) (q .rule) [] 0) some small in
+exactly w fit q positive small =
+    let f = search-finds w fit (asked (q .k) (q .rule) [] 0) positive small in
     let same = among-held w fit q small in
     record {
       found = subst (Found w (asked (q .k) (q .rule) [] 0)) (sym (ap (λ (r : Searched). r .question) same)) f;
@@ -55,15 +55,15 @@ module _ (w : Window) (fit : fitWindow w ≡ true) (q : Question) where
   pub set-exact : (k : ℕ) (rule : Rule) → setIn q k rule (inRows w) .refusal ≡ 0 → Exactly w k rule (setIn q k rule (inRows w) .steps) (setIn q k rule (inRows w) .question)
   set-exact k rule free =
       let asks = set-asks q k rule (inRows w) free .0 in
-      subst (λ (s : Seated). Exactly w k rule (s .steps) (s .question)) (sym (set-searched q k rule (inRows w) free)) (exactly w fit (asked k rule [] 0) (asks .some) (asks .small))
+      subst (λ (s : Seated). Exactly w k rule (s .steps) (s .question)) (sym (set-searched q k rule (inRows w) free)) (exactly w fit (asked k rule [] 0) (asks .positive) (asks .small))
 
   -- The search that a turn runs, over the reports that are left.
   pub turn-exact : (h : Held) (gone : ℕ) → 1 ≤ q .k → q .k ≤ 16 → turn q h gone (inRows w) .searched ≡ true
       → Exactly w (q .k) (q .rule) (turn q h gone (inRows w) .steps) (turn q h gone (inRows w) .question)
-  turn-exact h gone some small again =
+  turn-exact h gone positive small again =
       let p = listed q h in
       let keeps = listed-keeps q h in
-      let e = exactly w fit p (subst (λ m. 1 ≤ m) (sym (keeps .same-k)) some) (subst (λ m. m ≤ 16) (sym (keeps .same-k)) small) in
+      let e = exactly w fit p (subst (λ m. 1 ≤ m) (sym (keeps .same-k)) positive) (subst (λ m. m ≤ 16) (sym (keeps .same-k)) small) in
       subst (λ (r : Turned). Exactly w (q .k) (q .rule) (r .steps) (r .question)) (sym (turn-searched q h gone (inRows w) (sym (turn-when q h gone (inRows w)) ∙ again)))
       (subst (λ m. Exactly w m (q .rule) (searchedAmong p (inRows w) .steps) (searchedAmong p (inRows w) .question)) (keeps .same-k)
       (subst (λ rule. Exactly w (p .k) rule (searchedAmong p (inRows w) .steps) (searchedAmong p (inRows w) .question)) (keeps .same-rule) e))
@@ -95,5 +95,5 @@ module _ (w : Window) (fit : fitWindow w ≡ true) (q : Question) where
       go (inr e) =
           let p = asked (s .k) (s .rule) [] 0 in
           let whole : searched p (heldReports w) ≡ left = searched-is p (s .asks .small) (heldReports w) ∙ ap (reached (s .k) (s .rule) (heldReports w)) (sym e) ∙ sym is in
-          let f = subst (Found w p) whole (search-finds w fit p (s .asks .some) (s .asks .small)) in
+          let f = subst (Found w p) whole (search-finds w fit p (s .asks .positive) (s .asks .small)) in
           record { found = f; answered-is = f .steps-are }

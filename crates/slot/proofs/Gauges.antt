@@ -22,11 +22,11 @@ use Rattle.laws.proofs.Tests.{Tested, passed, failed, tested, and-both, and-tru
 use Rattle.question.specs.declared.Question.{Question}
 use Rattle.list.specs.Lines.{linesOf, allOf}
 use Rattle.question.specs.Lines.{lines}
-use Rattle.question.specs.Inner.{shown}
+use Rattle.question.specs.Inner.{lineCount}
 use Rattle.list.proofs.Stored.{Roomy, lineAt, take-line}
 use Rattle.question.proofs.Stored.{all-lines, last-line, no-lines}
 use Rattle.slot.specs.Turn.{placeOn, takes, lists}
-use Rattle.slot.specs.Gauges.{lastScore, leastOf, lowest, lowOf, gaugeOf, isQuiet, isIdle, upToLast}
+use Rattle.slot.specs.Gauges.{lastScore, leastOf, lowest, lowestOf, gaugeOf, isQuiet, isIdle, upToLast}
 use Rattle.slot.proofs.Listing.{takes-no-place, front-numbers, later-numbers, line-left}
 
 -- ---- what the gauge is read off
@@ -41,15 +41,15 @@ nonzero zero h = absurd (h refl)
 nonzero (suc n) h = omega arith
 
 module _ (q : Question) where
-  pub least-none : shown q ≡ 0 → leastOf q ≡ pos 2147483647
+  pub least-none : lineCount q ≡ 0 → leastOf q ≡ pos 2147483647
   unfolding leastOf
   least-none e = ap lastScore (no-lines q e)
 
-  pub least-last : Roomy (q .numbers) (q .scores) → (i : ℕ) → i + 1 ≡ shown q → leastOf q ≡ getD (q .scores) i (pos 0)
+  pub least-last : Roomy (q .numbers) (q .scores) → (i : ℕ) → i + 1 ≡ lineCount q → leastOf q ≡ getD (q .scores) i (pos 0)
   unfolding leastOf
   least-last r i e =
-      ap lastScore (sym (all-lines q r (shown q) refl (i + 1) e) ∙ take-line (q .numbers) (q .scores) r (shown q) (omega arith) i (omega arith))
-      ∙ last-score (take i (take (shown q) (linesOf (q .numbers) (q .scores)))) (lineAt (q .numbers) (q .scores) i)
+      ap lastScore (sym (all-lines q r (lineCount q) refl (i + 1) e) ∙ take-line (q .numbers) (q .scores) r (lineCount q) (omega arith) i (omega arith))
+      ∙ last-score (take i (take (lineCount q) (linesOf (q .numbers) (q .scores)))) (lineAt (q .numbers) (q .scores) i)
 
   -- A place on the list, by its last score.
   pub place-by : Roomy (q .numbers) (q .scores) → (s : ℤ) → placeBy (q .rule) (q .k) (q .len) (leastOf q) s ≡ placeOn q s
@@ -58,21 +58,21 @@ module _ (q : Question) where
       go : Tested (eqb (q .len) 0) → placeBy (q .rule) (q .k) (q .len) (leastOf q) s ≡ placeOn q s
       go (passed t) =
           let none = eqb-true (q .len) 0 t in
-          let empty : shown q ≡ 0 = omega arith in
+          let empty : lineCount q ≡ 0 = omega arith in
           sym (ap (λ l. hasPlace (q .rule) (q .k) (q .len) l s) (no-lines q empty) ∙ place-none (q .rule) (q .k) (q .len) s (leastOf q) none)
       go (failed t) =
-          let some = eqb-false (q .len) 0 t in
-          let last : shown q - 1 + 1 ≡ shown q = omega (arith, nonzero (q .len) some) in
+          let positive = eqb-false (q .len) 0 t in
+          let last : lineCount q - 1 + 1 ≡ lineCount q = omega (arith, nonzero (q .len) positive) in
           sym
-          (place-last (q .rule) (q .k) (q .len) s (lines q) (lineAt (q .numbers) (q .scores) (shown q - 1)) (nonzero (q .len) some) (last-line q r (shown q - 1) last)
-          ∙ ap (λ z. placeBy (q .rule) (q .k) (q .len) z s) (sym (least-last r (shown q - 1) last)))
+          (place-last (q .rule) (q .k) (q .len) s (lines q) (lineAt (q .numbers) (q .scores) (lineCount q - 1)) (nonzero (q .len) positive) (last-line q r (lineCount q - 1) last)
+          ∙ ap (λ z. placeBy (q .rule) (q .k) (q .len) z s) (sym (least-last r (lineCount q - 1) last)))
 
-  pub low-room : q .len < q .k → lowOf q ≡ 0
-  unfolding lowOf
+  pub low-room : q .len < q .k → lowestOf q ≡ 0
+  unfolding lowestOf
   low-room h = rw (lt-ltb (q .len) (q .k) h)
 
-  pub low-numbers : q .k ≤ q .len → Roomy (q .numbers) (q .scores) → (n : ℕ) → n ≡ shown q → lowOf q ≡ lowest (take n (q .numbers))
-  unfolding lowOf
+  pub low-numbers : q .k ≤ q .len → Roomy (q .numbers) (q .scores) → (n : ℕ) → n ≡ lineCount q → lowestOf q ≡ lowest (take n (q .numbers))
+  unfolding lowestOf
   low-numbers full r n e = rw (le-ltb (q .len) (q .k) full) (ap lowest (front-numbers q r n e))
 
 -- one number more, from the end
@@ -90,8 +90,8 @@ below-all : (n : ℕ) (l : List ℕ) → n < lowest l → allOf (ltb n) l ≡ tr
 below-all n [] h = refl
 below-all n (x ∷ l) h = and-true (lt-ltb n x (omega arith)) (below-all n l (omega arith))
 
-full-there : (q : Question) (n : ℕ) → n < lowOf q → (ltb (q .len) (q .k) ≡ false) × (n < lowest (map (λ e. e .number) (lines q)))
-unfolding lowOf
+full-there : (q : Question) (n : ℕ) → n < lowestOf q → (ltb (q .len) (q .k) ≡ false) × (n < lowest (map (λ e. e .number) (lines q)))
+unfolding lowestOf
 full-there q n h = go (tested (ltb (q .len) (q .k)))
   where
     go : Tested (ltb (q .len) (q .k)) → (ltb (q .len) (q .k) ≡ false) × (n < lowest (map (λ e. e .number) (lines q)))
@@ -103,8 +103,8 @@ pub quiet-untouched : (q : Question) (gone : ℕ) (v : Values) → isQuiet (gaug
 unfolding isQuiet leastOf lists
 quiet-untouched q gone v e =
     let s = score (q .rule) v in
-    let both = and-both (not (passes (q .rule) s (leastOf q))) (ltb gone (lowOf q)) e in
-    let there = full-there q gone (ltb-true gone (lowOf q) (both .1)) in
+    let both = and-both (not (passes (q .rule) s (leastOf q))) (ltb gone (lowestOf q)) e in
+    let there = full-there q gone (ltb-true gone (lowestOf q) (both .1)) in
     let none = no-place (q .rule) (q .k) (q .len) s (lines q) (there .0) (no-last (q .rule) (lines q) s (not-true _ (both .0))) in
     rw (takes-no-place q v none, later-numbers gone (lines q) ∙ below-all gone (map (λ x. x .number) (lines q)) (there .1))
 
@@ -114,7 +114,7 @@ unfolding lists
 idle-untouched q gone v e =
     let both = and-both (eqb (q .k) 0) (eqb (q .len) 0) e in
     let k = eqb-true (q .k) 0 (both .0) in
-    let empty : shown q ≡ 0 = omega (arith, eqb-true (q .len) 0 (both .1)) in
+    let empty : lineCount q ≡ 0 = omega (arith, eqb-true (q .len) 0 (both .1)) in
     let s = score (q .rule) v in
     let none = no-place (q .rule) (q .k) (q .len) s (lines q) (le-ltb (q .len) (q .k) (omega arith)) (ap (onLast (λ e. passes (q .rule) s (e .score))) (no-lines q empty)) in
     rw (takes-no-place q v none, no-lines q empty)

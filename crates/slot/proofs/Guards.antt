@@ -12,19 +12,19 @@ use Rattle.ranking.specs.Standing.{Held, Permitted, entry, entries, top, search
 use Rattle.ranking.specs.declared.Rule.{Rule}
 use Rattle.ranking.proofs.Standing.{sound, reach-rises}
 
-module _ (rule : Rule) (k : ℕ) (some : 1 ≤ k) where
+module _ (rule : Rule) (k : ℕ) (positive : 1 ≤ k) where
   -- The marks of a search guard its list.
   pub marks-guard : (hs : List Held) → All Permitted hs → Guarded (searchOf rule) k (marks (searchOf rule) k hs) (top rule k hs)
   unfolding entries
-  marks-guard hs good = guard-search (searchOf rule) (sound rule) k some hs good
+  marks-guard hs good = guard-search (searchOf rule) (sound rule) k positive hs good
 
   module _ (marked : List ℕ) (hs : List Held) (guarded : Guarded (searchOf rule) k marked (top rule k hs)) (h : Held) where
     -- A report in a cell without a mark changes nothing.
     pub unmarked-same : Permitted h → (cell (h .values) ∈ marked → ⊥) → top rule k (h ∷ hs) ≡ top rule k hs
     unfolding entries
-    unmarked-same p out = guard-unmarked (searchOf rule) (sound rule) k some marked (entries rule hs) guarded h p out
+    unmarked-same p out = guard-unmarked (searchOf rule) (sound rule) k positive marked (entries rule hs) guarded h p out
 
     -- They go on guarding the list with one report more.
     pub guard-kept : Guarded (searchOf rule) k marked (top rule k (h ∷ hs))
     unfolding entries
-    guard-kept = guard-enter (searchOf rule) (sound rule) k some (reach-rises rule) marked (entry rule h) (entries rule hs) guarded
+    guard-kept = guard-enter (searchOf rule) (sound rule) k positive (reach-rises rule) marked (entry rule h) (entries rule hs) guarded

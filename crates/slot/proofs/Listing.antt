@@ -17,7 +17,7 @@ use Rattle.ranking.specs.Standing.{Held, Entry, entry}
 use Rattle.question.specs.declared.Question.{Question}
 use Rattle.list.specs.Lines.{linesOf, allOf}
 use Rattle.question.specs.Lines.{lines, withEntry, cutToK, isMarked}
-use Rattle.question.specs.Inner.{shown}
+use Rattle.question.specs.Inner.{lineCount}
 use Rattle.list.proofs.Stored.{Roomy, take-min}
 use Rattle.slot.specs.Turn.{placeOn, takes, listed, later, lists}
 
@@ -65,7 +65,7 @@ numbers-of (x ∷ ns) (y ∷ ss) zero e = refl
 numbers-of (x ∷ ns) (y ∷ ss) (suc n) e = let same : length ns ≡ length ss = omega arith in ap (λ l. x ∷ l) (numbers-of ns ss n same)
 
 -- the numbers of the lines stand at the front of their array
-pub front-numbers : (q : Question) → Roomy (q .numbers) (q .scores) → (n : ℕ) → n ≡ shown q → map (λ e. e .number) (lines q) ≡ take n (q .numbers)
+pub front-numbers : (q : Question) → Roomy (q .numbers) (q .scores) → (n : ℕ) → n ≡ lineCount q → map (λ e. e .number) (lines q) ≡ take n (q .numbers)
 front-numbers q r n e =
     numbers-of (q .numbers) (q .scores) (q .len) (r .numbers ∙ sym (r .scores))
     ∙ sym (ap (λ m. take m (q .numbers)) e ∙ ap (λ m. take (min (q .len) m) (q .numbers)) (sym (r .numbers)) ∙ sym (take-min (q .len) (q .numbers)))
@@ -74,7 +74,7 @@ pub later-numbers : (gone : ℕ) (l : List Entry) → allOf (later gone) l ≡ a
 later-numbers gone [] = refl
 later-numbers gone (x ∷ l) = ap (λ b. ltb gone (x .number) && b) (later-numbers gone l)
 
-pub lists-numbers : (q : Question) (gone : ℕ) → Roomy (q .numbers) (q .scores) → (n : ℕ) → n ≡ shown q → not (allOf (ltb gone) (take n (q .numbers))) ≡ lists q gone
+pub lists-numbers : (q : Question) (gone : ℕ) → Roomy (q .numbers) (q .scores) → (n : ℕ) → n ≡ lineCount q → not (allOf (ltb gone) (take n (q .numbers))) ≡ lists q gone
 unfolding lists
 lists-numbers q gone r n e = ap not (sym (later-numbers gone (lines q) ∙ ap (allOf (ltb gone)) (front-numbers q r n e)))
 

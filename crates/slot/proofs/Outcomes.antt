@@ -20,8 +20,8 @@ use Rattle.slot.proofs.gauge.Gauge.of.Kinds as gauge-kinds
 use Rattle.slot.proofs.gauge.Gauge.of.Reads as gauge-reads
 use Rattle.slot.proofs.gauge.Gauge.quiet.Kinds as quiet-kinds
 use Rattle.slot.proofs.gauge.Gauge.quiet.Reads as quiet-reads
-use Rattle.slot.proofs.gauge.Gauge.all.Kinds as gauges-kinds
-use Rattle.slot.proofs.gauge.Gauge.all.Reads as gauges-reads
+use Rattle.slot.proofs.gauge.Gauge.of_slots.Kinds as gauges-kinds
+use Rattle.slot.proofs.gauge.Gauge.of_slots.Reads as gauges-reads
 use Rattle.slot.proofs.gauge.Gauge.in_use.Kinds as in-use-kinds
 use Rattle.slot.proofs.gauge.Gauge.in_use.Reads as in-use-reads
 

@@ -60,7 +60,7 @@ module _ (q : Question) (k : ℕ) (rule : Rule) (reports : List Held) where
         let r2 = no-refusal (leb 1 k && leb k 16) (cond (fitRule rule) used 15) 13 (sym set-refusal ∙ free) in
         let r3 = no-refusal (fitRule rule) used 14 (r2 .1) in
         let ks = and-both (leb 1 k) (leb k 16) (r2 .0) in
-        (record { some = leb-true 1 k (ks .0); small = leb-true k 16 (ks .1); rule-fits = r3 .0 }, eqb-true (q .k) 0 (no-refusal (eqb (q .k) 0) 0 15 (r3 .1) .0))
+        (record { positive = leb-true 1 k (ks .0); small = leb-true k 16 (ks .1); rule-fits = r3 .0 }, eqb-true (q .k) 0 (no-refusal (eqb (q .k) 0) 0 15 (r3 .1) .0))
 
     -- Rule 6.5: a question that is set is searched.
     pub set-searched : setIn q k rule reports ≡ record { refusal = 0; steps = searchedAmong (asked k rule [] 0) reports .steps; question = searchedAmong (asked k rule [] 0) reports .question }

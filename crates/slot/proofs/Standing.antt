@@ -52,7 +52,7 @@ taken rule next = marked (asked 0 rule [] next)
 
 -- What can be asked.
 pub record Asks (k : ℕ) (rule : Rule) : Type 0 where
-  pub some : 1 ≤ k
+  pub positive : 1 ≤ k
   pub small : k ≤ 16
   pub rule-fits : fitRule rule ≡ true
 
@@ -93,9 +93,9 @@ search-stands w fit q asks =
       rule = q .rule;
       next = cellAt (q .rule) n;
       asks = asks;
-      cell-range = fit-facts w (reached (q .k) (q .rule) hs n) (reached-fit w fit q (asks .some) (asks .small) (asks .rule-fits) n (steps-bounded (q .rule) (q .k) hs)) .numbers .cell-range;
-      is = come .stored ∙ ap (λ l. asked (q .k) (q .rule) l (cellAt (q .rule) n)) (search-finds w fit q (asks .some) (asks .small) .list);
-      guarded = subst (λ m. Guarded (searchOf (q .rule)) (q .k) m (top (q .rule) (q .k) hs)) (sym (come .marks-are)) (marks-guard (q .rule) (q .k) (asks .some) hs (held-permitted w fit));
+      cell-range = fit-facts w (reached (q .k) (q .rule) hs n) (reached-fit w fit q (asks .positive) (asks .small) (asks .rule-fits) n (steps-bounded (q .rule) (q .k) hs)) .numbers .cell-range;
+      is = come .stored ∙ ap (λ l. asked (q .k) (q .rule) l (cellAt (q .rule) n)) (search-finds w fit q (asks .positive) (asks .small) .list);
+      guarded = subst (λ m. Guarded (searchOf (q .rule)) (q .k) m (top (q .rule) (q .k) hs)) (sym (come .marks-are)) (marks-guard (q .rule) (q .k) (asks .positive) hs (held-permitted w fit));
     }
 
 -- ---- a report is added
@@ -122,7 +122,7 @@ module _ (hs : List Held) (k : ℕ) (rule : Rule) (next : ℕ) (asks : Asks k ru
       go : Tested (isMarked q (cell (h .values))) → Tested (placeOn q (score rule (h .values))) → listed q h ≡ asked k rule (top rule k (h ∷ hs)) next
       go (failed off) t =
           listed-unmarked q h off
-          ∙ same (sym (unmarked-same rule k (asks .some) (taken rule next) hs guarded h permitted (λ m. clash (in-has (cell (h .values)) (marked q) m) off)))
+          ∙ same (sym (unmarked-same rule k (asks .positive) (taken rule next) hs guarded h permitted (λ m. clash (in-has (cell (h .values)) (marked q) m) off)))
       go (passed on) (passed p) =
           listed-taken q h on p
           ∙ joined-asked k rule (top rule k hs) next (entry rule h) (asks .small) room
@@ -133,7 +133,7 @@ module _ (hs : List Held) (k : ℕ) (rule : Rule) (next : ℕ) (asks : Asks k ru
 
   -- The marks go on guarding the list.
   pub guard-more : Guarded (searchOf rule) k (taken rule next) (top rule k (h ∷ hs))
-  guard-more = guard-kept rule k (asks .some) (taken rule next) hs guarded h
+  guard-more = guard-kept rule k (asks .positive) (taken rule next) hs guarded h
 
 -- ---- fitness
 
@@ -143,7 +143,7 @@ module _ (w : Window) (fit : fitWindow w ≡ true) where
       subst (λ p. fitQuestion w p ≡ true) (sym (s .is))
       (fit-asked w fit (s .k) (s .rule) (top (s .rule) (s .k) (heldReports w)) (s .next)
       (record {
-        some = s .asks .some;
+        positive = s .asks .positive;
         small = s .asks .small;
         rule-fits = s .asks .rule-fits;
         cell-range = s .cell-range;
@@ -174,7 +174,7 @@ module _ (w : Window) (fit : fitWindow w ≡ true) where
           or-right (leb 256 (s .next)) (eqb (p .len) (p .k) && onLast (λ e. not (reaches (s .rule) (s .next) e)) (lines p))
           (and-true (eq-eqb (p .len) (p .k) (g .0))
           (ap (onLast (λ e. not (reaches (s .rule) (s .next) e))) (lines-asked (s .k) (s .rule) (top (s .rule) (s .k) (heldReports w)) (s .next) room)
-          ∙ last (top (s .rule) (s .k) (heldReports w)) (omega (arith, g .0, s .asks .some)) (g .1)))
+          ∙ last (top (s .rule) (s .k) (heldReports w)) (omega (arith, g .0, s .asks .positive)) (g .1)))
 
       go : Tested (ltb (s .next) 256) → finished p ≡ true
       go (passed t) = ended (ltb-true (s .next) 256 t)
@@ -183,7 +183,7 @@ module _ (w : Window) (fit : fitWindow w ≡ true) where
   pub searches-fit : (q : Question) → Searches w q → fitQuestion w q ≡ true
   searches-fit q s =
       ap (fitQuestion w) (s .is)
-      ∙ reached-fit w fit (asked (s .k) (s .rule) [] 0) (s .asks .some) (s .asks .small) (s .asks .rule-fits) (s .n) (omega (arith, s .before-end, steps-bounded (s .rule) (s .k) (heldReports w)))
+      ∙ reached-fit w fit (asked (s .k) (s .rule) [] 0) (s .asks .positive) (s .asks .small) (s .asks .rule-fits) (s .n) (omega (arith, s .before-end, steps-bounded (s .rule) (s .k) (heldReports w)))
 
   pub searches-on : (q : Question) → Searches w q → finished q ≡ false
   searches-on q s =
@@ -237,7 +237,7 @@ module _ (w : Window) (fit : fitWindow w ≡ true) where
       unfinished = ap finished (sym (reached-none (s .k) (s .asks .small) (s .rule) (heldReports w))) ∙ finished-other (asked (s .k) (s .rule) [] (cellAt (s .rule) 0)) (cell-at (s .rule) 0 (omega arith)) (λ e. none e)
         where
           none : 0 ≡ s .k → ⊥
-          none e = omega (arith, s .asks .some)
+          none e = omega (arith, s .asks .positive)
 
 -- ---- a fit slot
 
@@ -266,7 +266,7 @@ module _ (w : Window) (fit : fitWindow w ≡ true) (q : Question) where
   not-searching t s = ⊎-elim full ended (or-either (isEmpty q) (fitQuestion w q && finished q) t)
     where
       full : isEmpty q ≡ true → ⊥
-      full e = let none : s .k ≡ 0 = sym (ap (λ p. p .k) (s .is)) ∙ empty-k q e in omega (arith, s .asks .some)
+      full e = let none : s .k ≡ 0 = sym (ap (λ p. p .k) (s .is)) ∙ empty-k q e in omega (arith, s .asks .positive)
 
       ended : fitQuestion w q && finished q ≡ true → ⊥
       ended e = clash (and-both (fitQuestion w q) (finished q) e .1) (searches-on w fit q s)

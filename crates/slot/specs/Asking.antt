@@ -8,7 +8,7 @@ use lib.IntN.{pos}
 use Rattle.ranking.specs.declared.Rule.{Rule}
 use Rattle.ranking.specs.Cells.{fitRule}
 use Rattle.ranking.specs.Standing.{Held}
-use Rattle.list.specs.Lines.{room}
+use Rattle.list.specs.Lines.{mostLines}
 use Rattle.question.specs.declared.Question.{Question}
 use Rattle.question.specs.declared.Searched.{Searched}
 use Rattle.question.specs.Lines.{asked, emptySlot, searchedIn}
@@ -17,11 +17,11 @@ use Rattle.slot.specs.declared.Shown.{Shown}
 
 -- A search of these reports from its beginning to its end, and its steps; none, where k is over 16.
 abbrev pub searchedAmong : Question → List Held → Searched
-searchedAmong q reports = cond (leb (q .k) room) (searchedIn q reports) (record { steps = 0; question = q })
+searchedAmong q reports = cond (leb (q .k) mostLines) (searchedIn q reports) (record { steps = 0; question = q })
 
 -- Refusals 14, 15 and 16, in their order, of a slot that holds a question with that k, or 0.
 abbrev pub askRefusal : (held k : ℕ) → Rule → ℕ
-askRefusal held k rule = cond (leb 1 k && leb k room) (cond (fitRule rule) (cond (eqb held 0) 0 16) 15) 14
+askRefusal held k rule = cond (leb 1 k && leb k mostLines) (cond (fitRule rule) (cond (eqb held 0) 0 16) 15) 14
 
 -- Rule 6.5: a question that is set is searched to the end, and the steps are answered.
 unfoldable pub setIn : Question → ℕ → Rule → List Held → Seated
@@ -41,7 +41,7 @@ emptied q = cond (eqb (q .k) 0) q emptySlot
 
 -- Rule 9.1: the refusal's number, and 0 for all else.
 abbrev pub notShown : ℕ → Shown
-notShown refusal = record { refusal = refusal; len = 0; numbers = replicate room 0; scores = replicate room (pos 0) }
+notShown refusal = record { refusal = refusal; len = 0; numbers = replicate mostLines 0; scores = replicate mostLines (pos 0) }
 
 -- The list as it is stored.
 unfoldable pub readIn : Question → Shown

@@ -27,11 +27,11 @@ lowest [] = 4294967295
 lowest (n ∷ ns) = min n (lowest ns)
 
 -- The lowest number on the list; 0 while the list has room, as no number is below that.
-unfoldable pub lowOf : Question → ℕ
-lowOf q = cond (ltb (q .len) (q .k)) 0 (lowest (map (λ e. e .number) (lines q)))
+unfoldable pub lowestOf : Question → ℕ
+lowestOf q = cond (ltb (q .len) (q .k)) 0 (lowest (map (λ e. e .number) (lines q)))
 
 abbrev pub gaugeOf : Question → Gauge
-gaugeOf q = record { rule = q .rule; least = leastOf q; low = lowOf q }
+gaugeOf q = record { rule = q .rule; least = leastOf q; low = lowestOf q }
 
 -- The list is full, a report of these values has no place on it, and none of a number up to `gone` is on it.
 unfoldable pub isQuiet : Gauge → ℕ → Values → Bool

@@ -6,7 +6,7 @@ ghost use mathlib.Core.List.{map};
 ghost use Prim.Native.Nat.{min};
 ghost use lib.Dec.{eqb};
 ghost use Rattle.values.specs.Range.{low};
-ghost use Rattle.slot.specs.Gauges.{lowOf, gaugeOf, isQuiet, slotCount, inUse};
+ghost use Rattle.slot.specs.Gauges.{lowestOf, gaugeOf, isQuiet, slotCount, inUse};
 use crate::least;
 use crate::lines_in;
 use question::Question;
@@ -32,7 +32,7 @@ impl Gauge {
         Gauge {
             rule,
             least: least(question),
-            low: low(question),
+            low: lowest(question),
         }
     }
 
@@ -48,7 +48,7 @@ impl Gauge {
     }
 
     // The gauge of each slot.
-    pub fn all(slots: [Question; Gauge::SLOTS]) -> [Gauge; Gauge::SLOTS]
+    pub fn of_slots(slots: [Question; Gauge::SLOTS]) -> [Gauge; Gauge::SLOTS]
         ensures { λ r. ⌜ r ≡ map gaugeOf slots ⌝ }
     {
         let rule = Rule::none();
@@ -84,8 +84,8 @@ impl Gauge {
 }
 
 // The lowest number on the list, or 0 while it has room.
-fn low(question: Question) -> u32
-    ensures { λ r. ⌜ r ≡ lowOf question ⌝ }
+fn lowest(question: Question) -> u32
+    ensures { λ r. ⌜ r ≡ lowestOf question ⌝ }
 {
     let len = question.len;
     if len < question.k {

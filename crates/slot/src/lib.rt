@@ -3,7 +3,7 @@ ghost use mathlib.Core.Path.{_≡_};
 ghost use Prim.Native.Nat.{min};
 ghost use Rattle.values.specs.Range.{low};
 ghost use Rattle.window.specs.Rows.{rowCount, standing};
-ghost use Rattle.list.specs.Lines.{room};
+ghost use Rattle.list.specs.Lines.{mostLines};
 ghost use Rattle.list.specs.Rows.{rowsOf};
 ghost use Rattle.slot.specs.Asking.{askRefusal, setIn, emptyRefusal, emptied, notShown, readIn};
 ghost use Rattle.slot.specs.Turn.{placeOn, takes, listed, lists, turn};
@@ -31,8 +31,8 @@ pub struct Seated {
 pub struct Shown {
     pub refusal: u8,
     pub len: u8,
-    pub numbers: [u32; Lines::ROOM],
-    pub scores: [i32; Lines::ROOM],
+    pub numbers: [u32; Lines::MOST],
+    pub scores: [i32; Lines::MOST],
 }
 
 // What a report's entry leaves of a question: whether it was searched, the steps of that, and what the slot holds then.
@@ -57,8 +57,8 @@ impl Shown {
     pub fn refused(refusal: u8) -> Shown
         ensures { λ r. ⌜ r ≡ notShown refusal ⌝ }
     {
-        let numbers = [0u32; Lines::ROOM];
-        let scores = [0i32; Lines::ROOM];
+        let numbers = [0u32; Lines::MOST];
+        let scores = [0i32; Lines::MOST];
         Shown {
             refusal,
             len: 0,
@@ -188,7 +188,7 @@ fn listed(question: Question, number: u32, values: Values) -> Question
     ensures { λ r. ⌜ r ≡ listed question (record { number = number; values = low values }) ⌝ }
 {
     if takes(question, values) {
-        return question.joined(number, question.rule.score(values));
+        return question.cut_with(number, question.rule.score(values));
     }
     question
 }
@@ -198,7 +198,7 @@ fn takes(question: Question, values: Values) -> bool
     ensures { λ r. ⌜ r ≡ takes question (low values) ⌝ }
 {
     if has_place(question, question.rule.score(values)) {
-        return question.marked(Grid::cell(values));
+        return question.is_marked(Grid::cell(values));
     }
     false
 }
@@ -226,7 +226,7 @@ fn least(question: Question) -> i32
 
 // How many lines a list of that length has.
 fn lines_in(len: u8) -> usize
-    ensures { λ r. ⌜ r ≡ min len room ⌝ }
+    ensures { λ r. ⌜ r ≡ min len mostLines ⌝ }
 {
     if len < Question::LINES {
         len as usize

@@ -50,7 +50,7 @@ module _ (bytes : List ℕ) (i : ℕ) where
       let at : i + 3 + 0 ≡ i + 3 = omega arith in
       getD-take (sizeAt bytes i) (drop (i + 3) bytes) 0 0 h ∙ getD-drop (i + 3) bytes 0 0 ∙ ap (λ (k : ℕ). getD bytes k 0) at
 
-  module _ (slot : getD bytes (i + 3) 0 < 32) {tag size : ℕ} (c : Item bytes i tag size) (some : 1 ≤ size) (other : tag ≡ 18 → ⊥) where
+  module _ (slot : getD bytes (i + 3) 0 < 32) {tag size : ℕ} (c : Item bytes i tag size) (positive : 1 ≤ size) (other : tag ≡ 18 → ⊥) where
     whole : i + (3 + sizeAt bytes i) ≤ length bytes
     whole = omega (arith, c .long, c .there)
 

@@ -36,12 +36,12 @@ use Rattle.joining.specs.declared.Answer.the-variants.{Refused, Kept, Complete}
 use Rattle.joining.specs.declared.Session.{Session}
 use Rattle.text.specs.Text.{rLine}
 use Rattle.journal.specs.declared.Log.{Log}
-use Rattle.journal.specs.Log.{nextItem, withBoard, refused, unless, sLines, enterItem, answered, frameIn, frameItem, itemDone}
+use Rattle.journal.specs.Log.{nextItem, withBoard, refused, unless, sLines, enterItem, answerItem, frameIn, frameItem, itemDone}
 use Rattle.journal.proofs.Items as items
 use Rattle.stretch.specs.declared.Brought.{Brought}
 use Rattle.stretch.specs.Inner.{brought}
 use Rattle.serving.proofs.Serving.{some-rows}
-use Rattle.stretch.proofs.Turns.{Turning, told}
+use Rattle.stretch.proofs.Turns.{Turning, searchLines}
 
 -- ---- a question's turn
 
@@ -83,14 +83,14 @@ module _ (log : Log) where
       rw t (rw t)
 
   -- No report enters: the line of a refusal, or nothing.
-  pub brought-none : (a : Answer) → gives a .number ≡ 0 → answered log a ≡ record { text = cond (gives a .refused) (rLine (log .items) (gives a .code)) []; log = log }
+  pub brought-none : (a : Answer) → gives a .number ≡ 0 → answerItem log a ≡ record { text = cond (gives a .refused) (rLine (log .items) (gives a .code)) []; log = log }
   unfolding arrival
   brought-none (Refused n) e = refl
   brought-none Kept e = refl
   brought-none (Complete r) e = go (tested (eqb (enterRefusal (w .counts) (r .values)) 0)) e
     where
       go : Tested (eqb (enterRefusal (w .counts) (r .values)) 0) → gives (Complete r) .number ≡ 0
-          → answered log (Complete r) ≡ record { text = cond (gives (Complete r) .refused) (rLine (log .items) (gives (Complete r) .code)) []; log = log }
+          → answerItem log (Complete r) ≡ record { text = cond (gives (Complete r) .refused) (rLine (log .items) (gives (Complete r) .code)) []; log = log }
       go (passed t) z = absurd (omega (arith, rw t at z))
       go (failed t) z = rw t (rw t (enter-refused (r .values) (λ e. clash (eq-eqb (enterRefusal (w .counts) (r .values)) 0 e) t)))
 
@@ -100,7 +100,7 @@ module _ (log : Log) where
     pub next : gives a .number ≡ w .counts .entered + 1
     pub oldest : gives a .gone ≡ outgoing w
     pub free : enterRefusal (w .counts) (gives a .values) ≡ 0
-    pub is : answered log a ≡ enterItem log (gives a .values)
+    pub is : answerItem log a ≡ enterItem log (gives a .values)
 
   pub brought-some : (a : Answer) → (gives a .number ≡ 0 → ⊥) → Enters a
   unfolding arrival
@@ -120,11 +120,11 @@ module _ (log : Log) where
   -- When all slots have had their turn, the report has entered.
   entered-done : (a : Answer) → (gives a .number ≡ 0 → ⊥) → {window : Window} {slots : List Question} {n at₀ at : ℕ} {out₀ out : List ℕ} → window ≡ added w (gives a .values)
       → length (log .board .slots) ≤ n → Turning (turn (gives a) window) (log .items) (log .board .slots) out₀ at₀ n slots at out
-      → answered log a ≡ record { text = cond (gives a .refused) (rLine (log .items) (gives a .code)) [] ++ told (turn (gives a) window) (log .items) (log .board .slots) out₀ at₀ n; log = withBoard log (record { window = window; slots = slots }) }
-  entered-done a some {window} {slots} {n} {at₀} {at} {out₀} {out} grown all t =
+      → answerItem log a ≡ record { text = cond (gives a .refused) (rLine (log .items) (gives a .code)) [] ++ searchLines (turn (gives a) window) (log .items) (log .board .slots) out₀ at₀ n; log = withBoard log (record { window = window; slots = slots }) }
+  entered-done a positive {window} {slots} {n} {at₀} {at} {out₀} {out} grown all t =
       let old = log .board .slots in
       let b = gives a in
-      let e = brought-some a some in
+      let e = brought-some a positive in
       let may = enterable (w .counts) (b .values) (e .free) in
       let same = low-same (b .values) (may .permitted) in
       let f = turn b window in
@@ -152,18 +152,18 @@ module _ (log : Log) (window : sized (log .board .window .counts .size) ≡ true
   abbrev answer : Answer
   answer = answerTo (log .sessions) (frameIn v)
 
-  frame-done : itemDone log 18 v ≡ answered after answer
+  frame-done : itemDone log 18 v ≡ answerItem after answer
   unfolding frameItem
-  frame-done = items.frame-done log (some-rows log window) v long ∙ sym (λ j. answered (record { items = e-item j; board = log .board; sessions = e-left j }) answer)
+  frame-done = items.frame-done log (some-rows log window) v long ∙ sym (λ j. answerItem (record { items = e-item j; board = log .board; sessions = e-left j }) answer)
 
   pub frame-none : b .number ≡ 0 → itemDone log 18 v ≡ record { text = cond (b .refused) (rLine item (b .code)) []; log = after }
   frame-none z =
       frame-done ∙ brought-none after answer (sym (ap (λ (g : Brought). g .number) e) ∙ z)
       ∙ sym (ap (λ (g : Brought). record { text = cond (g .refused) (rLine item (g .code)) []; log = after }) e)
 
-  module _ (some : b .number ≡ 0 → ⊥) where
+  module _ (positive : b .number ≡ 0 → ⊥) where
     enters : Enters log answer
-    enters = brought-some log answer (λ z. some (ap (λ (h : Brought). h .number) e ∙ z))
+    enters = brought-some log answer (λ z. positive (ap (λ (h : Brought). h .number) e ∙ z))
 
     -- The report's row takes it.
     pub row-takes : {p : Place} → p ≡ placeFor (log .board .window .counts)
@@ -179,9 +179,9 @@ module _ (log : Log) (window : sized (log .board .window .counts .size) ≡ true
 
     pub frame-enters : {new : Window} {slots : List Question} {n at₀ at : ℕ} {out₀ out : List ℕ} → new ≡ added (log .board .window) (b .values)
         → length (log .board .slots) ≤ n → Turning (turn b new) item (log .board .slots) out₀ at₀ n slots at out
-        → itemDone log 18 v ≡ record { text = cond (b .refused) (rLine item (b .code)) [] ++ told (turn b new) item (log .board .slots) out₀ at₀ n; log = record { items = item; board = record { window = new; slots = slots }; sessions = left } }
+        → itemDone log 18 v ≡ record { text = cond (b .refused) (rLine item (b .code)) [] ++ searchLines (turn b new) item (log .board .slots) out₀ at₀ n; log = record { items = item; board = record { window = new; slots = slots }; sessions = left } }
     frame-enters {new} {slots} {n} {at₀} {at} {out₀} {out} grown all t =
         frame-done
         ∙ subst (λ (g : Brought). (g .number ≡ 0 → ⊥) → new ≡ added (log .board .window) (g .values) → Turning (turn g new) item (log .board .slots) out₀ at₀ n slots at out
-        → answered after answer ≡ record { text = cond (g .refused) (rLine item (g .code)) [] ++ told (turn g new) item (log .board .slots) out₀ at₀ n; log = record { items = item; board = record { window = new; slots = slots }; sessions = left } })
-        (sym e) (λ m g u. entered-done after answer m g all u) some grown t
+        → answerItem after answer ≡ record { text = cond (g .refused) (rLine item (g .code)) [] ++ searchLines (turn g new) item (log .board .slots) out₀ at₀ n; log = record { items = item; board = record { window = new; slots = slots }; sessions = left } })
+        (sym e) (λ m g u. entered-done after answer m g all u) positive grown t

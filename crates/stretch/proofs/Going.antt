@@ -12,7 +12,7 @@ use Rattle.text.proofs.Places.{Put, then, none}
 use Rattle.journal.specs.declared.Log.{Log}
 use Rattle.stretch.specs.Coming.{sizeAt, comes, hasRoom}
 use Rattle.stretch.proofs.Coming.{whole-there}
-use Rattle.stretch.specs.Doing.{Did, itemAt, after, did, all}
+use Rattle.stretch.specs.Doing.{Did, itemAt, after, did, didAll}
 
 module _ (room : ℕ) (bytes : List ℕ) where
   pub did-more : (n at : ℕ) (log : Log) (i : ℕ) → comes (log .board .window .counts .size) bytes i && hasRoom room at ≡ true
@@ -52,7 +52,7 @@ module _ (log₀ : Log) (bytes room : List ℕ) (at₀ : ℕ) where
     pub n : ℕ
     pub enough : length bytes ≤ n + i
     pub text : List ℕ
-    pub so : all (length room) at₀ log₀ bytes ≡ after text (did n (length room) at log bytes i)
+    pub so : didAll (length room) at₀ log₀ bytes ≡ after text (did n (length room) at log bytes i)
     pub stored : Put room at₀ text at left
 
   pub went-none : at₀ < 2 ^ 64 → Went 0 log₀ at₀ room
@@ -64,7 +64,7 @@ module _ (log₀ : Log) (bytes room : List ℕ) (at₀ : ℕ) where
         → itemAt log bytes i ≡ record { text = text; log = log₁ } → Put left at text next left₁ → {j : ℕ} → j ≡ i + (3 + sizeAt bytes i) → Went j log₁ next left₁
     went-more {log₁} {next} {left₁} text small inside t e p {j} at-j = go (w .n) (w .enough) (w .so)
       where
-        go : (n : ℕ) → length bytes ≤ n + i → all (length room) at₀ log₀ bytes ≡ after (w .text) (did n (length room) at log bytes i) → Went j log₁ next left₁
+        go : (n : ℕ) → length bytes ≤ n + i → didAll (length room) at₀ log₀ bytes ≡ after (w .text) (did n (length room) at log bytes i) → Went j log₁ next left₁
         go zero enough so = absurd (omega arith)
         go (suc n) enough so =
             record {
@@ -80,7 +80,7 @@ module _ (log₀ : Log) (bytes room : List ℕ) (at₀ : ℕ) where
             }
 
     -- No item more.
-    pub went-all : comes (log .board .window .counts .size) bytes i && hasRoom (length room) at ≡ false → all (length room) at₀ log₀ bytes ≡ record { text = w .text; log = log; next = i }
+    pub went-all : comes (log .board .window .counts .size) bytes i && hasRoom (length room) at ≡ false → didAll (length room) at₀ log₀ bytes ≡ record { text = w .text; log = log; next = i }
     went-all t =
         w .so ∙ ap (after (w .text)) (did-none (length room) bytes (w .n) at log i t)
         ∙ (λ k. record { text = append-nil (w .text) k; log = log; next = i })

@@ -32,8 +32,8 @@ use Rattle.stretch.specs.declared.Standing.{Standing}
 use Rattle.slot.specs.declared.Turned.{Turned}
 use Rattle.stretch.specs.Coming.{sizeAt, comes, hasRoom}
 use Rattle.serving.specs.Serving.{served, Serves}
-use Rattle.stretch.specs.Inner.{brought, Stored}
-use Rattle.stretch.specs.Doing.{Did, Runs, itemAt, windowOf, logIn}
+use Rattle.stretch.specs.Inner.{brought, Stored, windowOf, logIn, Runs}
+use Rattle.stretch.specs.Doing.{Did, itemAt}
 use Rattle.stretch.proofs.Coming.{Item, Slot, has-window, a-frame, for-slot}
 use Rattle.serving.proofs.Serving.{slot-here}
 use Rattle.stretch.proofs.Frames.{report, turn, turned-is, turn-stays, turn-idle, frame-none, row-fits, row-takes, frame-enters}
@@ -209,16 +209,16 @@ module _ (log₀ : Log) (bytes out₀ : List ℕ) (at₀ : ℕ) where
           → {at₁ i₁ : ℕ} {out₁ : List ℕ} → (at₁ ≡ behind at (cond (b .refused) (rLine items₁ (b .code)) [])) × (out₁ ≡ sets out at (cond (b .refused) (rLine items₁ (b .code)) [])) → i₁ ≡ i + 15
           → {n at₂ : ℕ} {slots₂ : List Question} {gauges₂ : List Gauge} {out₂ : List ℕ} → Turns b (windowOf (record { size = w .counts .size; entered = b .number; held = r .held }) losses shakes numbers) items₁ rows₁ slots used out₁ at₁ n slots₂ gauges₂ at₂ out₂ → used ≤ n
           → Stands items₁ (windowOf (record { size = w .counts .size; entered = b .number; held = r .held }) losses shakes numbers) rows₁ slots₂ gauges₂ used bus₁ i₁ at₂ out₂
-      stands-enters some {r} e-r {losses} {shakes} {numbers} {rows₁} st {at₁} {i₁} {out₁} p e-i {n} {at₂} {slots₂} {gauges₂} {out₂} m end-of =
+      stands-enters positive {r} e-r {losses} {shakes} {numbers} {rows₁} st {at₁} {i₁} {out₁} p e-i {n} {at₂} {slots₂} {gauges₂} {out₂} m end-of =
           let new : Window = windowOf (record { size = w .counts .size; entered = b .number; held = r .held }) losses shakes numbers in
           let grown : new ≡ added w (b .values) =
           (λ j. record { losses = st .losses j; shakes = st .shakes j; numbers = st .numbers j; counts = record { size = w .counts .size; entered = b .number; held = r .held } })
-          ∙ row-takes log window v long e-items (left .1) e-b some e-r in
+          ∙ row-takes log window v long e-items (left .1) e-b positive e-r in
           let idle : (k : ℕ) → n ≤ k → k < length slots → record { searched = false; steps = 0; question = getD slots k noQuestion } ≡ turn b new (getD slots k noQuestion) =
           λ k h f. turn-idle b new (getD slots k noQuestion) (l .gauged .idle k (omega (arith, m .within)) (omega (arith, l .all-slots))) in
           let all = turning-rest (turn b new) items₁ slots out₁ at₁ (32 - n) n (omega (arith, m .within, m .few, l .all-slots)) (m .turning) idle (m .small) (place-fits (m .turning .printed)) in
           let whole : length slots ≤ length slots = omega arith in
-          let e = is-frame ∙ frame-enters log window v long e-items (left .1) e-b some grown whole all in
+          let e = is-frame ∙ frame-enters log window v long e-items (left .1) e-b positive grown whole all in
           record {
             inside = omega (arith, there);
             same = m .same ∙ kept (put p) ∙ l .same;
@@ -236,10 +236,10 @@ pub stands-runs : (from : Standing) (bus₀ bytes out₀ : List ℕ) {items : �
 stands-runs from bus₀ bytes out₀ {w = w} {bus = bus} {i = i} {at = at} l e-go ends e =
     let no = ap (λ (n : ℕ). comes (w .counts .size) bytes i && hasRoom n at) (sym (l .same)) ∙ sym e-go ∙ ends in
     let is = went-all (logIn from bus₀) bytes out₀ (from .at) (l .went) no in
-    let told = sym (ap (λ (d : Did). d .text) is) in
+    let text-is = sym (ap (λ (d : Did). d .text) is) in
     record {
       leaves = ap (λ (r : Standing). logIn r bus) e ∙ sym (ap (λ (d : Did). d .log) is);
       taken = ap (λ (r : Standing). r .taken) e ∙ sym (ap (λ (d : Did). d .next) is);
-      place = ap (λ (r : Standing). r .at) e ∙ l .went .stored .place ∙ ap (behind (from .at)) told;
-      stored = l .went .stored .bytes ∙ ap (sets out₀ (from .at)) told;
+      place = ap (λ (r : Standing). r .at) e ∙ l .went .stored .place ∙ ap (behind (from .at)) text-is;
+      stored = l .went .stored .bytes ∙ ap (sets out₀ (from .at)) text-is;
     }

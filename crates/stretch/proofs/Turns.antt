@@ -17,14 +17,14 @@ use Rattle.journal.proofs.Searches.{lines-more, lines-none}
 use Rattle.slot.specs.declared.Turned.{Turned}
 
 module _ (turn : Question → Turned) (items : ℕ) (old : List Question) (out₀ : List ℕ) (at₀ : ℕ) where
-  abbrev pub told : ℕ → List ℕ
-  told n = sLines items 0 (take n (map (λ q. turn q .searched) old)) (take n (map (λ q. turn q .steps) old))
+  abbrev pub searchLines : ℕ → List ℕ
+  searchLines n = sLines items 0 (take n (map (λ q. turn q .searched) old)) (take n (map (λ q. turn q .steps) old))
 
   -- The first n slots have had their turn, and their searches are printed.
   pub record Turning (n : ℕ) (slots : List Question) (at : ℕ) (out : List ℕ) : Type 0 where
     pub first : Filled (λ q. turn q .question) old n slots
     pub rest : drop n slots ≡ drop n old
-    pub printed : Put out₀ at₀ (told n) at out
+    pub printed : Put out₀ at₀ (searchLines n) at out
 
   pub turning-none : at₀ < 2 ^ 64 → Turning 0 old at₀ out₀
   turning-none h =
@@ -53,7 +53,7 @@ module _ (turn : Question → Turned) (items : ℕ) (old : List Question) (out�
           rest = drop-set-lt (n + 1) slots n (r .question) (omega arith) ∙ sym (drop-drop 1 n slots) ∙ ap (drop 1) (t .rest) ∙ drop-drop 1 n old;
           printed =
               said
-              (ap₂ (λ (x : Bool) (y : ℕ). told n ++ cond x (sLine items n y) []) (ap (λ (x : Turned). x .searched) is ∙ sym (List·getD-map (λ q. turn q .searched) old n noQuestion)) (ap (λ (x : Turned). x .steps) is ∙ sym (List·getD-map (λ q. turn q .steps) old n noQuestion))
+              (ap₂ (λ (x : Bool) (y : ℕ). searchLines n ++ cond x (sLine items n y) []) (ap (λ (x : Turned). x .searched) is ∙ sym (List·getD-map (λ q. turn q .searched) old n noQuestion)) (ap (λ (x : Turned). x .steps) is ∙ sym (List·getD-map (λ q. turn q .steps) old n noQuestion))
               ∙ lines-more items (map (λ q. turn q .searched) old) (map (λ q. turn q .steps) old) (turn noQuestion .searched) (turn noQuestion .steps) n (omega (arith, length-map old (λ q. turn q .searched))) (omega (arith, length-map old (λ q. turn q .steps))))
               (then small (t .printed) p);
         }

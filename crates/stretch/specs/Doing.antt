@@ -9,11 +9,7 @@ use Rattle.wire.specs.Bytes.{part}
 use Rattle.text.specs.Text.{behind}
 use Rattle.journal.specs.declared.Log.{Log}
 use Rattle.journal.specs.Log.{Outcome, itemDone}
-use Rattle.window.specs.declared.Counts.{Counts}
-use Rattle.window.specs.declared.Window.{Window}
-use Rattle.bus.specs.Room.{sessionsIn}
 use Rattle.stretch.specs.declared.Stretch.{Stretch}
-use Rattle.stretch.specs.declared.Standing.{Standing}
 use Rattle.stretch.specs.Coming.{sizeAt, comes, hasRoom}
 
 -- What the whole item at a place does.
@@ -40,27 +36,12 @@ did (suc n) room at log bytes i =
     (record { text = []; log = log; next = i })
 
 -- All that there are: no more than bytes.
-abbrev pub all : (room at : ℕ) → Log → List ℕ → Did
-all room at log bytes = did (length bytes) room at log bytes 0
+abbrev pub didAll : (room at : ℕ) → Log → List ℕ → Did
+didAll room at log bytes = did (length bytes) room at log bytes 0
 
 -- The items are done, and their text is stored from `at` on.
 pub record Does (log : Log) (bytes room : List ℕ) (at : ℕ) (r : Stretch) (left : List ℕ) : Type 0 where
-  pub leaves : r .log ≡ all (length room) at log bytes .log
-  pub taken : r .taken ≡ all (length room) at log bytes .next
-  pub place : r .at ≡ behind at (all (length room) at log bytes .text)
-  pub stored : left ≡ sets room at (all (length room) at log bytes .text)
-
--- The window of these counts and rows.
-abbrev pub windowOf : Counts → (losses shakes numbers : List ℕ) → Window
-windowOf c losses shakes numbers = record { losses = losses; shakes = shakes; numbers = numbers; counts = c }
-
--- The log of which these bytes are the sessions.
-abbrev pub logIn : Standing → List ℕ → Log
-logIn s bus = record { items = s .items; board = s .board; sessions = sessionsIn bus }
-
--- The same with the sessions in bytes.
-pub record Runs (from : Standing) (bus bytes room : List ℕ) (r : Standing) (bus₁ left : List ℕ) : Type 0 where
-  pub leaves : logIn r bus₁ ≡ all (length room) (from .at) (logIn from bus) bytes .log
-  pub taken : r .taken ≡ all (length room) (from .at) (logIn from bus) bytes .next
-  pub place : r .at ≡ behind (from .at) (all (length room) (from .at) (logIn from bus) bytes .text)
-  pub stored : left ≡ sets room (from .at) (all (length room) (from .at) (logIn from bus) bytes .text)
+  pub leaves : r .log ≡ didAll (length room) at log bytes .log
+  pub taken : r .taken ≡ didAll (length room) at log bytes .next
+  pub place : r .at ≡ behind at (didAll (length room) at log bytes .text)
+  pub stored : left ≡ sets room at (didAll (length room) at log bytes .text)

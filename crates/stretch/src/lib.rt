@@ -16,8 +16,8 @@ ghost use Rattle.window.specs.Rows.{rowCount, standing};
 ghost use Rattle.question.specs.Lines.{rowsOf};
 ghost use Rattle.journal.specs.Log.{frameIn};
 ghost use Rattle.stretch.specs.Coming.{sizeAt, itemComes, slotComes, comes, hasRoom};
-ghost use Rattle.stretch.specs.Inner.{rowsUsed, Stored, brought};
-ghost use Rattle.stretch.specs.Doing.{Does, Runs, windowOf};
+ghost use Rattle.stretch.specs.Inner.{rowsUsed, Stored, brought, windowOf, Runs};
+ghost use Rattle.stretch.specs.Doing.{Does};
 use board::Arrival;
 use board::Board;
 use bus::Bus;
@@ -125,7 +125,7 @@ fn run(from: Standing, bus: &mut [u8; Bus::ROOM], bytes: &[u8], out: &mut [u8]) 
     let mut numbers = window.numbers;
     let mut rows = rows_in(&numbers);
     let mut slots = board.slots;
-    let mut gauges = Gauge::all(slots);
+    let mut gauges = Gauge::of_slots(slots);
     let mut used = Gauge::in_use(slots);
     let mut i: usize = 0;
     while goes_on(counts.size, bytes, i, out.len(), at) {
@@ -167,11 +167,11 @@ fn run(from: Standing, bus: &mut [u8; Bus::ROOM], bytes: &[u8], out: &mut [u8]) 
             gauges[slot] = Gauge::of(left);
         }
     }
-    ended(items, counts, losses, shakes, numbers, slots, i, at)
+    end_of_run(items, counts, losses, shakes, numbers, slots, i, at)
 }
 
 // Where the items end: the window with these counts and rows, and the slots.
-fn ended(
+fn end_of_run(
     items: u64,
     counts: Counts,
     losses: [u16; Window::ROWS],

@@ -10,7 +10,7 @@ use native.Mathlib.Omega.{arith}
 use borrow.Author.Tests.{lt-ltb, le-ltb, ltb-true, ltb-false}
 use lib.Dec.{ltb}
 use lib.IntN.{ℤ, pos, negsuc}
-use Rattle.text.specs.Text.{spelled, decimal, signed, readOn}
+use Rattle.text.specs.Text.{spelled, decimal, signedDecimal, readOn}
 
 pub below-or : (n m : ℕ) (b : Bool) → ltb n m ≡ b → (n < m) ⊎ (m ≤ n)
 below-or n m true e = inl (ltb-true n m e)
@@ -141,8 +141,8 @@ decimal-no-minus n s e =
     omega (arith, d .0)
 
 -- The same of numbers that may be negative.
-pub signed-injective : (y z : ℤ) → signed y ≡ signed z → y ≡ z
-unfolding signed
+pub signed-injective : (y z : ℤ) → signedDecimal y ≡ signedDecimal z → y ≡ z
+unfolding signedDecimal
 signed-injective (pos m) (pos n) e = ap pos (decimal-injective m n e)
 signed-injective (pos m) (negsuc n) e = absurd (decimal-no-minus m (decimal (suc n)) e)
 signed-injective (negsuc m) (pos n) e = absurd (decimal-no-minus n (decimal (suc m)) (sym e))

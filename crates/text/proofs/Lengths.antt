@@ -11,7 +11,7 @@ use lib.Dec.{ltb, lit<, lit≤}
 use lib.ListN.{length, getD, take, length-append}
 use lib.IntN.{ℤ, pos, negsuc}
 use lib.Signed.{mag}
-use Rattle.text.specs.Text.{Entry, decimal, signed, word, sLine, rLine, entry, entries, qLine, listed}
+use Rattle.text.specs.Text.{Entry, decimal, signedDecimal, spaced, sLine, rLine, entryText, entriesText, qLine, entriesOf}
 use Rattle.text.proofs.Decimal.{below-or, by-tens, decimal-one, decimal-more}
 
 pub length-one : (n : ℕ) → n < 10 → length (decimal n) ≡ 1
@@ -43,13 +43,13 @@ pub decimal32-longest : (n : ℕ) → n < 2 ^ 32 → length (decimal n) ≤ 10
 decimal32-longest n h = decimal-longest 9 n (omega arith)
 
 -- `Text::SCORE`.
-pub signed32-longest : (z : ℤ) → mag z < 2 ^ 31 → length (signed z) ≤ 11
-unfolding signed
+pub signed32-longest : (z : ℤ) → mag z < 2 ^ 31 → length (signedDecimal z) ≤ 11
+unfolding signedDecimal
 signed32-longest (pos n) h = omega (arith, decimal32-longest n (omega arith))
 signed32-longest (negsuc n) h = omega (arith, decimal32-longest (suc n) (omega arith))
 
-length-word : (n : ℕ) → length (word n) ≡ length (decimal n) + 1
-unfolding word
+length-word : (n : ℕ) → length (spaced n) ≡ length (decimal n) + 1
+unfolding spaced
 length-word n = sym (add-one (length (decimal n)))
 
 -- `Text::S_LONGEST`.
@@ -72,19 +72,19 @@ InRange (e ∷ es) = (e .number < 2 ^ 32) × (mag (e .score) < 2 ^ 31) × InRang
 
 -- Entries from numbers and scores that fit are in range, the first n of them too.
 pub listed-in-range : (n : ℕ) (ns : List ℕ) (ss : List ℤ) → ((i : ℕ) → getD ns i 0 < 2 ^ 32) → ((i : ℕ) → mag (getD ss i (pos 0)) < 2 ^ 31)
-    → InRange (take n (listed ns ss))
-unfolding listed
+    → InRange (take n (entriesOf ns ss))
+unfolding entriesOf
 listed-in-range zero ns ss h k = tt
 listed-in-range (suc n) [] ss h k = tt
 listed-in-range (suc n) (x ∷ ns) [] h k = tt
 listed-in-range (suc n) (x ∷ ns) (s ∷ ss) h k = (h 0, k 0, listed-in-range n ns ss (λ i. h (suc i)) (λ i. k (suc i)))
 
-length-entry : (e : Entry) → length (entry e) ≡ length (decimal (e .number)) + 1 + 1 + length (signed (e .score))
-unfolding entry
+length-entry : (e : Entry) → length (entryText e) ≡ length (decimal (e .number)) + 1 + 1 + length (signedDecimal (e .score))
+unfolding entryText
 length-entry e = simp (length-append, length-word) (omega arith)
 
-pub entries-longest : (es : List Entry) → InRange es → length (entries es) ≤ 23 * length es
-unfolding entries
+pub entries-longest : (es : List Entry) → InRange es → length (entriesText es) ≤ 23 * length es
+unfolding entriesText
 entries-longest [] h = lit≤ tt
 entries-longest (e ∷ es) h =
     simp (length-append, length-entry)

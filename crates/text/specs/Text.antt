@@ -16,21 +16,21 @@ unfoldable pub decimal : ℕ → List ℕ
 decimal n = spelled n n
 
 -- Rule 11.5: with a minus where it is below 0.
-unfoldable pub signed : ℤ → List ℕ
-signed (pos n) = decimal n
-signed (negsuc n) = 45 ∷ decimal (suc n)
+unfoldable pub signedDecimal : ℤ → List ℕ
+signedDecimal (pos n) = decimal n
+signedDecimal (negsuc n) = 45 ∷ decimal (suc n)
 
 -- A space and a number.
-unfoldable pub word : ℕ → List ℕ
-word n = 32 ∷ decimal n
+unfoldable pub spaced : ℕ → List ℕ
+spaced n = 32 ∷ decimal n
 
 -- Rule 11.2: the line of a search; by 11.5 a line ends in byte 10.
 unfoldable pub sLine : ℕ → ℕ → ℕ → List ℕ
-sLine item slot steps = 83 ∷ [] ++ word item ++ word slot ++ word steps ++ 10 ∷ []
+sLine item slot steps = 83 ∷ [] ++ spaced item ++ spaced slot ++ spaced steps ++ 10 ∷ []
 
 -- Rule 11.4: the line of a refusal.
 unfoldable pub rLine : ℕ → ℕ → List ℕ
-rLine item code = 82 ∷ [] ++ word item ++ word code ++ 10 ∷ []
+rLine item code = 82 ∷ [] ++ spaced item ++ spaced code ++ 10 ∷ []
 
 -- A report on a question's list.
 pub record Entry : Type 0 where
@@ -38,23 +38,23 @@ pub record Entry : Type 0 where
   pub score : ℤ
 
 -- Rule 11.3: an entry in the line of a list.
-unfoldable pub entry : Entry → List ℕ
-entry e = word (e .number) ++ 58 ∷ [] ++ signed (e .score)
+unfoldable pub entryText : Entry → List ℕ
+entryText e = spaced (e .number) ++ 58 ∷ [] ++ signedDecimal (e .score)
 
 -- Entries in a row.
-unfoldable pub entries : List Entry → List ℕ
-entries [] = []
-entries (e ∷ es) = entry e ++ entries es
+unfoldable pub entriesText : List Entry → List ℕ
+entriesText [] = []
+entriesText (e ∷ es) = entryText e ++ entriesText es
 
 -- Rule 11.3: the line of a list.
 unfoldable pub qLine : ℕ → List Entry → List ℕ
-qLine slot es = 81 ∷ [] ++ word slot ++ word (length es) ++ entries es ++ 10 ∷ []
+qLine slot es = 81 ∷ [] ++ spaced slot ++ spaced (length es) ++ entriesText es ++ 10 ∷ []
 
 -- The entries that numbers and scores beside each other stand for.
-unfoldable pub listed : List ℕ → List ℤ → List Entry
-listed [] ss = []
-listed (n ∷ ns) [] = []
-listed (n ∷ ns) (s ∷ ss) = record { number = n; score = s } ∷ listed ns ss
+unfoldable pub entriesOf : List ℕ → List ℤ → List Entry
+entriesOf [] ss = []
+entriesOf (n ∷ ns) [] = []
+entriesOf (n ∷ ns) (s ∷ ss) = record { number = n; score = s } ∷ entriesOf ns ss
 
 -- The place behind a text that starts at `at`; where a `usize` is too small for it, the largest one.
 unfoldable pub behind : ℕ → List ℕ → ℕ

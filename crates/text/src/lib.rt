@@ -7,7 +7,7 @@ ghost use Prim.Native.Nat.{_+_, _-_, _^_, _≤_, min};
 ghost use lib.ListN.{drop, length, take};
 ghost use lib.IntN.{natAbs};
 ghost use lib.Seq.{sets};
-ghost use Rattle.text.specs.Text.{decimal, signed, word, sLine, rLine, entry, entries, qLine, listed, behind};
+ghost use Rattle.text.specs.Text.{decimal, signedDecimal, spaced, sLine, rLine, entryText, entriesText, qLine, entriesOf, behind};
 
 // How long the texts get, in bytes.
 pub struct Text {}
@@ -43,8 +43,8 @@ pub fn put_decimal(buf: &mut [u8], at: usize, n: u64) -> usize
 
 // Stores a number that may be negative.
 pub fn put_signed(buf: &mut [u8], at: usize, z: i32) -> usize
-    ensures { λ r. ⌜ r ≡ behind at (signed z) ⌝ }
-    ensures { λ _. ⌜ now (buf .exit) ≡ sets (now (buf .entry)) at (signed z) ⌝ }
+    ensures { λ r. ⌜ r ≡ behind at (signedDecimal z) ⌝ }
+    ensures { λ _. ⌜ now (buf .exit) ≡ sets (now (buf .entry)) at (signedDecimal z) ⌝ }
 {
     if z < 0 {
         let next = put_byte(buf, at, b'-');
@@ -60,9 +60,9 @@ pub fn put_s(buf: &mut [u8], at: usize, item: u64, slot: u8, steps: u16) -> usiz
     ensures { λ _. ⌜ now (buf .exit) ≡ sets (now (buf .entry)) at (sLine item slot steps) ⌝ }
 {
     let head = put_byte(buf, at, b'S');
-    let first = put_word(buf, head, item);
-    let second = put_word(buf, first, slot as u64);
-    let third = put_word(buf, second, steps as u64);
+    let first = put_spaced(buf, head, item);
+    let second = put_spaced(buf, first, slot as u64);
+    let third = put_spaced(buf, second, steps as u64);
     put_byte(buf, third, b'\n')
 }
 
@@ -72,8 +72,8 @@ pub fn put_r(buf: &mut [u8], at: usize, item: u64, code: u8) -> usize
     ensures { λ _. ⌜ now (buf .exit) ≡ sets (now (buf .entry)) at (rLine item code) ⌝ }
 {
     let head = put_byte(buf, at, b'R');
-    let first = put_word(buf, head, item);
-    let second = put_word(buf, first, code as u64);
+    let first = put_spaced(buf, head, item);
+    let second = put_spaced(buf, first, code as u64);
     put_byte(buf, second, b'\n')
 }
 
@@ -87,13 +87,13 @@ pub fn put_q(
     scores: [i32; Text::ENTRIES],
     n: usize,
 ) -> usize
-    ensures { λ r. ⌜ r ≡ behind at (qLine slot (take n (listed numbers scores))) ⌝ }
-    ensures { λ _. ⌜ now (buf .exit) ≡ sets (now (buf .entry)) at (qLine slot (take n (listed numbers scores))) ⌝ }
+    ensures { λ r. ⌜ r ≡ behind at (qLine slot (take n (entriesOf numbers scores))) ⌝ }
+    ensures { λ _. ⌜ now (buf .exit) ≡ sets (now (buf .entry)) at (qLine slot (take n (entriesOf numbers scores))) ⌝ }
 {
     let shown = fewer(n, Text::ENTRIES);
     let head = put_byte(buf, at, b'Q');
-    let first = put_word(buf, head, slot as u64);
-    let second = put_word(buf, first, shown as u64);
+    let first = put_spaced(buf, head, slot as u64);
+    let second = put_spaced(buf, first, shown as u64);
     let third = put_entries(buf, second, numbers, scores, shown);
     put_byte(buf, third, b'\n')
 }
@@ -107,8 +107,8 @@ fn put_entries(
     n: usize,
 ) -> usize
     requires { ⌜ n ≤ 16 ⌝ }
-    ensures { λ r. ⌜ r ≡ behind at (entries (take n (listed numbers scores))) ⌝ }
-    ensures { λ _. ⌜ now (buf .exit) ≡ sets (now (buf .entry)) at (entries (take n (listed numbers scores))) ⌝ }
+    ensures { λ r. ⌜ r ≡ behind at (entriesText (take n (entriesOf numbers scores))) ⌝ }
+    ensures { λ _. ⌜ now (buf .exit) ≡ sets (now (buf .entry)) at (entriesText (take n (entriesOf numbers scores))) ⌝ }
 {
     let mut next = at;
     let mut i: usize = 0;
@@ -121,18 +121,18 @@ fn put_entries(
 
 // Stores a number and a score.
 fn put_entry(buf: &mut [u8], at: usize, number: u32, score: i32) -> usize
-    ensures { λ r. ⌜ r ≡ behind at (entry (record { number = number; score = score })) ⌝ }
-    ensures { λ _. ⌜ now (buf .exit) ≡ sets (now (buf .entry)) at (entry (record { number = number; score = score })) ⌝ }
+    ensures { λ r. ⌜ r ≡ behind at (entryText (record { number = number; score = score })) ⌝ }
+    ensures { λ _. ⌜ now (buf .exit) ≡ sets (now (buf .entry)) at (entryText (record { number = number; score = score })) ⌝ }
 {
-    let first = put_word(buf, at, number as u64);
+    let first = put_spaced(buf, at, number as u64);
     let second = put_byte(buf, first, b':');
     put_signed(buf, second, score)
 }
 
 // Stores a space and a number.
-fn put_word(buf: &mut [u8], at: usize, n: u64) -> usize
-    ensures { λ r. ⌜ r ≡ behind at (word n) ⌝ }
-    ensures { λ _. ⌜ now (buf .exit) ≡ sets (now (buf .entry)) at (word n) ⌝ }
+fn put_spaced(buf: &mut [u8], at: usize, n: u64) -> usize
+    ensures { λ r. ⌜ r ≡ behind at (spaced n) ⌝ }
+    ensures { λ _. ⌜ now (buf .exit) ≡ sets (now (buf .entry)) at (spaced n) ⌝ }
 {
     let next = put_byte(buf, at, b' ');
     put_decimal(buf, next, n)

@@ -22,9 +22,10 @@ use Rattle.bus.proofs.Rooms.{step-long, sessions-many, set-room, session-long}
 use Rattle.times.specs.declared.Times.{Times}
 use Rattle.times.specs.declared.Came.{Came}
 use Rattle.times.specs.declared.Came.the-variants.{InTime, Late, Before, Unfit}
-use Rattle.times.specs.Timed.{Last, fitLast, isBefore, isLate, cameAt, metAt, Station, Outcome, turned, lastAfter, kept-at, timed-frame, lastOf, withLast}
+use Rattle.times.specs.Timed.{Last, fitLast, isBefore, isLate, metAt, Station, Outcome, turned, lastAfter, kept-at, timed-frame, lastOf, withLast}
 use Rattle.times.specs.Run.{Timed, sender, frameAt, stationStep, Stations, stationOf, withStation, stationsAfter, timedAnswer, stationsIn, timedAt}
 use Rattle.times.proofs.Steps.{Fit, foreign-stays, in-time, unfit-stays, turned-back, settled}
+use Rattle.times.specs.Inner.{cameAt}
 
 -- What each way to come says of the tests.
 abbrev Tests : Came → Last → ℕ → Type 0

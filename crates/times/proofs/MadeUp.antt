@@ -25,7 +25,7 @@ use Rattle.joining.proofs.Cases.{Case, passed, shut, stray, good, next, last, c
 use Rattle.joining.proofs.Reached.{fit-open}
 use Rattle.joining.proofs.MadeUp.{Opening, starts, goes-on, in-order, all-packets, ended}
 use Rattle.times.specs.Timed.{Last, timeOf, Station, lastAfter}
-use Rattle.times.specs.Run.{Timed, sender, stationStep, stationAt, Stations, stationOf, freshStation, freshStations, stationsAfter, timedAnswer, stationsAt, timedAnswers, framesOf, ownTimed, passedOver, heardAt, timeIn, timesOf, Spaced, SentTimed, FromSender}
+use Rattle.times.specs.Run.{Timed, sender, stationStep, stationAfterAll, Stations, stationOf, freshStation, freshStations, stationsAfter, timedAnswer, stationsAfterAll, timedAnswers, framesOf, ownTimed, passedOver, heardAt, timeIn, timesOf, Spaced, SentTimed, FromSender}
 use Rattle.times.proofs.Steps.{Fit, Near, lastBy, NearBy, Way, away, straight, late, ways, closed-fit, step-stays-fit}
 use Rattle.times.proofs.Mixing.{mixing, own-answer}
 use Rattle.times.proofs.Reached.{fresh-whole, fresh-station, fresh-is-fit, run-fit}
@@ -219,8 +219,8 @@ step-traced s h f ok t = go (ways s f ok)
     go (late e) = rw e (taken-traced (closed (s .session)) (s .last) h f (closed-fit (s .session)) (inl refl) (λ o. absurd (o refl)))
 
 run-traced : (s : Station) (fs h : List Timed) → Fit s → Traced (s .session) (s .last) h
-    → Traced (stationAt s fs .session) (stationAt s fs .last) (h ++ heardAt s fs)
-unfolding stationAt heardAt
+    → Traced (stationAfterAll s fs .session) (stationAfterAll s fs .last) (h ++ heardAt s fs)
+unfolding stationAfterAll heardAt
 run-traced s [] h ok t = rw append-nil t
 run-traced s (f ∷ fs) h ok t =
     rw (more (passedOver (stationStep s f .answer)))
@@ -234,11 +234,11 @@ run-traced s (f ∷ fs) h ok t =
     more false = sym (append-assoc h (f ∷ []) (heardAt then fs))
 
 -- One sender's frames at a fresh session with no time, and then f: where f yields a report, the announcement and all packets that it was read from are among them, and came in time.
-pub sent-alone : (own : List Timed) (f : Timed) (r : Report) → stationStep (stationAt freshStation own) f .answer ≡ Complete r → SentTimed own f r
+pub sent-alone : (own : List Timed) (f : Timed) (r : Report) → stationStep (stationAfterAll freshStation own) f .answer ≡ Complete r → SentTimed own f r
 sent-alone own f r done = go (ways s f ok)
   where
     s : Station
-    s = stationAt freshStation own
+    s = stationAfterAll freshStation own
 
     ok : Fit s
     ok = run-fit freshStation own fresh-is-fit
@@ -288,20 +288,20 @@ known-sender b f r = go (ltb (sender f) 254) refl
 
 -- The whole bus, all sessions fresh and no times: where f yields a report after the frames fs of whatever senders, with times or without, then f's own sender sent the
 -- announcement and, since then, exactly the packets that the report was read from, in sequence and in time.
-pub sent-by-one : (fs : List Timed) (f : Timed) (r : Report) → timedAnswer (stationsAt freshStations fs) f ≡ Complete r
+pub sent-by-one : (fs : List Timed) (f : Timed) (r : Report) → timedAnswer (stationsAfterAll freshStations fs) f ≡ Complete r
     → (sent : SentTimed (ownTimed (sender f) fs) f r) × FromSender (sender f) (sent .announced ∷ sent .middle)
 sent-by-one fs f r h =
     let k : ℕ = sender f in
-    let known : k < 254 = known-sender (stationsAt freshStations fs) f r h in
-    let at : stationOf k (stationsAt freshStations fs) ≡ stationAt freshStation (ownTimed k fs) =
-    mixing k known freshStations fs fresh-whole .0 ∙ ap (λ (s : Station). stationAt s (ownTimed k fs)) (fresh-station k known) in
+    let known : k < 254 = known-sender (stationsAfterAll freshStations fs) f r h in
+    let at : stationOf k (stationsAfterAll freshStations fs) ≡ stationAfterAll freshStation (ownTimed k fs) =
+    mixing k known freshStations fs fresh-whole .0 ∙ ap (λ (s : Station). stationAfterAll s (ownTimed k fs)) (fresh-station k known) in
     let sent = sent-alone (ownTimed k fs) f r
-    (ap (λ (s : Station). stationStep s f .answer) (sym at) ∙ sym (own-answer k known (stationsAt freshStations fs) f refl) ∙ h) in
+    (ap (λ (s : Station). stationStep s f .answer) (sym at) ∙ sym (own-answer k known (stationsAfterAll freshStations fs) f refl) ∙ h) in
     (sent, behind-from k (sent .before) _ (rw (sent .since) at (heard-from k freshStation (ownTimed k fs) (own-from k fs))))
 
 -- The answers of a run are those to its frames at what the frames before them left.
-pub answer-at : (b : Stations) (fs : List Timed) (f : Timed) (gs : List Timed) (d : Answer) → getD (timedAnswers b (fs ++ (f ∷ gs))) (length fs) d ≡ timedAnswer (stationsAt b fs) f
-unfolding timedAnswers stationsAt
+pub answer-at : (b : Stations) (fs : List Timed) (f : Timed) (gs : List Timed) (d : Answer) → getD (timedAnswers b (fs ++ (f ∷ gs))) (length fs) d ≡ timedAnswer (stationsAfterAll b fs) f
+unfolding timedAnswers stationsAfterAll
 answer-at b [] f gs d = refl
 answer-at b (g ∷ fs) f gs d = answer-at (stationsAfter b g) fs f gs d
 

@@ -13,10 +13,10 @@ use lib.Dec.{ltb, eqb}
 use Rattle.joining.specs.declared.Session.{Session}
 use Rattle.joining.specs.declared.Answer.{Answer}
 use Rattle.joining.specs.Frame.{Frame}
-use Rattle.joining.specs.Run.{nobody, sessionOf, sessionsAfter, answerTo, sessionsAt, answersAt, ownFrames, ownAnswers}
+use Rattle.joining.specs.Run.{nobody, sessionOf, sessionsAfter, answerTo, sessionsAfterAll, answersToAll, ownFrames, ownAnswers}
 use Rattle.times.specs.declared.Times.{Times}
 use Rattle.times.specs.Timed.{Last, Station, Outcome, untimed-frame, lastOf, withLast}
-use Rattle.times.specs.Run.{Timed, sender, stationStep, stationAt, stationAnswers, Stations, stationOf, withStation, stationsAfter, timedAnswer, stationsAt, timedAnswers, framesOf, untimed, ownTimed}
+use Rattle.times.specs.Run.{Timed, sender, stationStep, stationAfterAll, stationAnswers, Stations, stationOf, withStation, stationsAfter, timedAnswer, stationsAfterAll, timedAnswers, framesOf, untimed, ownTimed}
 
 -- A session and a last time for each sender.
 pub record Whole (b : Stations) : Type 0 where
@@ -54,8 +54,8 @@ module _ (b : Stations) (f : Timed) where
       })
       w
 
-pub whole-at : (b : Stations) (fs : List Timed) → Whole b → Whole (stationsAt b fs)
-unfolding stationsAt
+pub whole-at : (b : Stations) (fs : List Timed) → Whole b → Whole (stationsAfterAll b fs)
+unfolding stationsAfterAll
 whole-at b [] w = w
 whole-at b (f ∷ fs) w = whole-at (stationsAfter b f) fs (whole-after b f w)
 
@@ -74,9 +74,9 @@ module _ (k : ℕ) (known : k < 254) where
 
   -- Of every run, the session and the last time of k at the end and the answers to k are those of its own frames alone, in their order.
   pub mixing : (b : Stations) (fs : List Timed) → Whole b
-      → (stationOf k (stationsAt b fs) ≡ stationAt (stationOf k b) (ownTimed k fs))
+      → (stationOf k (stationsAfterAll b fs) ≡ stationAfterAll (stationOf k b) (ownTimed k fs))
       × (ownAnswers k (framesOf fs) (timedAnswers b fs) ≡ stationAnswers (stationOf k b) (ownTimed k fs))
-  unfolding stationsAt timedAnswers stationAt stationAnswers ownTimed ownAnswers framesOf
+  unfolding stationsAfterAll timedAnswers stationAfterAll stationAnswers ownTimed ownAnswers framesOf
   mixing b [] w = (refl, refl)
   mixing b (f ∷ fs) w = go (eqb (sender f) k) refl (mixing (stationsAfter b f) fs (whole-after b f w))
     where
@@ -90,27 +90,27 @@ module _ (k : ℕ) (known : k < 254) where
       got = ownAnswers k (framesOf fs) (timedAnswers next fs)
 
       go : (t : Bool) → eqb (sender f) k ≡ t
-          → (stationOf k (stationsAt next fs) ≡ stationAt (stationOf k next) own) × (got ≡ stationAnswers (stationOf k next) own)
-          → (stationOf k (stationsAt next fs) ≡ stationAt (stationOf k b) (cond t (f ∷ own) own))
+          → (stationOf k (stationsAfterAll next fs) ≡ stationAfterAll (stationOf k next) own) × (got ≡ stationAnswers (stationOf k next) own)
+          → (stationOf k (stationsAfterAll next fs) ≡ stationAfterAll (stationOf k b) (cond t (f ∷ own) own))
           × (cond t (timedAnswer b f ∷ got) got ≡ stationAnswers (stationOf k b) (cond t (f ∷ own) own))
       go true e ih =
           let h = eqb-true (sender f) k e in
           let s = own-station b f w h in (
-            ih .0 ∙ ap (λ (t : Station). stationAt t own) s,
+            ih .0 ∙ ap (λ (t : Station). stationAfterAll t own) s,
             ap₂ (λ (a : Answer) (rest : List Answer). a ∷ rest) (own-answer b f h) (ih .1 ∙ ap (λ (t : Station). stationAnswers t own) s),
           )
       go false e ih =
           let s = others-stay b f k (eqb-false (sender f) k e) in
-          (ih .0 ∙ ap (λ (t : Station). stationAt t own) s, ih .1 ∙ ap (λ (t : Station). stationAnswers t own) s)
+          (ih .0 ∙ ap (λ (t : Station). stationAfterAll t own) s, ih .1 ∙ ap (λ (t : Station). stationAnswers t own) s)
 
   -- So two runs in which k sends the same frames at the same times, whatever the others send in them, give k the same session, last time and answers.
   pub unmixed : (b c : Stations) (fs gs : List Timed) → Whole b → Whole c → stationOf k b ≡ stationOf k c → ownTimed k fs ≡ ownTimed k gs
-      → (stationOf k (stationsAt b fs) ≡ stationOf k (stationsAt c gs))
+      → (stationOf k (stationsAfterAll b fs) ≡ stationOf k (stationsAfterAll c gs))
       × (ownAnswers k (framesOf fs) (timedAnswers b fs) ≡ ownAnswers k (framesOf gs) (timedAnswers c gs))
   unmixed b c fs gs v w s e =
       let x = mixing b fs v in
       let y = mixing c gs w in
-      (x .0 ∙ ap₂ stationAt s e ∙ sym (y .0), x .1 ∙ ap₂ stationAnswers s e ∙ sym (y .1))
+      (x .0 ∙ ap₂ stationAfterAll s e ∙ sym (y .0), x .1 ∙ ap₂ stationAnswers s e ∙ sym (y .1))
 
 -- A run without times is the untimed run, and no last time changes.
 module _ (b : Stations) (f : Frame) where
@@ -135,13 +135,13 @@ module _ (b : Stations) (f : Frame) where
   plain-answer = refl
 
 pub untimed-run : (b : Stations) (fs : List Frame)
-    → (stationsAt b (untimed fs) ≡ record { sessions = sessionsAt (b .sessions) fs; times = b .times })
-    × (timedAnswers b (untimed fs) ≡ answersAt (b .sessions) fs)
-unfolding stationsAt timedAnswers sessionsAt answersAt untimed
+    → (stationsAfterAll b (untimed fs) ≡ record { sessions = sessionsAfterAll (b .sessions) fs; times = b .times })
+    × (timedAnswers b (untimed fs) ≡ answersToAll (b .sessions) fs)
+unfolding stationsAfterAll timedAnswers sessionsAfterAll answersToAll untimed
 untimed-run b [] = (refl, refl)
 untimed-run b (f ∷ fs) =
     let e = plain-after b f in
     let rest = untimed-run (record { sessions = sessionsAfter (b .sessions) f; times = b .times }) fs in (
-      ap (λ (c : Stations). stationsAt c (untimed fs)) e ∙ rest .0,
+      ap (λ (c : Stations). stationsAfterAll c (untimed fs)) e ∙ rest .0,
       ap (λ (l : List Answer). timedAnswer b (plain b f) ∷ l) (ap (λ (c : Stations). timedAnswers c (untimed fs)) e ∙ rest .1),
     )

@@ -17,7 +17,7 @@ use Rattle.joining.specs.Joining.{freshSession, fit}
 use Rattle.joining.specs.Run.{sessionOf}
 use Rattle.joining.proofs.Reached.{fresh-fit, fresh-of}
 use Rattle.times.specs.Timed.{fitLast, Station}
-use Rattle.times.specs.Run.{Timed, sender, stationStep, stationAt, Stations, stationOf, freshStation, freshStations, timedAnswer, stationsAt, ownTimed}
+use Rattle.times.specs.Run.{Timed, sender, stationStep, stationAfterAll, Stations, stationOf, freshStation, freshStations, timedAnswer, stationsAfterAll, ownTimed}
 use Rattle.times.proofs.Steps.{Fit, step-stays-fit, Named, step-named, frame-refusals}
 use Rattle.times.proofs.Mixing.{Whole, mixing}
 
@@ -36,13 +36,13 @@ pub fresh-is-fit : Fit freshStation
 unfolding fitLast
 fresh-is-fit = record { session = fresh-fit; last = refl }
 
-pub run-fit : (s : Station) (fs : List Timed) → Fit s → Fit (stationAt s fs)
-unfolding stationAt
+pub run-fit : (s : Station) (fs : List Timed) → Fit s → Fit (stationAfterAll s fs)
+unfolding stationAfterAll
 run-fit s [] ok = ok
 run-fit s (f ∷ fs) ok = run-fit (stationStep s f .station) fs (step-stays-fit s f ok)
 
 -- Whatever is sent by whom and when, every session and last time that fresh ones come to is fit.
-pub reached-fit : (fs : List Timed) (k : ℕ) → k < 254 → Fit (stationOf k (stationsAt freshStations fs))
+pub reached-fit : (fs : List Timed) (k : ℕ) → k < 254 → Fit (stationOf k (stationsAfterAll freshStations fs))
 reached-fit fs k h = rw (mixing k h freshStations fs fresh-whole .0, fresh-station k h) (run-fit freshStation (ownTimed k fs) fresh-is-fit)
 
 unheard-refused : (id : ℕ) (d : List ℕ) → 254 ≤ senderOf id → 1 ≤ frameRefusal id d
@@ -56,17 +56,17 @@ unheard-refused id d h = go (malformed id d) (foreign id) (ltb 253 (senderOf id)
     go false false false e = clash {b = false} e refl
 
 -- So what a frame is refused there is 1 to 10 or 26 ...
-pub reached-named : (fs : List Timed) (f : Timed) → Named (timedAnswer (stationsAt freshStations fs) f)
+pub reached-named : (fs : List Timed) (f : Timed) → Named (timedAnswer (stationsAfterAll freshStations fs) f)
 reached-named fs f =
     either Named (ltb (sender f) 254)
-    (λ t. step-named (stationOf (sender f) (stationsAt freshStations fs)) f (reached-fit fs (sender f) (ltb-true (sender f) 254 t)))
+    (λ t. step-named (stationOf (sender f) (stationsAfterAll freshStations fs)) f (reached-fit fs (sender f) (ltb-true (sender f) 254 t)))
     (λ t.
     let low = unheard-refused (f .frame .identifier) (f .frame .data-bytes) (ltb-false (sender f) 254 t) in
     let high = frame-refusals (f .frame .identifier) (f .frame .data-bytes) in
     inl (low, omega arith))
 
 -- ... and never 24.
-pub never-unfit : (fs : List Timed) (f : Timed) → timedAnswer (stationsAt freshStations fs) f ≡ Refused 24 → ⊥
+pub never-unfit : (fs : List Timed) (f : Timed) → timedAnswer (stationsAfterAll freshStations fs) f ≡ Refused 24 → ⊥
 never-unfit fs f e = go (subst Named e (reached-named fs f))
   where
     go : Named (Refused 24) → ⊥

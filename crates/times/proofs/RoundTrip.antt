@@ -23,7 +23,7 @@ use Rattle.joining.proofs.Reached.{step-fit}
 use Rattle.bench.specs.Bench.{frames}
 use Rattle.bench.proofs.RoundTrip as bench
 use Rattle.times.specs.Timed.{Last, timeOf, fitLast, metAt, Station, Outcome, lastAfter, kept-at}
-use Rattle.times.specs.Run.{Timed, frameAt, stationStep, stationAt, stationAnswers, Stations, stationOf, stationsAt, timedAnswers, framesOf, ownTimed, timeIn, timesOf, Spaced, lastIn, TimelyFrom, Timely}
+use Rattle.times.specs.Run.{Timed, frameAt, stationStep, stationAfterAll, stationAnswers, Stations, stationOf, stationsAfterAll, timedAnswers, framesOf, ownTimed, timeIn, timesOf, Spaced, lastIn, TimelyFrom, Timely}
 use Rattle.times.proofs.Steps.{Fit, Near, not-before, not-late, met-fit, after-fit, in-time, settled, lastBy, taken-by, by-fit}
 use Rattle.times.proofs.Mixing.{Whole, mixing}
 
@@ -70,8 +70,8 @@ smooth-step (some t) s g ts ok k h =
 
 -- Frames that come in time and aren't refused are taken as without their times.
 smooth : (s : Station) (fs : List Timed) → Fit s → AllTaken (soloAnswers (s .session) (framesOf fs)) → Spaced (lastIn (s .last) ++ timesOf fs)
-    → (stationAnswers s fs ≡ soloAnswers (s .session) (framesOf fs)) × (stationAt s fs .session ≡ soloSession (s .session) (framesOf fs))
-unfolding stationAnswers stationAt soloAnswers soloSession framesOf timesOf
+    → (stationAnswers s fs ≡ soloAnswers (s .session) (framesOf fs)) × (stationAfterAll s fs .session ≡ soloSession (s .session) (framesOf fs))
+unfolding stationAnswers stationAfterAll soloAnswers soloSession framesOf timesOf
 smooth s [] ok k h = (refl, refl)
 smooth s (f ∷ fs) ok k h =
     let u = soloStep (s .session) (f .frame) in
@@ -79,7 +79,7 @@ smooth s (f ∷ fs) ok k h =
     let then : Station = record { session = u .session; last = lastBy (f .time) (u .answer) (s .last) } in
     let rest = smooth then fs (record { session = step-fit (s .session) (f .frame) (ok .session); last = by-fit (f .time) (u .answer) (s .last) (ok .last) }) (k .1) (step .1) in (
       ap (λ (x : Outcome). x .answer ∷ stationAnswers (x .station) fs) (step .0) ∙ ap (λ (l : List Answer). u .answer ∷ l) (rest .0),
-      ap (λ (x : Outcome). stationAt (x .station) fs .session) (step .0) ∙ rest .1,
+      ap (λ (x : Outcome). stationAfterAll (x .station) fs .session) (step .0) ∙ rest .1,
     )
 
 -- A frame that isn't refused isn't refused 1 to 3.
@@ -96,11 +96,11 @@ record TakenAs (s : Station) (fs : List Timed) : Type 0 where
   by : Session
   ready : fit by ≡ true
   answers : stationAnswers s fs ≡ soloAnswers by (framesOf fs)
-  session : stationAt s fs .session ≡ soloSession by (framesOf fs)
+  session : stationAfterAll s fs .session ≡ soloSession by (framesOf fs)
 
 module _ (s : Station) (ok : Fit s) (g : Frame) (fs : List Timed) (takes : (x : Session) → fit x ≡ true → AllTaken (soloAnswers x (g ∷ framesOf fs))) where
   opened-at : (o : Option ℕ) → TimelyFrom o (s .last) fs → TakenAs s (record { frame = g; time = o } ∷ fs)
-  unfolding stationAnswers stationAt soloAnswers soloSession framesOf timesOf
+  unfolding stationAnswers stationAfterAll soloAnswers soloSession framesOf timesOf
   opened-at none h =
       let all = smooth s (record { frame = g; time = none } ∷ fs) ok (takes (s .session) (ok .session)) h in
       record { by = s .session; ready = ok .session; answers = all .0; session = all .1 }
@@ -116,7 +116,7 @@ module _ (s : Station) (ok : Fit s) (g : Frame) (fs : List Timed) (takes : (x : 
         by = x;
         ready = fits;
         answers = ap (λ (y : Outcome). y .answer ∷ stationAnswers (y .station) fs) e ∙ ap (λ (l : List Answer). u .answer ∷ l) (rest .0);
-        session = ap (λ (y : Outcome). stationAt (y .station) fs .session) e ∙ rest .1;
+        session = ap (λ (y : Outcome). stationAfterAll (y .station) fs .session) e ∙ rest .1;
       }
 
 kept-all : (n : ℕ) (r : Report) → AllTaken (replicate n Kept ++ (Complete r ∷ []))
@@ -127,7 +127,7 @@ kept-all (suc n) r = (tt, kept-all n r)
 -- last packet yields that report.
 module _ (sender : ℕ) (known : sender ≤ 253) (r : Report) (note : Option (List ℕ)) (may : Permitted r note) (s : Station) (ready : Fit s) where
   taken-as : (fs : List Timed) → framesOf fs ≡ frames sender (payload r note) → Timely (s .last) fs → TakenAs s fs
-  unfolding framesOf stationAnswers stationAt soloAnswers soloSession
+  unfolding framesOf stationAnswers stationAfterAll soloAnswers soloSession
   taken-as [] these timely =
       record { by = s .session; ready = ready .session; answers = refl; session = refl }
   taken-as (f ∷ fs) these timely =
@@ -142,13 +142,13 @@ module _ (sender : ℕ) (known : sender ≤ 253) (r : Report) (note : Option (Li
         t .answers ∙ ap (soloAnswers (t .by)) these ∙ bench.same-report sender known r note may (t .by) (t .ready)
 
     -- The session is closed, and its bytes are the payload and 255 behind it, ...
-    pub left-closed : stationAt s fs .session ≡ record { bytes = payload r note ++ replicate (84 - size note) 255; size = 0; count = 0; next = 0 }
+    pub left-closed : stationAfterAll s fs .session ≡ record { bytes = payload r note ++ replicate (84 - size note) 255; size = 0; count = 0; next = 0 }
     left-closed =
         let t = taken-as fs these timely in
         t .session ∙ ap (soloSession (t .by)) these ∙ bench.left-closed sender known r note may (t .by) (t .ready)
 
     -- ... so the payload that it holds is the one that was sent.
-    pub same-payload : payloadHeld (stationAt s fs .session .bytes) ≡ payload r note
+    pub same-payload : payloadHeld (stationAfterAll s fs .session .bytes) ≡ payload r note
     same-payload =
         let t = taken-as fs these timely in
         ap (λ (x : Session). payloadHeld (x .bytes)) (t .session ∙ ap (soloSession (t .by)) these) ∙ bench.same-payload sender known r note may (t .by) (t .ready)
@@ -161,7 +161,7 @@ module _ (sender : ℕ) (known : sender ≤ 253) (r : Report) (note : Option (Li
   mixed-report =
       mixing sender (omega arith) b fs all .1 ∙ same-report sender known r note may (stationOf sender b) ready (ownTimed sender fs) own timely
 
-  pub mixed-payload : payloadHeld (stationOf sender (stationsAt b fs) .session .bytes) ≡ payload r note
+  pub mixed-payload : payloadHeld (stationOf sender (stationsAfterAll b fs) .session .bytes) ≡ payload r note
   mixed-payload =
       ap (λ (x : Station). payloadHeld (x .session .bytes)) (mixing sender (omega arith) b fs all .0)
       ∙ same-payload sender known r note may (stationOf sender b) ready (ownTimed sender fs) own timely

@@ -36,9 +36,9 @@ abbrev pub stationStep : Station → Timed → Outcome
 stationStep s f = frameAt (f .time) s (f .frame)
 
 -- One sender's frames and nothing else: what they leave, and the answers in order.
-unfoldable pub stationAt : Station → List Timed → Station
-stationAt s [] = s
-stationAt s (f ∷ fs) = stationAt (stationStep s f .station) fs
+unfoldable pub stationAfterAll : Station → List Timed → Station
+stationAfterAll s [] = s
+stationAfterAll s (f ∷ fs) = stationAfterAll (stationStep s f .station) fs
 
 unfoldable pub stationAnswers : Station → List Timed → List Answer
 stationAnswers s [] = []
@@ -78,9 +78,9 @@ abbrev pub timedAt : ℕ → ℕ → List ℕ → Timed
 timedAt t id d = record { frame = record { identifier = id; data-bytes = d }; time = some t }
 
 -- A run of frames: what is there at its end, and the answers in order.
-unfoldable pub stationsAt : Stations → List Timed → Stations
-stationsAt b [] = b
-stationsAt b (f ∷ fs) = stationsAt (stationsAfter b f) fs
+unfoldable pub stationsAfterAll : Stations → List Timed → Stations
+stationsAfterAll b [] = b
+stationsAfterAll b (f ∷ fs) = stationsAfterAll (stationsAfter b f) fs
 
 unfoldable pub timedAnswers : Stations → List Timed → List Answer
 timedAnswers b [] = []

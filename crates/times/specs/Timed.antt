@@ -1,7 +1,6 @@
 -- A sender's last kept time, and what a frame with a time does to its session and to that time (change 2026-04).
 use Prim.Native.Nat.{ℕ, _-_}
 use mathlib.Core.Bool.{Bool, true, false, cond, not, _&&_, _||_}
-use mathlib.Core.Option.{Option, none, some}
 use mathlib.Core.List.{List}
 use lib.ListN.{getD, set, replicate}
 use lib.Dec.{ltb, eqb}
@@ -9,12 +8,10 @@ use Rattle.joining.specs.declared.Session.{Session}
 use Rattle.joining.specs.declared.Answer.{Answer}
 use Rattle.joining.specs.declared.Answer.the-variants.{Refused, Kept, Complete}
 use Rattle.joining.specs.declared.Taken.{Taken}
-use Rattle.joining.specs.Frame.{Frame, frameRefusal}
+use Rattle.joining.specs.Frame.{frameRefusal}
 use Rattle.joining.specs.Joining.{fit, closed, take-frame}
 use Rattle.joining.specs.Run.{senders}
 use Rattle.times.specs.declared.Times.{Times}
-use Rattle.times.specs.declared.Came.{Came}
-use Rattle.times.specs.declared.Came.the-variants.{InTime, Late, Before, Unfit}
 
 -- A sender's last kept time, in milliseconds: whether there is one, and which.
 pub record Last : Type 0 where
@@ -41,10 +38,6 @@ longest = 750
 
 unfoldable pub isLate : Last → ℕ → Bool
 isLate l t = l .known && ltb longest (t - l .at)
-
--- How a time stands to the last one, those tests in their order.
-unfoldable pub cameAt : Last → ℕ → Came
-cameAt l t = cond (not (fitLast l)) Unfit (cond (isBefore l t) Before (cond (isLate l t) Late InTime))
 
 -- The session that a frame meets at a time: closed where the frame comes too late.
 abbrev pub metAt : Session → Last → ℕ → Session

@@ -26,7 +26,7 @@ pub size-range : (n : ℕ) → sized n ≡ true → (1 ≤ n) × (n ≤ 1024)
 size-range n h = let both = and-both (leb 1 n) (leb n 1024) h in (leb-true 1 n (both .0), leb-true n 1024 (both .1))
 
 pub is-sized : (n : ℕ) → 1 ≤ n → n ≤ 1024 → sized n ≡ true
-is-sized n some within = and-true (le-leb 1 n some) (le-leb n 1024 within)
+is-sized n positive within = and-true (le-leb 1 n positive) (le-leb n 1024 within)
 
 -- The counts are in their ranges.
 pub record Ranges (c : Counts) : Type 0 where
@@ -41,7 +41,7 @@ ranges-of c h =
     let z = and-both (sized (c .size)) (leb (c .entered) 1000000) (y .0) in
     record {
       ring = record {
-        some = size-range (c .size) (z .0) .0;
+        positive = size-range (c .size) (z .0) .0;
         has-rows = leb-true (c .held) (c .size) (y .1);
         were-entered = leb-true (c .held) (c .entered) (x .1);
       };
@@ -52,7 +52,7 @@ ranges-of c h =
 in-ranges : (c : Counts) → Ranges c → countsFit c ≡ true
 in-ranges c k =
     and-true
-    (and-true (and-true (is-sized (c .size) (k .ring .some) (k .within)) (le-leb (c .entered) 1000000 (k .at-most))) (le-leb (c .held) (c .size) (k .ring .has-rows)))
+    (and-true (and-true (is-sized (c .size) (k .ring .positive) (k .within)) (le-leb (c .entered) 1000000 (k .at-most))) (le-leb (c .held) (c .size) (k .ring .has-rows)))
     (le-leb (c .held) (c .entered) (k .ring .were-entered))
 
 -- What a row holds that passes its test.
@@ -125,7 +125,7 @@ empty-fit n h =
     let range = size-range n h in
     fit-is (empty n) (record {
       ranges = record {
-        ring = record { some = range .0; has-rows = omega arith; were-entered = omega arith };
+        ring = record { positive = range .0; has-rows = omega arith; were-entered = omega arith };
         within = range .1;
         at-most = omega arith;
       };
@@ -171,7 +171,7 @@ module _ (w : Window) (v : Values) where
     place = rowOf (w .counts .size) (w .counts .entered + 1)
 
     pub placed : place < 1024
-    placed = omega (arith, mod-lt (w .counts .entered + 1 - 1) (ranges .ring .some))
+    placed = omega (arith, mod-lt (w .counts .entered + 1 - 1) (ranges .ring .positive))
 
     pub loss-there : getD (set (w .losses) place (v .loss)) place 0 ≡ v .loss
     loss-there = getD-set-same (w .losses) place (v .loss) 0 (rw (whole .losses-whole) placed)
@@ -185,8 +185,8 @@ module _ (w : Window) (v : Values) where
     new-row : inRange v ≡ true → rowFit (grown w v) place ≡ true
     new-row may =
         let now-due = due-new (ranges .ring) in
-        let some : w .counts .entered + 1 ≡ 0 → ⊥ = λ e. omega arith in
-        rw (now-due, number-there, loss-there, shake-there, eq-eqb (w .counts .entered + 1) (w .counts .entered + 1) refl, ne-eqb (w .counts .entered + 1) 0 some) may
+        let positive : w .counts .entered + 1 ≡ 0 → ⊥ = λ e. omega arith in
+        rw (now-due, number-there, loss-there, shake-there, eq-eqb (w .counts .entered + 1) (w .counts .entered + 1) refl, ne-eqb (w .counts .entered + 1) 0 positive) may
 
     old-row : (r : ℕ) → (r ≡ place → ⊥) → rowFit (grown w v) r ≡ rowFit w r
     old-row r other =
@@ -201,7 +201,7 @@ module _ (w : Window) (v : Values) where
   -- A fit window stays fit with a report of permitted values more.
   pub added-fit : fitWindow w ≡ true → Whole w → w .counts .entered < 1000000 → inRange v ≡ true → fitWindow (added w v) ≡ true
   added-fit fit whole room may =
-      subst (λ u. fitWindow u ≡ true) (sym (added-taken (is-sized (w .counts .size) (k .ring .some) (k .within)) room))
+      subst (λ u. fitWindow u ≡ true) (sym (added-taken (is-sized (w .counts .size) (k .ring .positive) (k .within)) room))
       (fit-is (grown w v) (record {
         ranges = record { ring = next-ring (k .ring); within = k .within; at-most = omega arith };
         rows = λ r below. go r below (tested (eqb r (place k whole)));

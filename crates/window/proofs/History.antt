@@ -14,10 +14,10 @@ use Rattle.ranking.specs.Standing.{Held, Permitted}
 use Rattle.laws.proofs.Lists.{here, there}
 use Rattle.search.proofs.Search.{All}
 use Rattle.window.specs.Rows.{sized, empty, heldReports, fitWindow, added, grown}
-use Rattle.window.specs.History.{numbered, latest, after}
+use Rattle.window.specs.History.{numbered, latest, windowAfter}
 use Rattle.window.specs.declared.Window.{Window}
 use Rattle.window.proofs.Fitness.{Ranges, Whole, fit-facts, empty-fit, empty-whole, added-fit, added-whole, added-taken, is-sized}
-use Rattle.window.proofs.Reports.{entering, empty-holds, held-added}
+use Rattle.window.proofs.Reports.{newReport, empty-holds, held-added}
 
 length-numbered : (n : ℕ) (vs : List Values) → length (numbered n vs) ≡ length vs
 length-numbered n [] = refl
@@ -60,7 +60,7 @@ module _ (n : ℕ) (past : List Values) (w : Window) (v : Values) (since : Since
   free = omega (arith, since .all-entered)
 
   is-grown : added w v ≡ grown w v
-  is-grown = added-taken w v (is-sized (w .counts .size) (ranges .ring .some) (ranges .within)) free
+  is-grown = added-taken w v (is-sized (w .counts .size) (ranges .ring .positive) (ranges .within)) free
 
   more : length (past ++ (v ∷ [])) ≡ length past + 1
   more = length-append past (v ∷ [])
@@ -86,7 +86,7 @@ module _ (n : ℕ) (past : List Values) (w : Window) (v : Values) (since : Since
       gone : ℕ
       gone = length past - n + (w .counts .held + 1 - w .counts .size)
 
-      same-new : entering w v ≡ new
+      same-new : newReport w v ≡ new
       same-new = ap (λ m. report m v) (omega (arith, since .all-entered))
 
       size-here : length xs ≡ length past
@@ -98,28 +98,28 @@ module _ (n : ℕ) (past : List Values) (w : Window) (v : Values) (since : Since
           ∙ drop-drop (w .counts .held + 1 - w .counts .size) (length past - n) xs
 
       few : gone ≤ length xs
-      few = omega (arith, since .as-many-held, since .of-size, size-here, ranges .ring .some)
+      few = omega (arith, since .as-many-held, since .of-size, size-here, ranges .ring .positive)
 
       count : length (xs ++ (new ∷ [])) - n ≡ gone
-      count = omega (arith, length-append xs (new ∷ []), since .as-many-held, since .of-size, size-here, ranges .ring .some)
+      count = omega (arith, length-append xs (new ∷ []), since .as-many-held, since .of-size, size-here, ranges .ring .positive)
 
-      joined : drop (w .counts .held + 1 - w .counts .size) (heldReports w) ++ (entering w v ∷ []) ≡ latest n (numbered 1 (past ++ (v ∷ [])))
+      joined : drop (w .counts .held + 1 - w .counts .size) (heldReports w) ++ (newReport w v ∷ []) ≡ latest n (numbered 1 (past ++ (v ∷ [])))
       joined =
-          ap (λ l. l ++ (entering w v ∷ [])) old
+          ap (λ l. l ++ (newReport w v ∷ [])) old
           ∙ ap (λ r. drop gone xs ++ (r ∷ [])) same-new
           ∙ sym (drop-append-le gone xs (new ∷ []) few)
           ∙ ap (λ k. drop k (xs ++ (new ∷ []))) (sym count)
           ∙ ap (latest n) (sym (numbered-snoc 1 past v))
 
 -- from a window with its history on
-since-after : (n m : ℕ) (past : List Values) (w : Window) (rest : List Values) → Since n past w → All Permitted (numbered m rest) → length past + length rest ≤ 1000000 → Since n (past ++ rest) (after w rest)
+since-after : (n m : ℕ) (past : List Values) (w : Window) (rest : List Values) → Since n past w → All Permitted (numbered m rest) → length past + length rest ≤ 1000000 → Since n (past ++ rest) (windowAfter w rest)
 since-after n m past w [] since permitted room = subst (λ l. Since n l w) (sym (append-nil past)) since
 since-after n m past w (v ∷ vs) since permitted room =
     let p = permitted (report m v) here in
-    subst (λ l. Since n l (after (added w v) vs)) (append-assoc past (v ∷ []) vs)
+    subst (λ l. Since n l (windowAfter (added w v) vs)) (append-assoc past (v ∷ []) vs)
     (since-after n (m + 1) (past ++ (v ∷ [])) (added w v) vs
     (since-added n past w v since p (omega arith)) (λ u k. permitted u (there k)) (rw length-append (omega arith)))
 
 -- A window that is reached from a fresh one by entering at most 1,000,000 reports of permitted values holds the last min(N, entered) of them, with their numbers and the values that they were entered with; and it is fit.
-pub reached : (n : ℕ) → sized n ≡ true → (past : List Values) → All Permitted (numbered 1 past) → length past ≤ 1000000 → Since n past (after (empty n) past)
+pub reached : (n : ℕ) → sized n ≡ true → (past : List Values) → All Permitted (numbered 1 past) → length past ≤ 1000000 → Since n past (windowAfter (empty n) past)
 reached n h past permitted room = since-after n 1 [] (empty n) past (since-fresh n h) permitted (omega arith)

@@ -8,8 +8,8 @@ use Rattle.window.proofs.Window.fit.Kinds as fit-kinds
 use Rattle.window.proofs.Window.fit.Reads as fit-reads
 use Rattle.window.proofs.Window.place.Kinds as place-kinds
 use Rattle.window.proofs.Window.place.Reads as place-reads
-use Rattle.window.proofs.Window.with.Kinds as with-kinds
-use Rattle.window.proofs.Window.with.Reads as with-reads
+use Rattle.window.proofs.Window.added.Kinds as added-kinds
+use Rattle.window.proofs.Window.added.Reads as added-reads
 
 fresh-once : OneAnswer 0 fresh-kinds.ps fresh-kinds.r fresh-reads.Post
 fresh-once κs a x y s t p q = p ∙ sym q
@@ -20,5 +20,5 @@ fit-once κs a x y s t p q = p ∙ sym q
 place-once : OneAnswer 0 place-kinds.ps place-kinds.r place-reads.Post
 place-once κs a x y s t p q = p ∙ sym q
 
-with-once : OneAnswer 0 with-kinds.ps with-kinds.r with-reads.Post
-with-once κs a x y s t p q = p ∙ sym q
+added-once : OneAnswer 0 added-kinds.ps added-kinds.r added-reads.Post
+added-once κs a x y s t p q = p ∙ sym q

@@ -40,15 +40,15 @@ module _ (w : Window) where
   reports-drop : (k m n : ℕ) → drop k (reportsFrom w m n) ≡ reportsFrom w (m + k) (n - k)
   reports-drop zero m n =
       let from : m ≡ m + 0 = omega arith in
-      let some : n ≡ n - 0 = omega arith in
-      ap (λ j. reportsFrom w j n) from ∙ ap (reportsFrom w (m + 0)) some
+      let as-many : n ≡ n - 0 = omega arith in
+      ap (λ j. reportsFrom w j n) from ∙ ap (reportsFrom w (m + 0)) as-many
   reports-drop (suc k) m zero =
       let none : 0 ≡ 0 - suc k = omega arith in
       ap (reportsFrom w (m + suc k)) none
   reports-drop (suc k) m (suc n) =
       let from : m + 1 + k ≡ m + suc k = omega arith in
-      let some : n - k ≡ suc n - suc k = omega arith in
-      reports-drop k (m + 1) n ∙ ap (λ j. reportsFrom w j (n - k)) from ∙ ap (reportsFrom w (m + suc k)) some
+      let as-many : n - k ≡ suc n - suc k = omega arith in
+      reports-drop k (m + 1) n ∙ ap (λ j. reportsFrom w j (n - k)) from ∙ ap (reportsFrom w (m + suc k)) as-many
 
   -- the reports of the run, by their numbers
   reports-in : (m n j : ℕ) → m ≤ j → j < m + n → reportOf w j ∈ reportsFrom w m n
@@ -111,7 +111,7 @@ module _ (w : Window) (ranges : Ranges (w .counts)) where
 -- The oldest stands first: the one that leaves a full window.
 pub oldest-first : (w : Window) → 1 ≤ w .counts .held → heldReports w ≡ reportOf w (oldest (w .counts)) ∷ drop 1 (heldReports w)
 unfolding heldReports
-oldest-first w some = first (oldest (w .counts)) (w .counts .held) some
+oldest-first w positive = first (oldest (w .counts)) (w .counts .held) positive
   where
     first : (m n : ℕ) → 1 ≤ n → reportsFrom w m n ≡ reportOf w m ∷ drop 1 (reportsFrom w m n)
     first m zero h = absurd (not-suc-le-zero h)
@@ -144,32 +144,32 @@ reports-same u w m (suc n) h =
     ∙ ap (λ l. reportOf w m ∷ l) (reports-same u w (m + 1) n (λ j a b. h j (omega arith) (omega arith)))
 
 -- The report that enters: the next in number.
-abbrev pub entering : Window → Values → Held
-entering w v = record { number = w .counts .entered + 1; values = v }
+abbrev pub newReport : Window → Values → Held
+newReport w v = record { number = w .counts .entered + 1; values = v }
 
 module _ (w : Window) (v : Values) (ranges : Ranges (w .counts)) (whole : Whole w) where
-  new-report : reportOf (grown w v) (w .counts .entered + 1) ≡ entering w v
+  new-report : reportOf (grown w v) (w .counts .entered + 1) ≡ newReport w v
   new-report = rw (loss-there w v ranges whole, shake-there w v ranges whole)
 
   old-report : (m : ℕ) → 1 ≤ m → m ≤ w .counts .entered → w .counts .entered + 1 < m + w .counts .size → reportOf (grown w v) m ≡ reportOf w m
   old-report m first entered near =
-      let other = rows-differ (w .counts .size) (ranges .ring .some) m (w .counts .entered + 1) first (omega arith) near in
+      let other = rows-differ (w .counts .size) (ranges .ring .positive) m (w .counts .entered + 1) first (omega arith) near in
       rw (
         getD-set-other (w .losses) (place w v ranges whole) (rowOf (w .counts .size) m) (v .loss) 0 other,
         getD-set-other (w .shakes) (place w v ranges whole) (rowOf (w .counts .size) m) (v .shake) 0 other,
       )
 
   -- The held reports of a window with one report more: those that were held, without the oldest where N were, and then the new one.
-  pub held-added : w .counts .entered < 1000000 → heldReports (added w v) ≡ drop (w .counts .held + 1 - w .counts .size) (heldReports w) ++ (entering w v ∷ [])
+  pub held-added : w .counts .entered < 1000000 → heldReports (added w v) ≡ drop (w .counts .held + 1 - w .counts .size) (heldReports w) ++ (newReport w v ∷ [])
   unfolding heldReports
   held-added room =
-      ap heldReports (added-taken w v (is-sized (w .counts .size) (ranges .ring .some) (ranges .within)) room)
+      ap heldReports (added-taken w v (is-sized (w .counts .size) (ranges .ring .positive) (ranges .within)) room)
       ∙ ap (λ n. reportsFrom g (e + 1 - n + 1) n) next
       ∙ ap (λ m. reportsFrom g m (suc n)) from
       ∙ reports-snoc g (e - n + 1) n
       ∙ ap (λ m. reportsFrom g (e - n + 1) n ++ (reportOf g m ∷ [])) last
       ∙ ap (λ r. reportsFrom g (e - n + 1) n ++ (r ∷ [])) new-report
-      ∙ ap (λ l. l ++ (entering w v ∷ [])) (kept ∙ sym dropped)
+      ∙ ap (λ l. l ++ (newReport w v ∷ [])) (kept ∙ sym dropped)
     where
       g : Window
       g = grown w v
@@ -181,10 +181,10 @@ module _ (w : Window) (v : Values) (ranges : Ranges (w .counts)) (whole : Whole 
       n = min (w .counts .size) (w .counts .held + 1) - 1
 
       next : min (w .counts .size) (w .counts .held + 1) ≡ suc n
-      next = omega (arith, ranges .ring .some)
+      next = omega (arith, ranges .ring .positive)
 
       bound : (n ≤ e) × (n < w .counts .size)
-      bound = (omega (arith, ranges .ring .some, ranges .ring .were-entered), omega (arith, ranges .ring .some))
+      bound = (omega (arith, ranges .ring .positive, ranges .ring .were-entered), omega (arith, ranges .ring .positive))
 
       from : e + 1 - suc n + 1 ≡ e - n + 1
       from = omega (arith, bound)
@@ -196,10 +196,10 @@ module _ (w : Window) (v : Values) (ranges : Ranges (w .counts)) (whole : Whole 
       kept = reports-same g w (e - n + 1) n (λ j a b. old-report j (omega arith) (omega (arith, bound)) (omega (arith, bound)))
 
       gone : oldest (w .counts) + (w .counts .held + 1 - w .counts .size) ≡ e - n + 1
-      gone = omega (arith, ranges .ring .some, ranges .ring .has-rows, ranges .ring .were-entered)
+      gone = omega (arith, ranges .ring .positive, ranges .ring .has-rows, ranges .ring .were-entered)
 
       left : w .counts .held - (w .counts .held + 1 - w .counts .size) ≡ n
-      left = omega (arith, ranges .ring .some, ranges .ring .has-rows)
+      left = omega (arith, ranges .ring .positive, ranges .ring .has-rows)
 
       dropped : drop (w .counts .held + 1 - w .counts .size) (reportsFrom w (oldest (w .counts)) (w .counts .held)) ≡ reportsFrom w (e - n + 1) n
       dropped =

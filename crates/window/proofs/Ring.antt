@@ -18,12 +18,12 @@ turns N x y q e = ap (λ z. z % N) e ∙ add-mul-mod-self-left y N q
 abbrev pub counting : (N e h : ℕ) → Counts
 counting N e h = record { size = N; entered = e; held = h }
 
-module _ (N : ℕ) (some : 1 ≤ N) where
+module _ (N : ℕ) (positive : 1 ≤ N) where
   -- the way back from y to the row of x is the way back to x
   pub gap : (x y : ℕ) → x ≤ y → (y + N - x % N) % N ≡ (y - x) % N
   gap x y h =
       let whole = div-add-mod x N in
-      let small = mod-lt x some in
+      let small = mod-lt x positive in
       turns N (y + N - x % N) (y - x) (suc (x / N)) (omega (arith, mul-suc N (x / N)))
 
   -- and as far back from x as r lies behind it is r's row
@@ -70,7 +70,7 @@ module _ (N : ℕ) (some : 1 ≤ N) where
 
 -- A ring of N rows, where the latest h of e numbers are held.
 pub record Ring (N e h : ℕ) : Type 0 where
-  pub some : 1 ≤ N
+  pub positive : 1 ≤ N
   pub has-rows : h ≤ N
   pub were-entered : h ≤ e
 
@@ -85,9 +85,9 @@ module _ {N e h : ℕ} (ring : Ring N e h) where
   -- the row of a held number must hold it
   pub due-held : (m : ℕ) → e < m + h → m ≤ e → due (counting N e h) (rowOf N m) ≡ m
   due-held m late entered =
-      let old : age N e (rowOf N m) ≡ e - m = age-of-row N (ring .some) e m (omega arith) entered (omega arith) in
+      let old : age N e (rowOf N m) ≡ e - m = age-of-row N (ring .positive) e m (omega arith) entered (omega arith) in
       let young : age N e (rowOf N m) < h = omega arith in
-      rw (lt-ltb _ _ (mod-lt (m - 1) (ring .some)), lt-ltb _ _ young) (omega arith)
+      rw (lt-ltb _ _ (mod-lt (m - 1) (ring .positive)), lt-ltb _ _ young) (omega arith)
 
   -- and where a row must hold a number, it is a held one whose row it is
   pub due-kept : (r : ℕ) → (due (counting N e h) r ≡ 0 → ⊥) → Kept N e h r (due (counting N e h) r)
@@ -104,13 +104,13 @@ module _ {N e h : ℕ} (ring : Ring N e h) where
             in-ring = in-ring;
             late = omega arith;
             entered = omega arith;
-            its-row = ap (rowOf N) is ∙ row-of-age N (ring .some) e r in-ring (omega arith);
+            its-row = ap (rowOf N) is ∙ row-of-age N (ring .positive) e r in-ring (omega arith);
           }
 
 -- With one number more, every row but its own must hold what it had to hold before.
 module _ {N e h : ℕ} (ring : Ring N e h) where
   pub next-ring : Ring N (e + 1) (min N (h + 1))
-  next-ring = record { some = ring .some; has-rows = omega arith; were-entered = omega arith }
+  next-ring = record { positive = ring .positive; has-rows = omega arith; were-entered = omega arith }
 
   -- the new number's row
   pub due-new : due (counting N (e + 1) (min N (h + 1))) (rowOf N (e + 1)) ≡ e + 1

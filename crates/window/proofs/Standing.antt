@@ -72,7 +72,7 @@ module _ (w : Window) (fit : fitWindow w ≡ true) where
   row r below = row-holds _ _ _ (facts .rows r below)
 
   in-ring : (m : ℕ) → rowOf (w .counts .size) m < 1024
-  in-ring m = omega (arith, mod-lt (m - 1) (ranges .ring .some), ranges .within)
+  in-ring m = omega (arith, mod-lt (m - 1) (ranges .ring .positive), ranges .within)
 
   -- the values that stand in a row are whole
   whole : (r : ℕ) → r < 1024 → reportIn w r ≡ record { number = getD (w .numbers) r 0; values = valuesIn w r }

@@ -17,6 +17,6 @@ abbrev pub latest : {A : Type 0} → ℕ → List A → List A
 latest n l = drop (length l - n) l
 
 -- The window after all of them entered, in their order.
-abbrev pub after : Window → List Values → Window
-after w [] = w
-after w (v ∷ vs) = after (added w v) vs
+abbrev pub windowAfter : Window → List Values → Window
+windowAfter w [] = w
+windowAfter w (v ∷ vs) = windowAfter (added w v) vs

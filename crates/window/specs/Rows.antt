@@ -103,12 +103,12 @@ fitWindow w = countsFit (w .counts) && rowsFit w rowCount
 -- ---- entering
 
 -- The counts with one report more.
-abbrev pub counted : Counts → Counts
-counted c = record { size = c .size; entered = c .entered + 1; held = min (c .size) (c .held + 1) }
+abbrev pub grownCounts : Counts → Counts
+grownCounts c = record { size = c .size; entered = c .entered + 1; held = min (c .size) (c .held + 1) }
 
 -- Where the next report goes: its row, and how many are held with it.
 unfoldable pub placeFor : Counts → Place
-placeFor c = cond (sized (c .size)) (record { row = rowOf (c .size) (c .entered + 1); held = counted c .held }) (record { row = 0; held = 0 })
+placeFor c = cond (sized (c .size)) (record { row = rowOf (c .size) (c .entered + 1); held = grownCounts c .held }) (record { row = 0; held = 0 })
 
 -- The window with the next report in its row; where N are held, that row was the oldest's.
 abbrev pub grown : Window → Values → Window
@@ -117,7 +117,7 @@ grown w v =
       losses = set (w .losses) (rowOf (w .counts .size) (w .counts .entered + 1)) (v .loss);
       shakes = set (w .shakes) (rowOf (w .counts .size) (w .counts .entered + 1)) (v .shake);
       numbers = set (w .numbers) (rowOf (w .counts .size) (w .counts .entered + 1)) (w .counts .entered + 1);
-      counts = counted (w .counts);
+      counts = grownCounts (w .counts);
     }
 
 -- The window with one report more; one that can take none (rules 5.1 and 5.2) stays.

@@ -88,13 +88,13 @@ impl Window {
 
     // The window with one report more; where N are held, the oldest gives it its row. A window that can take none is
     // handed back.
-    pub fn with(self, values: Values) -> Window
+    pub fn added(self, values: Values) -> Window
         ensures { λ r. ⌜ r ≡ added self values ⌝ }
     {
         let counts = self.counts;
         if sized(counts.size) {
             if counts.entered < Window::REPORTS {
-                return entering(self, values);
+                return grown(self, values);
             }
         }
         self
@@ -129,7 +129,7 @@ fn empty(size: u16) -> Window
 }
 
 // The next report stored in its row.
-fn entering(w: Window, values: Values) -> Window
+fn grown(w: Window, values: Values) -> Window
     requires { ⌜ (sized (w .counts .size) ≡ true) × (w .counts .entered < reportLimit) ⌝ }
     ensures { λ r. ⌜ r ≡ added w values ⌝ }
 {

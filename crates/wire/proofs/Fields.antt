@@ -83,12 +83,12 @@ written-stands p v q at tag size hp hv hs =
     rw (← hp, ← hv, ← found p v q tag (rw hv hs)) (and-eq-true-iff _ _ .1 (eq-eqb tag tag refl, eq-eqb (length v) (length v) refl))
 
 module _ (s : List ℕ) (at tag size : ℕ) where
-  told : (n : ℕ) (a b : Bool) → isField (cond a (cond b (Whole (getD s at 0) (at + 3) n) Cut) Cut) tag size ≡ true
+  stands-so : (n : ℕ) (a b : Bool) → isField (cond a (cond b (Whole (getD s at 0) (at + 3) n) Cut) Cut) tag size ≡ true
       → (b ≡ true) × (eqb (getD s at 0) tag ≡ true) × (eqb n size ≡ true)
-  told n true true h = let e = and-eq-true-iff (eqb (getD s at 0) tag) (eqb n size) .0 h in (refl, e .0, e .1)
-  told n true false h = absurd (false≢true h)
-  told n false true h = absurd (false≢true h)
-  told n false false h = absurd (false≢true h)
+  stands-so n true true h = let e = and-eq-true-iff (eqb (getD s at 0) tag) (eqb n size) .0 h in (refl, e .0, e .1)
+  stands-so n true false h = absurd (false≢true h)
+  stands-so n false true h = absurd (false≢true h)
+  stands-so n false false h = absurd (false≢true h)
 
   -- Where a field stands, its tag and its length do, and its value is within the bytes.
   pub stands-facts : isField (fieldAt s at) tag size ≡ true
@@ -96,7 +96,7 @@ module _ (s : List ℕ) (at tag size : ℕ) where
   unfolding fieldAt
   stands-facts h =
       let n = number (part (at + 1) 2 s) in
-      let t = told n (leb (at + 3) (length s)) (leb (at + 3 + n) (length s)) h in
+      let t = stands-so n (leb (at + 3) (length s)) (leb (at + 3 + n) (length s)) h in
       (leb-true _ _ (t .0), eqb-true _ _ (t .1), eqb-true _ _ (t .2))
 
 -- Where a field stands, the bytes are those that writing it gives.

@@ -4,7 +4,7 @@ use denote.Ref.{now}
 use mathlib.Core.Path.{refl, sym, _∙_}
 use borrow.Author.Tests.{eq-eqb, ne-eqb, not-true}
 use Rattle.report.proofs.Places.{passes}
-use Rattle.bus.specs.Room.{sessionAt}
+use Rattle.bus.specs.Room.{sessionIn}
 use Rattle.bus.proofs.Places.{whole}
 use Rattle.joining.proofs.Steps.{fit-numbers, unfit, announcing, carrying}
 use Rattle.bus.proofs.Placed.{step}
@@ -29,7 +29,7 @@ returns c =
     let s = c .before .before .before .before .before .before .before in
     let p = now (s .args .place) in
     let d = now (s .args .«data») in
-    step (unfit (sessionAt p) (s .args .id) d (s .pre .1) (sym (fit-numbers (sessionAt p)) ∙ sym (c .before .numbers-fit .ensures) ∙ not-true _ (c .if1 .taken))) refl (sym (whole p (s .pre .0)))
+    step (unfit (sessionIn p) (s .args .id) d (s .pre .1) (sym (fit-numbers (sessionIn p)) ∙ sym (c .before .numbers-fit .ensures) ∙ not-true _ (c .if1 .taken))) refl (sym (whole p (s .pre .0)))
 
 announced-at-requires : tie.Need-announced-at-requires
 announced-at-requires c κs = search needs
@@ -37,7 +37,7 @@ announced-at-requires c κs = search needs
 packet-at-requires : tie.Need-packet-at-requires
 packet-at-requires c κs =
     let s = c .before .before .before .before .before .before .before .before .before in
-    (s .pre .0, sym (fit-numbers (sessionAt (now (s .args .place)))) ∙ passes _ (c .before .before .before .numbers-fit .ensures) (c .before .before .if1 .left))
+    (s .pre .0, sym (fit-numbers (sessionIn (now (s .args .place)))) ∙ passes _ (c .before .before .before .numbers-fit .ensures) (c .before .before .if1 .left))
 
 same-length : tie.Need-same-length
 same-length c = search needs
@@ -47,8 +47,8 @@ returns-2 c =
     let s = c .before .before .before .before .before .before .before .before .before .before .before .before in
     let p = now (s .args .place) in
     let d = now (s .args .«data») in
-    let fine = sym (fit-numbers (sessionAt p)) ∙ passes _ (c .before .before .before .before .before .before .numbers-fit .ensures) (c .before .before .before .before .before .if1 .left) in
-    step (announcing (sessionAt p) (s .args .id) d (s .pre .1) fine (eq-eqb _ _ (c .before .before .before .before .if2 .taken))) (c .before .before .announced-at .ensures .0) (c .before .before .announced-at .ensures .1)
+    let fine = sym (fit-numbers (sessionIn p)) ∙ passes _ (c .before .before .before .before .before .before .numbers-fit .ensures) (c .before .before .before .before .before .if1 .left) in
+    step (announcing (sessionIn p) (s .args .id) d (s .pre .1) fine (eq-eqb _ _ (c .before .before .before .before .if2 .taken))) (c .before .before .announced-at .ensures .0) (c .before .before .announced-at .ensures .1)
 
 same-length-2 : tie.Need-same-length-2
 same-length-2 c = search needs
@@ -58,8 +58,8 @@ returns-3 c =
     let s = c .before .before .before .before .before .before .before .before .before .before .before .before in
     let p = now (s .args .place) in
     let d = now (s .args .«data») in
-    let fine = sym (fit-numbers (sessionAt p)) ∙ passes _ (c .before .before .before .before .before .before .numbers-fit .ensures) (c .before .before .before .before .before .if1 .left) in
-    step (carrying (sessionAt p) (s .args .id) d (s .pre .1) fine (ne-eqb _ _ (c .before .before .before .before .if2 .left))) (c .before .before .packet-at .ensures .0) (c .before .before .packet-at .ensures .1)
+    let fine = sym (fit-numbers (sessionIn p)) ∙ passes _ (c .before .before .before .before .before .before .numbers-fit .ensures) (c .before .before .before .before .before .if1 .left) in
+    step (carrying (sessionIn p) (s .args .id) d (s .pre .1) fine (ne-eqb _ _ (c .before .before .before .before .if2 .left))) (c .before .before .packet-at .ensures .0) (c .before .before .packet-at .ensures .1)
 
 pub advance-at-spec : {M : Type 1} → statement M
 advance-at-spec =

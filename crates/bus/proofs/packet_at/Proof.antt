@@ -6,7 +6,7 @@ use mathlib.Core.List.{List, [], _∷_, _++_}
 use Prim.Native.Nat.{ℕ, _+_}
 use native.Mathlib.Omega.{arith}
 use Rattle.joining.specs.Joining.{finishes}
-use Rattle.bus.specs.Room.{sessionAt, sessionBytes}
+use Rattle.bus.specs.Room.{sessionIn, sessionBytes}
 use Rattle.joining.proofs.Reached.{fit-open}
 use Rattle.bus.proofs.Places.{whole}
 use Rattle.joining.proofs.Steps.{none-open, stray, kept, last}
@@ -29,7 +29,7 @@ returns c =
     let s = c .before .before .before .before .before .before in
     let p = now (s .args .place) in
     let d = now (s .args .«data») in
-    step (none-open (sessionAt p) d (c .if1 .taken)) refl (sym (whole p (s .pre .0)))
+    step (none-open (sessionIn p) d (c .if1 .taken)) refl (sym (whole p (s .pre .0)))
 
 byte-requires : tie.Need-byte-requires
 byte-requires c κs = search needs
@@ -45,12 +45,12 @@ returns-2 c =
     let s = c .before .before .before .before .before .before .before .before .before .before .before .before in
     let p = now (s .args .place) in
     let d = now (s .args .«data») in
-    step (stray (sessionAt p) d (c .before .before .before .before .before .before .if1 .left) (c .before .before .before .before .before .byte .ensures) (c .before .before .before .before .if2 .taken)) refl (c .before .before .close-at .ensures)
+    step (stray (sessionIn p) d (c .before .before .before .before .before .before .if1 .left) (c .before .before .before .before .before .byte .ensures) (c .before .before .before .before .if2 .taken)) refl (c .before .before .close-at .ensures)
 
 sub-store : tie.Need-sub-store
 sub-store c =
     let s = c .before .before .before .before .before .before .before .before .before in
-    let o = fit-open (sessionAt (now (s .args .place))) (s .pre .1) (c .before .before .before .if1 .left) in
+    let o = fit-open (sessionIn (now (s .args .place))) (s .pre .1) (c .before .before .before .if1 .left) in
     omega (arith, o .first)
 
 store-requires : tie.Need-store-requires
@@ -61,7 +61,7 @@ add-put-numbers c =
     let s = c .before .before .before .before .before .before .before .before .before .before .before .before .before .before in
     let p = now (s .args .place) in
     let d = now (s .args .«data») in
-    let o = fit-open (sessionAt p) (s .pre .1) (c .before .before .before .before .before .before .before .before .if1 .left) in
+    let o = fit-open (sessionIn p) (s .pre .1) (c .before .before .before .before .before .before .before .before .if1 .left) in
     omega (arith, o .last, o .count, o .high)
 
 put-numbers-requires : tie.Need-put-numbers-requires
@@ -75,10 +75,10 @@ returns-3 c =
     let s = c .before .before .before .before .before .before .before .before .before .before .before .before .before .before .before .before .before in
     let p = now (s .args .place) in
     let d = now (s .args .«data») in
-    let o = fit-open (sessionAt p) (s .pre .1) (c .before .before .before .before .before .before .before .before .before .before .before .if1 .left) in
-    let numbers : List ℕ = sessionAt p .size ∷ sessionAt p .count ∷ (sessionAt p .next + 1) ∷ [] in
+    let o = fit-open (sessionIn p) (s .pre .1) (c .before .before .before .before .before .before .before .before .before .before .before .if1 .left) in
+    let numbers : List ℕ = sessionIn p .size ∷ sessionIn p .count ∷ (sessionIn p .next + 1) ∷ [] in
     step
-    (kept (sessionAt p) d (c .before .before .before .before .before .before .before .before .before .before .before .if1 .left) (c .before .before .before .before .before .before .before .before .before .before .byte .ensures) (c .before .before .before .before .before .before .before .before .before .if2 .left) (c .before .before .before .before .if3 .taken))
+    (kept (sessionIn p) d (c .before .before .before .before .before .before .before .before .before .before .before .if1 .left) (c .before .before .before .before .before .before .before .before .before .before .byte .ensures) (c .before .before .before .before .before .before .before .before .before .if2 .left) (c .before .before .before .before .if3 .taken))
     refl
     (c .before .before .put-numbers .ensures ∙ ap (λ (l : List ℕ). l ++ numbers) (stored-at p d o (c .before .before .before .before .before .before .before .store .ensures)))
 
@@ -87,7 +87,7 @@ finish-at-requires c κs =
     let s = c .before .before .before .before .before .before .before .before .before .before .before .before .before .before in
     let p = now (s .args .place) in
     let d = now (s .args .«data») in
-    let o = fit-open (sessionAt p) (s .pre .1) (c .before .before .before .before .before .before .before .before .if1 .left) in
+    let o = fit-open (sessionIn p) (s .pre .1) (c .before .before .before .before .before .before .before .before .if1 .left) in
     (stored-long p d (s .pre .0) (c .before .before .before .before .store .ensures), o .high)
 
 same-length-3 : tie.Need-same-length-3
@@ -98,12 +98,12 @@ returns-4 c =
     let s = c .before .before .before .before .before .before .before .before .before .before .before .before .before .before .before .before .before in
     let p = now (s .args .place) in
     let d = now (s .args .«data») in
-    let o = fit-open (sessionAt p) (s .pre .1) (c .before .before .before .before .before .before .before .before .before .before .before .if1 .left) in
+    let o = fit-open (sessionIn p) (s .pre .1) (c .before .before .before .before .before .before .before .before .before .before .before .if1 .left) in
     let bytes = stored-at p d o (c .before .before .before .before .before .before .before .store .ensures) in
     step
-    (last (sessionAt p) d (c .before .before .before .before .before .before .before .before .before .before .before .if1 .left) (c .before .before .before .before .before .before .before .before .before .before .byte .ensures) (c .before .before .before .before .before .before .before .before .before .if2 .left) (c .before .before .before .before .if3 .left))
-    (c .before .before .finish-at .ensures .0 ∙ ap (λ (l : List ℕ). finishes l (sessionAt p .size) .answer) bytes)
-    (c .before .before .finish-at .ensures .1 ∙ ap (λ (l : List ℕ). sessionBytes (finishes l (sessionAt p .size) .session)) bytes)
+    (last (sessionIn p) d (c .before .before .before .before .before .before .before .before .before .before .before .if1 .left) (c .before .before .before .before .before .before .before .before .before .before .byte .ensures) (c .before .before .before .before .before .before .before .before .before .if2 .left) (c .before .before .before .before .if3 .left))
+    (c .before .before .finish-at .ensures .0 ∙ ap (λ (l : List ℕ). finishes l (sessionIn p .size) .answer) bytes)
+    (c .before .before .finish-at .ensures .1 ∙ ap (λ (l : List ℕ). sessionBytes (finishes l (sessionIn p .size) .session)) bytes)
 
 pub packet-at-spec : {M : Type 1} → statement M
 packet-at-spec =

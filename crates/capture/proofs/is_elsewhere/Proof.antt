@@ -21,14 +21,14 @@ returns c =
 interface-requires : tie.Need-interface-requires
 interface-requires c κs = search needs
 
-equal-requires : tie.Need-equal-requires
-equal-requires c κs = search needs
+same-requires : tie.Need-same-requires
+same-requires c κs = search needs
 
 returns-2 : tie.Need-returns-2
 unfolding isElsewhere
 returns-2 c =
     let name = now (c .before .before .before .before .before .args .name) in
-    rw (ne-eqb (length name) 0 (c .before .before .if1 .left), c .equal .ensures, c .before .interface .ensures)
+    rw (ne-eqb (length name) 0 (c .before .before .if1 .left), c .same .ensures, c .before .interface .ensures)
 
 pub is-elsewhere-spec : {M : Type 1} → statement M
-is-elsewhere-spec = tie.close (tie.spec returns interface-requires equal-requires returns-2)
+is-elsewhere-spec = tie.close (tie.spec returns interface-requires same-requires returns-2)

@@ -24,8 +24,8 @@ identifier-requires c κs = search needs
 digits-requires : tie.Need-digits-requires
 digits-requires c κs = search needs
 
-eight-requires : tie.Need-eight-requires
-eight-requires c κs = search needs
+eight-bytes-requires : tie.Need-eight-bytes-requires
+eight-bytes-requires c κs = search needs
 
 slice-aggregate-foreign : tie.Need-slice-aggregate-foreign
 slice-aggregate-foreign c = search needs
@@ -38,7 +38,7 @@ unfolding frameFor runBytes
 returns c =
     let w = now (c .before .before .before .before .before .before .before .before .args .word) in
     let room = now (c .before .before .before .before .before .before .before .before .args .room) in
-    let eight : c .before .before .before .eight .result ≡ bytesIn (dataText w) = eight-stored (dataText w) (c .before .before .before .before .before .before .before .before .pre) (c .before .before .before .eight .ensures ∙ ap (λ (t : List ℕ). sets (replicate 8 0) 0 (bytesIn t)) (c .before .before .before .before .digits .ensures)) in
+    let eight : c .before .before .before .eight-bytes .result ≡ bytesIn (dataText w) = eight-stored (dataText w) (c .before .before .before .before .before .before .before .before .pre) (c .before .before .before .eight-bytes .ensures ∙ ap (λ (t : List ℕ). sets (replicate 8 0) 0 (bytesIn t)) (c .before .before .before .before .digits .ensures)) in
     let f = foreign-is (c .before .before .before .before .before .before .before .before .args .ours) w (c .before .before .before .before .before .identifier .ensures) eight (c .before .foreign .ensures) in
     (rw (sym f ∙ c .if1 .taken), rw (sym f ∙ c .if1 .taken))
 
@@ -62,7 +62,7 @@ unfolding frameFor runBytes
 returns-2 c =
     let w = now (c .before .before .before .before .before .before .before .before .before .before .before .before .before .before .before .before .args .word) in
     let room = now (c .before .before .before .before .before .before .before .before .before .before .before .before .before .before .before .before .args .room) in
-    let eight : c .before .before .before .before .before .before .before .before .before .before .before .eight .result ≡ bytesIn (dataText w) = eight-stored (dataText w) (c .before .before .before .before .before .before .before .before .before .before .before .before .before .before .before .before .pre) (c .before .before .before .before .before .before .before .before .before .before .before .eight .ensures ∙ ap (λ (t : List ℕ). sets (replicate 8 0) 0 (bytesIn t)) (c .before .before .before .before .before .before .before .before .before .before .before .before .digits .ensures)) in
+    let eight : c .before .before .before .before .before .before .before .before .before .before .before .eight-bytes .result ≡ bytesIn (dataText w) = eight-stored (dataText w) (c .before .before .before .before .before .before .before .before .before .before .before .before .before .before .before .before .pre) (c .before .before .before .before .before .before .before .before .before .before .before .eight-bytes .ensures ∙ ap (λ (t : List ℕ). sets (replicate 8 0) 0 (bytesIn t)) (c .before .before .before .before .before .before .before .before .before .before .before .before .digits .ensures)) in
     let f = foreign-is (c .before .before .before .before .before .before .before .before .before .before .before .before .before .before .before .before .args .ours) w (c .before .before .before .before .before .before .before .before .before .before .before .before .before .identifier .ensures) eight (c .before .before .before .before .before .before .before .before .before .foreign .ensures) in
     let item = c .before .before .before .before .before .put .ensures .1 ∙ ap₂ (λ (n : Number) (ds : List ℕ). sets room 0 (itemBytes (item.Frame (n .value)) ds)) (c .before .before .before .before .before .before .before .before .before .before .before .before .before .identifier .ensures) eight ∙ ap (sets room 0) (sym (append-nil (itemBytes (item.Frame _) (bytesIn (dataText w))))) in
     let m : isMarked (rawText w) ≡ true = ap isMarked (sym (c .before .before .raw .ensures)) ∙ sym (c .before .marked .ensures) ∙ c .if2 .taken in
@@ -76,7 +76,7 @@ unfolding frameFor runBytes
 returns-3 c =
     let w = now (c .before .before .before .before .before .before .before .before .before .before .before .before .before .before .before .before .args .word) in
     let room = now (c .before .before .before .before .before .before .before .before .before .before .before .before .before .before .before .before .args .room) in
-    let eight : c .before .before .before .before .before .before .before .before .before .before .before .eight .result ≡ bytesIn (dataText w) = eight-stored (dataText w) (c .before .before .before .before .before .before .before .before .before .before .before .before .before .before .before .before .pre) (c .before .before .before .before .before .before .before .before .before .before .before .eight .ensures ∙ ap (λ (t : List ℕ). sets (replicate 8 0) 0 (bytesIn t)) (c .before .before .before .before .before .before .before .before .before .before .before .before .digits .ensures)) in
+    let eight : c .before .before .before .before .before .before .before .before .before .before .before .eight-bytes .result ≡ bytesIn (dataText w) = eight-stored (dataText w) (c .before .before .before .before .before .before .before .before .before .before .before .before .before .before .before .before .pre) (c .before .before .before .before .before .before .before .before .before .before .before .eight-bytes .ensures ∙ ap (λ (t : List ℕ). sets (replicate 8 0) 0 (bytesIn t)) (c .before .before .before .before .before .before .before .before .before .before .before .before .digits .ensures)) in
     let f = foreign-is (c .before .before .before .before .before .before .before .before .before .before .before .before .before .before .before .before .args .ours) w (c .before .before .before .before .before .before .before .before .before .before .before .before .before .identifier .ensures) eight (c .before .before .before .before .before .before .before .before .before .foreign .ensures) in
     let item = c .before .before .before .before .before .put .ensures .1 ∙ ap₂ (λ (n : Number) (ds : List ℕ). sets room 0 (itemBytes (item.Frame (n .value)) ds)) (c .before .before .before .before .before .before .before .before .before .before .before .before .before .identifier .ensures) eight ∙ ap (sets room 0) (sym (append-nil (itemBytes (item.Frame _) (bytesIn (dataText w))))) in
     let m : isMarked (rawText w) ≡ false = ap isMarked (sym (c .before .before .raw .ensures)) ∙ sym (c .before .marked .ensures) ∙ c .if2 .left in
@@ -88,7 +88,7 @@ put-frame-spec =
     (tie.spec
     identifier-requires
     digits-requires
-    eight-requires
+    eight-bytes-requires
     slice-aggregate-foreign
     foreign-requires
     returns

@@ -10,10 +10,11 @@ use lib.Seq.{sets}
 use Rattle.items.specs.Run.{runBytes}
 use Rattle.dump.specs.Dump.{isDrop, isLog, frameIn, shownIn}
 use Rattle.dump.proofs.Texts.{shown-most}
-use Rattle.capture.specs.Capture.{isElsewhere, sortFor, itemsFor}
+use Rattle.capture.specs.Capture.{isElsewhere, sortFor}
 use Rattle.capture.proofs.Frames.{line-empty, line-drop, line-frame, line-items, none-written, logged-frame, shown-frame, front-shown}
 use borrow.Author.Needs.{needs}
 use Rattle.capture.proofs.write.Statement.{statement}
+use Rattle.capture.specs.Inner.{itemsFor}
 use Rattle.capture.proofs.write.Tie as tie
 
 word-requires : tie.Need-word-requires

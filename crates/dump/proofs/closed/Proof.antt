@@ -33,11 +33,11 @@ returns-2 c =
     let some = ne-eqb (length (wordAt at f)) 0 (λ e. c .before .before .if1 .left (ap length (c .before .before .before .word .ensures) ∙ e)) in
     rw (some, ← c .before .before .before .word .ensures, eq-eqb _ 39 (sym (c .before .byte .ensures) ∙ c .if2 .taken))
 
-slice-aggregate-equal : tie.Need-slice-aggregate-equal
-slice-aggregate-equal c = search needs
+slice-aggregate-same : tie.Need-slice-aggregate-same
+slice-aggregate-same c = search needs
 
-equal-requires : tie.Need-equal-requires
-equal-requires c κs = search needs
+same-requires : tie.Need-same-requires
+same-requires c κs = search needs
 
 returns-3 : tie.Need-returns-3
 unfolding closedAt
@@ -45,7 +45,7 @@ returns-3 c =
     let f = now (c .before .before .before .before .before .before .before .args .f) in
     let at = c .before .before .before .before .before .before .before .args .at in
     let some = ne-eqb (length (wordAt at f)) 0 (λ e. c .before .before .before .before .if1 .left (ap length (c .before .before .before .before .before .word .ensures) ∙ e)) in
-    c .equal .ensures ∙ rw (some, ← c .before .before .before .before .before .word .ensures, ne-eqb (getD (now (c .before .before .before .before .before .word .result)) 0 0) 39 (λ e. c .before .before .if2 .left (c .before .before .before .byte .ensures ∙ e)))
+    c .same .ensures ∙ rw (some, ← c .before .before .before .before .before .word .ensures, ne-eqb (getD (now (c .before .before .before .before .before .word .result)) 0 0) 39 (λ e. c .before .before .if2 .left (c .before .before .before .byte .ensures ∙ e)))
 
 pub closed-spec : {M : Type 1} → statement M
 closed-spec =
@@ -55,6 +55,6 @@ closed-spec =
     returns
     byte-requires
     returns-2
-    slice-aggregate-equal
-    equal-requires
+    slice-aggregate-same
+    same-requires
     returns-3)

@@ -34,11 +34,11 @@ returns-2 c =
     let m : length (wordAt 3 line) ≡ 0 = ap length (sym (c .before .word .ensures)) ∙ c .if2 .taken in
     rw (eq-eqb (length (tailAt 4 line)) 0 t, eq-eqb (length (wordAt 3 line)) 0 m)
 
-slice-aggregate-equal : tie.Need-slice-aggregate-equal
-slice-aggregate-equal c = search needs
+slice-aggregate-same : tie.Need-slice-aggregate-same
+slice-aggregate-same c = search needs
 
-equal-requires : tie.Need-equal-requires
-equal-requires c κs = search needs
+same-requires : tie.Need-same-requires
+same-requires c κs = search needs
 
 returns-3 : tie.Need-returns-3
 unfolding ended
@@ -46,13 +46,13 @@ returns-3 c =
     let line = now (c .before .before .before .before .before .before .before .before .args .line) in
     let t : length (tailAt 4 line) ≡ 0 = ap length (sym (c .before .before .before .before .before .before .tail .ensures)) ∙ c .before .before .before .before .before .if1 .left in
     let m = ne-eqb (length (wordAt 3 line)) 0 (λ e. c .before .before .before .if2 .left (ap length (c .before .before .before .before .word .ensures) ∙ e)) in
-    rw (eq-eqb (length (tailAt 4 line)) 0 t, m, ← c .before .before .before .before .word .ensures, sym (c .before .equal .ensures) ∙ c .if3 .taken)
+    rw (eq-eqb (length (tailAt 4 line)) 0 t, m, ← c .before .before .before .before .word .ensures, sym (c .before .same .ensures) ∙ c .if3 .taken)
 
-slice-aggregate-equal-2 : tie.Need-slice-aggregate-equal-2
-slice-aggregate-equal-2 c = search needs
+slice-aggregate-same-2 : tie.Need-slice-aggregate-same-2
+slice-aggregate-same-2 c = search needs
 
-equal-requires-2 : tie.Need-equal-requires-2
-equal-requires-2 c κs = search needs
+same-requires-2 : tie.Need-same-requires-2
+same-requires-2 c κs = search needs
 
 returns-4 : tie.Need-returns-4
 unfolding ended
@@ -60,7 +60,7 @@ returns-4 c =
     let line = now (c .before .before .before .before .before .before .before .before .before .before .args .line) in
     let t : length (tailAt 4 line) ≡ 0 = ap length (sym (c .before .before .before .before .before .before .before .before .tail .ensures)) ∙ c .before .before .before .before .before .before .before .if1 .left in
     let m = ne-eqb (length (wordAt 3 line)) 0 (λ e. c .before .before .before .before .before .if2 .left (ap length (c .before .before .before .before .before .before .word .ensures) ∙ e)) in
-    c .equal2 .ensures ∙ rw (eq-eqb (length (tailAt 4 line)) 0 t, m, ← c .before .before .before .before .before .before .word .ensures, sym (c .before .before .before .equal .ensures) ∙ c .before .before .if3 .left)
+    c .same2 .ensures ∙ rw (eq-eqb (length (tailAt 4 line)) 0 t, m, ← c .before .before .before .before .before .before .word .ensures, sym (c .before .before .before .same .ensures) ∙ c .before .before .if3 .left)
 
 pub ends-spec : {M : Type 1} → statement M
 ends-spec =
@@ -70,9 +70,9 @@ ends-spec =
     returns
     word-requires
     returns-2
-    slice-aggregate-equal
-    equal-requires
+    slice-aggregate-same
+    same-requires
     returns-3
-    slice-aggregate-equal-2
-    equal-requires-2
+    slice-aggregate-same-2
+    same-requires-2
     returns-4)

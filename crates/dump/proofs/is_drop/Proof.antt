@@ -9,15 +9,15 @@ use Rattle.dump.proofs.is_drop.Tie as tie
 word-requires : tie.Need-word-requires
 word-requires c κs = search needs
 
-slice-aggregate-equal : tie.Need-slice-aggregate-equal
-slice-aggregate-equal c = search needs
+slice-aggregate-same : tie.Need-slice-aggregate-same
+slice-aggregate-same c = search needs
 
-equal-requires : tie.Need-equal-requires
-equal-requires c κs = search needs
+same-requires : tie.Need-same-requires
+same-requires c κs = search needs
 
 returns : tie.Need-returns
 unfolding isDrop
-returns c = c .equal .ensures ∙ rw (c .before .before .word .ensures)
+returns c = c .same .ensures ∙ rw (c .before .before .word .ensures)
 
 pub is-drop-spec : {M : Type 1} → statement M
-is-drop-spec = tie.close (tie.spec word-requires slice-aggregate-equal equal-requires returns)
+is-drop-spec = tie.close (tie.spec word-requires slice-aggregate-same same-requires returns)

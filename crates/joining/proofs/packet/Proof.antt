@@ -38,12 +38,12 @@ returns-3 : tie.Need-returns-3
 unfolding packet
 returns-3 c = rw (ne-eqb _ _ (c .before .before .before .before .if1 .left), ← c .before .before .before .byte .ensures, eq-eqb _ _ (c .before .before .if2 .left), lt-ltb _ _ (c .if3 .taken), c .before .stored .ensures)
 
-finished-requires : tie.Need-finished-requires
-finished-requires c κs = search needs
+finishes-requires : tie.Need-finishes-requires
+finishes-requires c κs = search needs
 
 returns-4 : tie.Need-returns-4
 unfolding packet
-returns-4 c = c .finished .ensures ∙ rw (ne-eqb _ _ (c .before .before .before .before .before .if1 .left), ← c .before .before .before .before .byte .ensures, eq-eqb _ _ (c .before .before .before .if2 .left), le-ltb _ _ (c .before .if3 .left), c .before .before .stored .ensures)
+returns-4 c = c .finishes .ensures ∙ rw (ne-eqb _ _ (c .before .before .before .before .before .if1 .left), ← c .before .before .before .before .byte .ensures, eq-eqb _ _ (c .before .before .before .if2 .left), le-ltb _ _ (c .before .if3 .left), c .before .before .stored .ensures)
 
 pub packet-spec : {M : Type 1} → statement M
 packet-spec =
@@ -58,5 +58,5 @@ packet-spec =
     stored-requires
     add-t11
     returns-3
-    finished-requires
+    finishes-requires
     returns-4)

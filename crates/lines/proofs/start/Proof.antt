@@ -27,23 +27,23 @@ loop-holds c =
     let s = now (c .before .before .args .s) in
     (omega (arith, c .length .ensures, run-within Blanks s), omega arith, rw (c .length .ensures))
 
-sub-next : tie.Need-sub-next Inv-loop μ-loop
-sub-next c = omega arith
+sub-past-word : tie.Need-sub-past-word Inv-loop μ-loop
+sub-past-word c = omega arith
 
-part-next-start : tie.Need-part-next-start Inv-loop μ-loop
-part-next-start c = omega arith
+part-past-word-start : tie.Need-part-past-word-start Inv-loop μ-loop
+part-past-word-start c = omega arith
 
-part-next-end : tie.Need-part-next-end Inv-loop μ-loop
-part-next-end c = omega arith
+part-past-word-end : tie.Need-part-past-word-end Inv-loop μ-loop
+part-past-word-end c = omega arith
 
-next-requires : tie.Need-next-requires Inv-loop μ-loop
-next-requires c κs = search needs
+past-word-requires : tie.Need-past-word-requires Inv-loop μ-loop
+past-word-requires c κs = search needs
 
 add-at : tie.Need-add-at Inv-loop μ-loop
 add-at c =
     let l = c .before .before .before in
     let s = now (l .before .before .before .args .s) in
-    omega (arith, rw (all-behind s (l .loop .at)) at (c .next .ensures .0), length-drop (l .loop .at) s)
+    omega (arith, rw (all-behind s (l .loop .at)) at (c .past-word .ensures .0), length-drop (l .loop .at) s)
 
 add-i : tie.Need-add-i Inv-loop μ-loop
 add-i c = omega arith
@@ -55,9 +55,9 @@ loop-again : tie.Need-loop-again Inv-loop μ-loop
 loop-again c =
     let l = c .before .before .before in
     let s = now (l .before .before .before .args .s) in
-    let inside = rw (all-behind s (l .loop .at)) at (c .next .ensures .0) in
-    let passed = rw (all-behind s (l .loop .at)) at (c .next .ensures .1) in
-    (omega (arith, inside, length-drop (l .loop .at) s), omega arith, next-tail s (l .loop .at) (c .next .result) (l .loop .i) (l .loop .inv .2) passed)
+    let inside = rw (all-behind s (l .loop .at)) at (c .past-word .ensures .0) in
+    let passed = rw (all-behind s (l .loop .at)) at (c .past-word .ensures .1) in
+    (omega (arith, inside, length-drop (l .loop .at) s), omega arith, next-tail s (l .loop .at) (c .past-word .result) (l .loop .i) (l .loop .inv .2) passed)
 
 returns : tie.Need-returns Inv-loop μ-loop
 returns c =
@@ -74,10 +74,10 @@ start-spec =
     μ-loop
     length-requires
     loop-holds
-    sub-next
-    part-next-start
-    part-next-end
-    next-requires
+    sub-past-word
+    part-past-word-start
+    part-past-word-end
+    past-word-requires
     add-at
     add-i
     loop-less

@@ -16,10 +16,10 @@ use Rattle.laws.proofs.Words.{kept}
 use Rattle.window.specs.declared.Window.{Window}
 use Rattle.window.specs.Rows.{reportIn, standing}
 use Rattle.list.specs.declared.Lines.{Lines}
-use Rattle.list.specs.Lines.{stored}
-use Rattle.list.specs.Bars.{barAt, barOf, leastAt, admits}
+use Rattle.list.specs.Lines.{columnsOf}
+use Rattle.list.specs.Bars.{barAt, barOf}
 use Rattle.list.specs.Rows.{rowsOf}
-use Rattle.list.specs.Inner.{Roomy}
+use Rattle.list.specs.Inner.{Roomy, leastAt, admits}
 use Rattle.list.proofs.Sliding.{placing-few}
 use Rattle.list.proofs.Bars.{admits-under}
 use Rattle.list.proofs.Gathering.{gathered-none, gathered-few, gathered-bar, gathered-places, gathered-skips}
@@ -32,7 +32,7 @@ Inv-loop rule k losses shakes numbers rows most end found₀ by₀ len₀ bar₀
     × (end ≡ min rows 1024)
     × (most ≡ min k 16)
     × Roomy found by
-    × (record { numbers = found; scores = by; len = len } ≡ stored (top rule most (standing (rowsOf losses shakes numbers) row)))
+    × (record { numbers = found; scores = by; len = len } ≡ columnsOf (top rule most (standing (rowsOf losses shakes numbers) row)))
     × (bar ≡ barAt found by len (eqb len most))
     × (toZ w32 least ≡ leastAt bar)
 
@@ -62,7 +62,7 @@ module _ (c : tie.At-loop Inv-loop μ-loop) where
   short : c .loop .len ≤ 16
   short = gathered-few (start .args .rule) most small rows (c .loop .row) (c .loop .len) (ap (λ (l : Lines). l .len) (c .loop .inv .4))
 
-  same-bar : c .loop .bar ≡ barOf (stored (top (start .args .rule) most (standing rows (c .loop .row)))) most
+  same-bar : c .loop .bar ≡ barOf (columnsOf (top (start .args .rule) most (standing rows (c .loop .row)))) most
   same-bar = c .loop .inv .5 ∙ gathered-bar (start .args .rule) most small rows (c .loop .found) (c .loop .by) (c .loop .len) (c .loop .row) (c .loop .inv .4)
 
 -- and the loop's body of its row
@@ -83,7 +83,7 @@ module _ (c : tie.After-admits Inv-loop μ-loop) where
   abbrev turn : tie.At-loop Inv-loop μ-loop
   turn = at (c .before .before .before)
 
-  test : c .admits .result ≡ admits (above (start turn .args .rule)) (barOf (stored (top (start turn .args .rule) (most turn) (standing (rows turn) (turn .loop .row)))) (most turn)) (report turn)
+  test : c .admits .result ≡ admits (above (start turn .args .rule)) (barOf (columnsOf (top (start turn .args .rule) (most turn) (standing (rows turn) (turn .loop .row)))) (most turn)) (report turn)
   test = c .admits .ensures ∙ ap₂ (admits (above (start turn .args .rule))) (same-bar turn) (reported (c .before .before .before))
 
 smaller-requires : tie.Need-smaller-requires Inv-loop μ-loop
@@ -139,7 +139,7 @@ loop-again c =
     let l = b .loop in
     let fits = subst (λ s. mag s < 2147483648) (c .before .score .ensures) (c .before .score .ok) in
     let under = ap (λ bar. admits (above (start b .args .rule)) bar (report b)) (sym (same-bar b)) ∙ admits-under (above (start b .args .rule)) (l .bar) (report b) (score-below (start b .args .rule)) fits (sym (ap₂ ltZ (scored (c .before)) (l .inv .6)) ∙ c .if1 .taken) in
-    (up (c .before), l .inv .1, l .inv .2, l .inv .3, l .inv .4 ∙ ap stored (gathered-skips (start b .args .rule) (most b) (small b) (rows b) (l .row) under), l .inv .5, l .inv .6)
+    (up (c .before), l .inv .1, l .inv .2, l .inv .3, l .inv .4 ∙ ap columnsOf (gathered-skips (start b .args .rule) (most b) (small b) (rows b) (l .row) under), l .inv .5, l .inv .6)
 
 mul-number : tie.Need-mul-number Inv-loop μ-loop
 mul-number c = search needs
@@ -157,7 +157,7 @@ loop-again-2 : tie.Need-loop-again-2 Inv-loop μ-loop
 loop-again-2 c =
     let b = turn (c .before) in
     let l = b .loop in
-    (up (c .before .before .before .before), l .inv .1, l .inv .2, l .inv .3, l .inv .4 ∙ ap stored (gathered-skips (start b .args .rule) (most b) (small b) (rows b) (l .row) (sym (test (c .before)) ∙ not-true _ (c .if2 .taken))), l .inv .5, l .inv .6)
+    (up (c .before .before .before .before), l .inv .1, l .inv .2, l .inv .3, l .inv .4 ∙ ap columnsOf (gathered-skips (start b .args .rule) (most b) (small b) (rows b) (l .row) (sym (test (c .before)) ∙ not-true _ (c .if2 .taken))), l .inv .5, l .inv .6)
 
 put-in-requires : tie.Need-put-in-requires Inv-loop μ-loop
 put-in-requires c κs =
@@ -177,14 +177,14 @@ loop-less-3 c = search needs
 loop-again-3 : tie.Need-loop-again-3 Inv-loop μ-loop
 loop-again-3 c =
     let put = c .before .before .before .before in
-    let told = put .before .before .before .before in
-    let b = turn told in
+    let earlier = put .before .before .before .before in
+    let b = turn earlier in
     let l = b .loop in (
-      up (told .before .before .before),
+      up (earlier .before .before .before),
       l .inv .1,
       l .inv .2,
       put .put-in .ensures .1,
-      gathered-places (start b .args .rule) (most b) (small b) (rows b) (l .row) (l .found) _ (l .by) _ (l .len) _ _ (l .inv .4) (put .put-in .ensures .1) (put .put-in .ensures .0) (reported (told .before .before .before)) (sym (test told) ∙ not-false _ (put .before .before .before .if2 .left)),
+      gathered-places (start b .args .rule) (most b) (small b) (rows b) (l .row) (l .found) _ (l .by) _ (l .len) _ _ (l .inv .4) (put .put-in .ensures .1) (put .put-in .ensures .0) (reported (earlier .before .before .before)) (sym (test earlier) ∙ not-false _ (put .before .before .before .if2 .left)),
       c .before .bar-in2 .ensures,
       kept w32 (c .least2 .result) (c .least2 .ok) ∙ c .least2 .ensures,
     )
@@ -198,7 +198,7 @@ returns c =
     let a = start b .args in
     let l = b .loop in
     let all : l .row ≡ min (a .rows) 1024 = omega (arith, l .inv .0, l .inv .1) in
-    l .inv .4 ∙ ap₂ (λ k n. stored (top (a .rule) k (standing (rows b) n))) (l .inv .2) all
+    l .inv .4 ∙ ap₂ (λ k n. columnsOf (top (a .rule) k (standing (rows b) n))) (l .inv .2) all
 
 pub gathered-spec : {M : Type 1} → statement M
 gathered-spec =

@@ -40,8 +40,8 @@ module _ (c : tie.After-new-in) where
   abbrev ranked : tie.After-rank-in
   ranked = c .before .before .before .before
 
-  told : c .new-in .result ≡ newIn (above (start ranked .args .rule)) (entry ranked) (take (start ranked .args .len) (old ranked))
-  told =
+  is-new : c .new-in .result ≡ newIn (above (start ranked .args .rule)) (entry ranked) (take (start ranked .args .len) (old ranked))
+  is-new =
       c .new-in .ensures
       ∙ ap (λ s. newIn (above (start ranked .args .rule)) (record { number = start ranked .args .number; score = s }) (take (start ranked .args .len) (old ranked))) (toZ-ofZ (start ranked .fits .score))
 
@@ -65,7 +65,7 @@ returns-2 c =
     let b = c .before .before in
     let r = ranked b in
     let a = start r .args in
-    (placing-old (above (a .rule)) (above-strict (a .rule)) (entry r) (a .len) (a .most) (old r) (long r) (start r .pre .0) (sym (told b) ∙ not-true _ (c .before .if2 .taken)) (c .smaller .result) (c .smaller .ensures), start r .pre .2)
+    (placing-old (above (a .rule)) (above-strict (a .rule)) (entry r) (a .len) (a .most) (old r) (long r) (start r .pre .0) (sym (is-new b) ∙ not-true _ (c .before .if2 .taken)) (c .smaller .result) (c .smaller .ensures), start r .pre .2)
 
 sub-smaller : tie.Need-sub-smaller
 sub-smaller c = search needs
@@ -102,7 +102,7 @@ returns-3 c =
     let right = c .slide .ensures .1 ∙ ap (λ s. slid at last s (a .scores .now)) (toZ-ofZ (start r .fits .score)) in (
       subst (λ l. Placing (above (a .rule)) (entry r) (a .len) (a .most) (old r) l (last + 1)) (sym (slid-lines (start r .pre .2) at last (a .number) (a .score) order low (c .slide .ensures .0) right))
           (placing-new (above (a .rule)) (above-strict (a .rule)) (entry r) (a .len) (a .most) (old r) (long r) (start r .pre .0) (start r .pre .1) at (found r) under last (m .smaller2 .ensures)
-          (sym (told b) ∙ not-false _ (m .before .if2 .left))),
+          (sym (is-new b) ∙ not-false _ (m .before .if2 .left))),
       slid-roomy (start r .pre .2) at last (a .number) (a .score) order low (c .slide .ensures .0) right,
     )
 

@@ -5,10 +5,10 @@ use Prim.Native.Nat.{suc, _≤_, _-_}
 use native.Mathlib.Omega.{arith}
 use borrow.Author.Needs.{needs}
 use lib.IntN.{pos}
-use Rattle.list.specs.Lines.{wiped}
 use Rattle.list.proofs.Stored.{Roomy}
 use Rattle.list.proofs.Sliding.{wiped-none, wiped-more}
 use Rattle.list.proofs.wipe.Statement.{statement}
+use Rattle.list.specs.Inner.{wiped}
 use Rattle.list.proofs.wipe.Tie as tie
 
 abbrev Inv-loop : tie.InvT-loop

@@ -32,7 +32,7 @@ cast-row : tie.Need-cast-row
 cast-row c = search needs
 
 rem-row : tie.Need-rem-row
-rem-row c = found (c .before) .some
+rem-row c = found (c .before) .positive
 
 cast-row-2 : tie.Need-cast-row-2
 cast-row-2 c = let h = row-within (found (c .before)) in search needs

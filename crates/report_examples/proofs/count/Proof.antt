@@ -17,8 +17,8 @@ loop-holds c = tt
 add-more : tie.Need-add-more Inv-loop μ-loop
 add-more c = omega arith
 
-takes-requires : tie.Need-takes-requires Inv-loop μ-loop
-takes-requires c κs = tt
+reads-with-requires : tie.Need-reads-with-requires Inv-loop μ-loop
+reads-with-requires c κs = tt
 
 wrapping-add-u64-requires : tie.Need-wrapping-add-u64-requires Inv-loop μ-loop
 wrapping-add-u64-requires c κs = tt
@@ -43,7 +43,7 @@ count-spec =
     μ-loop
     loop-holds
     add-more
-    takes-requires
+    reads-with-requires
     wrapping-add-u64-requires
     loop-less
     loop-again

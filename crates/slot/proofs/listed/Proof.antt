@@ -17,8 +17,8 @@ takes-requires c κs = search needs
 score-requires : tie.Need-score-requires
 score-requires c κs = search needs
 
-joined-requires : tie.Need-joined-requires
-joined-requires c κs = search needs
+cut-with-requires : tie.Need-cut-with-requires
+cut-with-requires c κs = search needs
 
 returns : tie.Need-returns
 returns c =
@@ -27,7 +27,7 @@ returns c =
     let h : Held = record { number = a .number; values = low (a .values) } in
     let score = c .before .score in
     let scored = kept w32 (score .result) (score .ok) ∙ score .ensures in
-    c .joined .ensures
+    c .cut-with .ensures
     ∙ ap (λ s. cutToK (withEntry (a .question) (record { number = a .number; score = s }))) scored
     ∙ sym (listed-taking (a .question) h (sym (at .before .takes .ensures) ∙ at .if1 .taken))
 
@@ -40,4 +40,4 @@ returns-2 c =
 pub listed-spec : {M : Type 1} → statement M
 listed-spec =
     tie.close
-    (tie.spec takes-requires score-requires joined-requires returns returns-2)
+    (tie.spec takes-requires score-requires cut-with-requires returns returns-2)

@@ -20,8 +20,8 @@ has-place-requires c κs = search needs
 cell-requires : tie.Need-cell-requires
 cell-requires c κs = search needs
 
-marked-requires : tie.Need-marked-requires
-marked-requires c κs = search needs
+is-marked-requires : tie.Need-is-marked-requires
+is-marked-requires c κs = search needs
 
 returns : tie.Need-returns
 returns c =
@@ -29,7 +29,7 @@ returns c =
     let a = at .before .before .args in
     let score = at .before .score in
     let scored = kept w32 (score .result) (score .ok) ∙ score .ensures in
-    c .marked .ensures ∙ ap (isMarked (a .question)) (c .before .cell .ensures)
+    c .is-marked .ensures ∙ ap (isMarked (a .question)) (c .before .cell .ensures)
     ∙ takes-both (a .question) (low (a .values)) (ap (placeOn (a .question)) (sym scored) ∙ sym (at .has-place .ensures) ∙ c .before .before .if1 .taken)
 
 returns-2 : tie.Need-returns-2
@@ -43,4 +43,4 @@ returns-2 c =
 pub takes-spec : {M : Type 1} → statement M
 takes-spec =
     tie.close
-    (tie.spec score-requires has-place-requires cell-requires marked-requires returns returns-2)
+    (tie.spec score-requires has-place-requires cell-requires is-marked-requires returns returns-2)

@@ -8,7 +8,6 @@ use mathlib.Core.List.{List}
 use lib.ListN.{length, getD, length-map}
 use Rattle.wire.proofs.Fields.{length-part}
 use Rattle.stretch.specs.Coming.{sizeAt}
-use Rattle.stretch.specs.Doing.{windowOf, logIn}
 use Rattle.stretch.proofs.Coming.{Item, Slot}
 use Rattle.stretch.proofs.Going.{went-none}
 use Rattle.stretch.proofs.Gauging.{gauged-of}
@@ -16,6 +15,7 @@ use Rattle.stretch.proofs.Rowing.{rowed-of}
 use Rattle.stretch.proofs.Stands.{Stands, Turns, logOf, turns-quiet, turns-more, slot-there, frame-there, row-there, stands-slot, stands-none, turns-begin, stands-enters, stands-runs}
 use borrow.Author.Needs.{needs}
 use Rattle.stretch.proofs.run.Statement.{statement}
+use Rattle.stretch.specs.Inner.{windowOf, logIn}
 use Rattle.stretch.proofs.run.Tie as tie
 
 abbrev Inv-loop2 : tie.InvT-loop2
@@ -77,8 +77,8 @@ module _ (n : tie.In-loop2 Inv-loop2 μ-loop2 Inv-loop μ-loop) where
 rows-in-requires : tie.Need-rows-in-requires Inv-loop2 μ-loop2 Inv-loop μ-loop
 rows-in-requires c κs = search needs
 
-all-requires : tie.Need-all-requires Inv-loop2 μ-loop2 Inv-loop μ-loop
-all-requires c κs = search needs
+of-slots-requires : tie.Need-of-slots-requires Inv-loop2 μ-loop2 Inv-loop μ-loop
+of-slots-requires c κs = search needs
 
 in-use-requires : tie.Need-in-use-requires Inv-loop2 μ-loop2 Inv-loop μ-loop
 in-use-requires c κs = search needs
@@ -92,7 +92,7 @@ loop-holds c =
       room = c .before .before .before .before .before .before .before .before .before .before .before .before .before .pre;
       all-slots = sym (length-map (a .from .board .slots) _) ∙ c .before .before .before .before .before .before .before .before .before .before .before .before .before .good .0 .1 .1 .1 .0 .1 .1 .1 .0 .1 .0 .1;
       went = went-none (logIn (a .from) (now (a .bus))) (now (a .bytes)) (now (a .out)) (a .from .at) (search needs);
-      gauged = gauged-of (a .from .board .slots) (c .before .all .ensures) (c .in-use .ensures);
+      gauged = gauged-of (a .from .board .slots) (c .before .of-slots .ensures) (c .in-use .ensures);
       rowed = rowed-of (a .from .board .window .numbers) (c .before .before .before .rows-in .ensures);
     }
 
@@ -255,8 +255,8 @@ loop2-less-2 c = omega (arith, c .before .before .before .before .before .before
 loop2-again-2 : tie.Need-loop2-again-2 Inv-loop2 μ-loop2 Inv-loop μ-loop
 loop2-again-2 c = turns-more (c .before .before .before .before .before .before .before .before .before .before .before .before .before .before .before .loop2 .inv) (omega arith) (c .before .before .before .before .before .before .turn-of .ensures) (c .before .before .before .before .put-search .ensures) (c .of2 .ensures)
 
-ended-requires : tie.Need-ended-requires Inv-loop2 μ-loop2 Inv-loop μ-loop
-ended-requires c κs = search needs
+end-of-run-requires : tie.Need-end-of-run-requires Inv-loop2 μ-loop2 Inv-loop μ-loop
+end-of-run-requires c κs = search needs
 
 same-length : tie.Need-same-length Inv-loop2 μ-loop2 Inv-loop μ-loop
 same-length c = c .before .before .before .loop .inv .same
@@ -264,7 +264,7 @@ same-length c = c .before .before .before .loop .inv .same
 returns : tie.Need-returns Inv-loop2 μ-loop2 Inv-loop μ-loop
 returns c =
     let a = c .before .before .before .before .before .before .before .before .before .before .before .before .before .before .before .before .before .args in
-    stands-runs (a .from) (now (a .bus)) (now (a .bytes)) (now (a .out)) (c .before .before .before .loop .inv) (c .before .before .goes-on .ensures) (c .before .if1 .left) (c .ended .ensures)
+    stands-runs (a .from) (now (a .bus)) (now (a .bytes)) (now (a .out)) (c .before .before .before .loop .inv) (c .before .before .goes-on .ensures) (c .before .if1 .left) (c .end-of-run .ensures)
 
 pub run-spec : {M : Type 1} → statement M
 run-spec =
@@ -275,7 +275,7 @@ run-spec =
     Inv-loop
     μ-loop
     rows-in-requires
-    all-requires
+    of-slots-requires
     in-use-requires
     loop-holds
     goes-on-requires
@@ -326,6 +326,6 @@ run-spec =
     add-slot-2
     loop2-less-2
     loop2-again-2
-    ended-requires
+    end-of-run-requires
     same-length
     returns)

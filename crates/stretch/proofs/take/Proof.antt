@@ -11,9 +11,10 @@ use Rattle.joining.specs.declared.Session.{Session}
 use Rattle.bus.specs.Room.{sessionsIn}
 use Rattle.journal.specs.declared.Log.{Log}
 use Rattle.stretch.specs.declared.Standing.{Standing}
-use Rattle.stretch.specs.Doing.{all, Does, Runs}
+use Rattle.stretch.specs.Doing.{didAll, Does}
 use borrow.Author.Needs.{needs}
 use Rattle.stretch.proofs.take.Statement.{statement}
+use Rattle.stretch.specs.Inner.{Runs}
 use Rattle.stretch.proofs.take.Tie as tie
 
 -- What `run` does with the sessions in bytes is what is done to the log.
@@ -23,10 +24,10 @@ does : (log : Log) (bus bytes room : List ℕ) (at : ℕ) {r : Standing} {bus₁
 does log bus bytes room at {r} {bus₁} e d f =
     let same : record { items = log .items; board = log .board; sessions = sessionsIn bus } ≡ log = λ j. record { items = log .items; board = log .board; sessions = e j } in
     record {
-      leaves = (λ j. record { items = r .items; board = r .board; sessions = f j }) ∙ d .leaves ∙ ap (λ (l : Log). all (length room) at l bytes .log) same;
-      taken = d .taken ∙ ap (λ (l : Log). all (length room) at l bytes .next) same;
-      place = d .place ∙ ap (λ (l : Log). behind at (all (length room) at l bytes .text)) same;
-      stored = d .stored ∙ ap (λ (l : Log). sets room at (all (length room) at l bytes .text)) same;
+      leaves = (λ j. record { items = r .items; board = r .board; sessions = f j }) ∙ d .leaves ∙ ap (λ (l : Log). didAll (length room) at l bytes .log) same;
+      taken = d .taken ∙ ap (λ (l : Log). didAll (length room) at l bytes .next) same;
+      place = d .place ∙ ap (λ (l : Log). behind at (didAll (length room) at l bytes .text)) same;
+      stored = d .stored ∙ ap (λ (l : Log). sets room at (didAll (length room) at l bytes .text)) same;
     }
 
 fill-requires : tie.Need-fill-requires

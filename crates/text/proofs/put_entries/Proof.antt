@@ -9,7 +9,7 @@ use lib.IntN.{pos}
 use lib.ListN.{length, getD, take}
 use mir.Facts.{toZ-ofZ}
 use mir.Syntax.{w32}
-use Rattle.text.specs.Text.{entries, listed}
+use Rattle.text.specs.Text.{entriesText, entriesOf}
 use Rattle.text.proofs.Places.{Put, put, then, said, both, none}
 use Rattle.text.proofs.Lists.{entries-more, entries-none}
 use Rattle.text.proofs.put_entries.Statement.{statement}
@@ -17,7 +17,7 @@ use Rattle.text.proofs.put_entries.Tie as tie
 
 abbrev Inv-loop : tie.InvT-loop
 Inv-loop buf₀ at n numbers scores next₀ i₀ buf next i =
-    (i ≤ n) × (length buf ≡ length buf₀) × Put buf₀ at (entries (take i (listed numbers scores))) next buf
+    (i ≤ n) × (length buf ≡ length buf₀) × Put buf₀ at (entriesText (take i (entriesOf numbers scores))) next buf
 
 abbrev μ-loop : tie.MeasureT-loop
 μ-loop buf₀ at n numbers scores next₀ i₀ buf next i = n - i
@@ -25,7 +25,7 @@ abbrev μ-loop : tie.MeasureT-loop
 loop-holds : tie.Need-loop-holds Inv-loop μ-loop
 loop-holds c =
     let a = c .before .args in
-    (search needs, refl, said (sym (entries-none (listed (a .t3) (a .t4)))) (none (now (a .buf)) (a .at) (search needs)))
+    (search needs, refl, said (sym (entries-none (entriesOf (a .t3) (a .t4)))) (none (now (a .buf)) (a .at) (search needs)))
 
 mul-put-entry : tie.Need-mul-put-entry Inv-loop μ-loop
 mul-put-entry c = search needs

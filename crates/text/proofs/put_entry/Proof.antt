@@ -4,14 +4,14 @@ use denote.Ref.{now}
 use Prim.Native.Nat.{_^_, _<_}
 use mir.Facts.{toZ-ofZ}
 use lib.ListN.{length}
-use Rattle.text.specs.Text.{entry}
+use Rattle.text.specs.Text.{entryText}
 use Rattle.text.proofs.Places.{put, then, both}
 use borrow.Author.Needs.{needs}
 use Rattle.text.proofs.put_entry.Statement.{statement}
 use Rattle.text.proofs.put_entry.Tie as tie
 
-put-word-requires : tie.Need-put-word-requires
-put-word-requires c κs = search needs
+put-spaced-requires : tie.Need-put-spaced-requires
+put-spaced-requires c κs = search needs
 
 put-byte-requires : tie.Need-put-byte-requires
 put-byte-requires c κs = search needs
@@ -23,7 +23,7 @@ same-length : tie.Need-same-length
 same-length c = search needs
 
 returns : tie.Need-returns
-unfolding entry
+unfolding entryText
 returns c =
     let second = c .before .before in
     let colon = second .before .before .before .before in
@@ -32,10 +32,10 @@ returns c =
     let a = start .args in
     let h : length (now (a .buf)) < 2 ^ 64 = search needs in
     both {l = now (a .buf)}
-    (then h (then h (put (first .put-word .ensures)) (put (colon .put-byte .ensures)))
+    (then h (then h (put (first .put-spaced .ensures)) (put (colon .put-byte .ensures)))
     (put (rw (toZ-ofZ (start .fits .score)) at (second .put-signed .ensures))))
 
 pub put-entry-spec : {M : Type 1} → statement M
 put-entry-spec =
     tie.close
-    (tie.spec put-word-requires put-byte-requires put-signed-requires same-length returns)
+    (tie.spec put-spaced-requires put-byte-requires put-signed-requires same-length returns)

@@ -4,7 +4,7 @@ use mathlib.Core.Path.{_≡_}
 use Prim.Native.Nat.{_^_, _<_}
 use denote.Ref.{now}
 use lib.ListN.{length}
-use Rattle.text.specs.Text.{listed}
+use Rattle.text.specs.Text.{entriesOf}
 use Rattle.text.proofs.Places.{put, then, said, both}
 use Rattle.text.proofs.Lists.{length-listed, qLine-shown}
 use borrow.Author.Needs.{needs}
@@ -17,11 +17,11 @@ fewer-requires c κs = search needs
 put-byte-requires : tie.Need-put-byte-requires
 put-byte-requires c κs = search needs
 
-put-word-requires : tie.Need-put-word-requires
-put-word-requires c κs = search needs
+put-spaced-requires : tie.Need-put-spaced-requires
+put-spaced-requires c κs = search needs
 
-put-word-requires-2 : tie.Need-put-word-requires-2
-put-word-requires-2 c κs = search needs
+put-spaced-requires-2 : tie.Need-put-spaced-requires-2
+put-spaced-requires-2 c κs = search needs
 
 put-entries-requires : tie.Need-put-entries-requires
 put-entries-requires c κs = search needs
@@ -46,10 +46,10 @@ returns c =
     let head = first .before .before .before .before in
     let shown = head .before .before .fewer in
     both {l = now (a .buf)}
-    (said (qLine-shown (a .slot) (a .n) (shown .result) (listed (a .numbers) (a .scores)) (rw all (shown .ensures)))
+    (said (qLine-shown (a .slot) (a .n) (shown .result) (entriesOf (a .numbers) (a .scores)) (rw all (shown .ensures)))
     (then h
     (then h
-    (then h (then h (put (head .put-byte .ensures)) (put (first .put-word .ensures))) (put (second .put-word2 .ensures)))
+    (then h (then h (put (head .put-byte .ensures)) (put (first .put-spaced .ensures))) (put (second .put-spaced2 .ensures)))
     (put (third .put-entries .ensures)))
     (put (line-end .put-byte2 .ensures))))
 
@@ -59,8 +59,8 @@ put-q-spec =
     (tie.spec
     fewer-requires
     put-byte-requires
-    put-word-requires
-    put-word-requires-2
+    put-spaced-requires
+    put-spaced-requires-2
     put-entries-requires
     put-byte-requires-2
     same-length

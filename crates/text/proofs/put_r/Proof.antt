@@ -12,11 +12,11 @@ use Rattle.text.proofs.put_r.Tie as tie
 put-byte-requires : tie.Need-put-byte-requires
 put-byte-requires c κs = search needs
 
-put-word-requires : tie.Need-put-word-requires
-put-word-requires c κs = search needs
+put-spaced-requires : tie.Need-put-spaced-requires
+put-spaced-requires c κs = search needs
 
-put-word-requires-2 : tie.Need-put-word-requires-2
-put-word-requires-2 c κs = search needs
+put-spaced-requires-2 : tie.Need-put-spaced-requires-2
+put-spaced-requires-2 c κs = search needs
 
 put-byte-requires-2 : tie.Need-put-byte-requires-2
 put-byte-requires-2 c κs = search needs
@@ -35,7 +35,7 @@ returns c =
     let h : length (now (a .buf)) < 2 ^ 64 = search needs in
     both {l = now (a .buf)}
     (then h
-    (then h (then h (put (head .put-byte .ensures)) (put (first .put-word .ensures))) (put (second .put-word2 .ensures)))
+    (then h (then h (put (head .put-byte .ensures)) (put (first .put-spaced .ensures))) (put (second .put-spaced2 .ensures)))
     (put (line-end .put-byte2 .ensures)))
 
 pub put-r-spec : {M : Type 1} → statement M
@@ -43,8 +43,8 @@ put-r-spec =
     tie.close
     (tie.spec
     put-byte-requires
-    put-word-requires
-    put-word-requires-2
+    put-spaced-requires
+    put-spaced-requires-2
     put-byte-requires-2
     same-length
     returns)

@@ -12,14 +12,14 @@ use Rattle.text.proofs.put_s.Tie as tie
 put-byte-requires : tie.Need-put-byte-requires
 put-byte-requires c κs = search needs
 
-put-word-requires : tie.Need-put-word-requires
-put-word-requires c κs = search needs
+put-spaced-requires : tie.Need-put-spaced-requires
+put-spaced-requires c κs = search needs
 
-put-word-requires-2 : tie.Need-put-word-requires-2
-put-word-requires-2 c κs = search needs
+put-spaced-requires-2 : tie.Need-put-spaced-requires-2
+put-spaced-requires-2 c κs = search needs
 
-put-word-requires-3 : tie.Need-put-word-requires-3
-put-word-requires-3 c κs = search needs
+put-spaced-requires-3 : tie.Need-put-spaced-requires-3
+put-spaced-requires-3 c κs = search needs
 
 put-byte-requires-2 : tie.Need-put-byte-requires-2
 put-byte-requires-2 c κs = search needs
@@ -40,8 +40,8 @@ returns c =
     both {l = now (a .buf)}
     (then h
     (then h
-    (then h (then h (put (head .put-byte .ensures)) (put (first .put-word .ensures))) (put (second .put-word2 .ensures)))
-    (put (third .put-word3 .ensures)))
+    (then h (then h (put (head .put-byte .ensures)) (put (first .put-spaced .ensures))) (put (second .put-spaced2 .ensures)))
+    (put (third .put-spaced3 .ensures)))
     (put (line-end .put-byte2 .ensures)))
 
 pub put-s-spec : {M : Type 1} → statement M
@@ -49,9 +49,9 @@ put-s-spec =
     tie.close
     (tie.spec
     put-byte-requires
-    put-word-requires
-    put-word-requires-2
-    put-word-requires-3
+    put-spaced-requires
+    put-spaced-requires-2
+    put-spaced-requires-3
     put-byte-requires-2
     same-length
     returns)

@@ -11,19 +11,19 @@ use lib.ListN.{length}
 use lib.IntN.{ℤ, pos, negsuc, natAbs}
 use lib.Signed.{ltZ}
 use mir.Facts.{toZ-ofZ}
-use Rattle.text.specs.Text.{decimal, signed}
+use Rattle.text.specs.Text.{decimal, signedDecimal}
 use Rattle.text.proofs.Places.{put, then, said, both}
 use borrow.Author.Needs.{needs}
 use Rattle.text.proofs.put_signed.Statement.{statement}
 use Rattle.text.proofs.put_signed.Tie as tie
 
-minus : (z : ℤ) → ltZ z (pos 0) ≡ true → 45 ∷ decimal (natAbs z) ≡ signed z
-unfolding signed
+minus : (z : ℤ) → ltZ z (pos 0) ≡ true → 45 ∷ decimal (natAbs z) ≡ signedDecimal z
+unfolding signedDecimal
 minus (pos n) h = absurd (omega (arith, ltb-true n 0 h))
 minus (negsuc n) h = refl
 
-plain : (z : ℤ) → ltZ z (pos 0) ≡ false → decimal (natAbs z) ≡ signed z
-unfolding signed
+plain : (z : ℤ) → ltZ z (pos 0) ≡ false → decimal (natAbs z) ≡ signedDecimal z
+unfolding signedDecimal
 plain (pos n) h = refl
 plain (negsuc n) h = absurd (false≢true (sym h))
 

@@ -23,14 +23,14 @@ store-before l (suc j) a p h =
     (drop-cons (set l j a) j 0 (rw length-set h)
     ∙ rw (getD-set-same l j a 0 h, drop-set-lt (suc j) l j a (omega arith)))
 
-module _ (l : List ℕ) (i rest n : ℕ) (before : decimal rest ++ drop i l ≡ decimal n) (some : 0 < i) (inside : i ≤ length l) where
+module _ (l : List ℕ) (i rest n : ℕ) (before : decimal rest ++ drop i l ≡ decimal n) (positive : 0 < i) (inside : i ≤ length l) where
   next : 10 ≤ rest → decimal (rest / 10) ++ drop (i - 1) (set l (i - 1) (48 + rest % 10)) ≡ decimal n
   next h =
-      rw (store-before l i (48 + rest % 10) some inside)
+      rw (store-before l i (48 + rest % 10) positive inside)
       (sym (append-assoc (decimal (rest / 10)) ((48 + rest % 10) ∷ []) (drop i l)) ∙ rw (decimal-more rest h) at before)
 
   last : rest < 10 → drop (i - 1) (set l (i - 1) (48 + rest)) ≡ decimal n
-  last h = store-before l i (48 + rest) some inside ∙ (rw (decimal-one rest h) at before)
+  last h = store-before l i (48 + rest) positive inside ∙ (rw (decimal-one rest h) at before)
 
 abbrev Inv-loop : tie.InvT-loop
 Inv-loop digits₀ n i₀ rest₀ digits i rest =
@@ -66,7 +66,7 @@ loop-again c =
     let rest = c .before .loop .rest in
     let fewer = length-more rest (search needs) in
     let room = decimal64-longest (c .before .before .args .n) (search needs) in
-    let some = length-some rest in
+    let positive = length-some rest in
     (rw length-set (inv .0), omega arith, omega arith, next (c .before .loop .digits) (c .before .loop .i) rest (c .before .before .args .n) (inv .3) (omega arith) (omega arith) (c .loop-test .taken))
 
 sub-i-2 : tie.Need-sub-i-2 Inv-loop μ-loop

@@ -3,8 +3,9 @@
 use Prim.Native.Nat.{_-_}
 use native.Mathlib.Omega.{arith}
 use borrow.Author.Tests.{lt-ltb, le-ltb, ne-eqb}
-use Rattle.times.specs.Timed.{fitLast, isBefore, isLate, cameAt}
+use Rattle.times.specs.Timed.{fitLast, isBefore, isLate}
 use Rattle.times.proofs.compared.Statement.{statement}
+use Rattle.times.specs.Inner.{cameAt}
 use Rattle.times.proofs.compared.Tie as tie
 
 returns : tie.Need-returns

@@ -46,7 +46,7 @@ due-requires : tie.Need-due-requires Inv-loop μ-loop
 due-requires c κs =
     let start = c .before .before .before .before .before .before .before .before .before in
     let k = ranges-of (start .args .w .counts) (start .pre) in
-    (k .ring .some, k .within, k .ring .were-entered, c .before .before .row-of .ensures)
+    (k .ring .positive, k .within, k .ring .were-entered, c .before .before .row-of .ensures)
 
 mul-t14 : tie.Need-mul-t14 Inv-loop μ-loop
 mul-t14 c = omega arith

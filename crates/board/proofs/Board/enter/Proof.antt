@@ -9,12 +9,12 @@ use Rattle.board.proofs.Board.enter.Tie as tie
 fit-requires : tie.Need-fit-requires
 fit-requires c κs = search needs
 
-enter-known-requires : tie.Need-enter-known-requires
-enter-known-requires c κs = search needs
+enter-work-requires : tie.Need-enter-work-requires
+enter-work-requires c κs = search needs
 
 returns : tie.Need-returns
 unfolding enterCall
-returns c = rw (sym (c .before .before .fit .ensures) ∙ c .before .if1 .taken) (c .enter-known .ensures)
+returns c = rw (sym (c .before .before .fit .ensures) ∙ c .before .if1 .taken) (c .enter-work .ensures)
 
 not-entered-requires : tie.Need-not-entered-requires
 not-entered-requires c κs = search needs
@@ -25,4 +25,4 @@ returns-2 c = rw (sym (c .before .before .fit .ensures) ∙ c .before .if1 .left
 
 pub enter-spec : {M : Type 1} → statement M
 enter-spec =
-    tie.close (tie.spec fit-requires enter-known-requires returns not-entered-requires returns-2)
+    tie.close (tie.spec fit-requires enter-work-requires returns not-entered-requires returns-2)

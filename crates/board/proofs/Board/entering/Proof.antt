@@ -32,8 +32,8 @@ add-number c = omega (arith, may-enter (c .before .before .before .before) .room
 leaving-requires : tie.Need-leaving-requires Inv-loop μ-loop
 leaving-requires c κs = may-enter (c .before .before .before .before) .room
 
-with-requires : tie.Need-with-requires Inv-loop μ-loop
-with-requires c κs = search needs
+added-requires : tie.Need-added-requires Inv-loop μ-loop
+added-requires c κs = search needs
 
 loop-holds : tie.Need-loop-holds Inv-loop μ-loop
 loop-holds c =
@@ -82,7 +82,7 @@ returns : tie.Need-returns Inv-loop μ-loop
 returns c =
     let l = c .before in
     let start = l .before .before .before .before .before .before .before .before in
-    turns-all (start .args .self) (start .args .values) (start .pre) (l .before .before .before .leaving .ensures) (l .before .before .with .ensures) (omega (arith, l .loop .inv .1)) (l .loop .inv .2)
+    turns-all (start .args .self) (start .args .values) (start .pre) (l .before .before .before .leaving .ensures) (l .before .before .added .ensures) (omega (arith, l .loop .inv .1)) (l .loop .inv .2)
 
 pub entering-spec : {M : Type 1} → statement M
 entering-spec =
@@ -92,7 +92,7 @@ entering-spec =
     μ-loop
     add-number
     leaving-requires
-    with-requires
+    added-requires
     loop-holds
     mul-turn
     array-copy-out-turn

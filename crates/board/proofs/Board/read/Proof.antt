@@ -9,12 +9,12 @@ use Rattle.board.proofs.Board.read.Tie as tie
 fit-requires : tie.Need-fit-requires
 fit-requires c κs = search needs
 
-read-known-requires : tie.Need-read-known-requires
-read-known-requires c κs = search needs
+read-work-requires : tie.Need-read-work-requires
+read-work-requires c κs = search needs
 
 returns : tie.Need-returns
 unfolding readCall
-returns c = rw (sym (c .before .before .fit .ensures) ∙ c .before .if1 .taken) (c .read-known .ensures)
+returns c = rw (sym (c .before .before .fit .ensures) ∙ c .before .if1 .taken) (c .read-work .ensures)
 
 refused-requires : tie.Need-refused-requires
 refused-requires c κs = search needs
@@ -25,4 +25,4 @@ returns-2 c = rw (sym (c .before .before .fit .ensures) ∙ c .before .if1 .left
 
 pub read-spec : {M : Type 1} → statement M
 read-spec =
-    tie.close (tie.spec fit-requires read-known-requires returns refused-requires returns-2)
+    tie.close (tie.spec fit-requires read-work-requires returns refused-requires returns-2)

@@ -9,16 +9,16 @@ use Rattle.board.proofs.Board.remove.Tie as tie
 fit-requires : tie.Need-fit-requires
 fit-requires c κs = search needs
 
-remove-known-requires : tie.Need-remove-known-requires
-remove-known-requires c κs = search needs
+remove-work-requires : tie.Need-remove-work-requires
+remove-work-requires c κs = search needs
 
 returns : tie.Need-returns
 unfolding removeCall
-returns c = rw (sym (c .before .before .fit .ensures) ∙ c .before .if1 .taken) (c .remove-known .ensures)
+returns c = rw (sym (c .before .before .fit .ensures) ∙ c .before .if1 .taken) (c .remove-work .ensures)
 
 returns-2 : tie.Need-returns-2
 unfolding removeCall
 returns-2 c = rw (sym (c .before .fit .ensures) ∙ c .if1 .left)
 
 pub remove-spec : {M : Type 1} → statement M
-remove-spec = tie.close (tie.spec fit-requires remove-known-requires returns returns-2)
+remove-spec = tie.close (tie.spec fit-requires remove-work-requires returns returns-2)

@@ -20,38 +20,38 @@ enum-told c = search needs
 enum-told-2 : tie.Need-enum-told-2
 enum-told-2 c = search needs
 
-window-requires : tie.Need-window-requires
-window-requires c κs = search needs
+window-line-requires : tie.Need-window-line-requires
+window-line-requires c κs = search needs
 
 enum-told-3 : tie.Need-enum-told-3
 enum-told-3 c = search needs
 
-question-requires : tie.Need-question-requires
-question-requires c κs = search needs
+question-line-requires : tie.Need-question-line-requires
+question-line-requires c κs = search needs
 
 enum-told-4 : tie.Need-enum-told-4
 enum-told-4 c = search needs
 
-remove-requires : tie.Need-remove-requires
-remove-requires c κs = search needs
+remove-line-requires : tie.Need-remove-line-requires
+remove-line-requires c κs = search needs
 
 enum-told-5 : tie.Need-enum-told-5
 enum-told-5 c = search needs
 
-show-requires : tie.Need-show-requires
-show-requires c κs = search needs
+show-line-requires : tie.Need-show-line-requires
+show-line-requires c κs = search needs
 
 enum-told-6 : tie.Need-enum-told-6
 enum-told-6 c = search needs
 
-one-report-requires : tie.Need-one-report-requires
-one-report-requires c κs = search needs
+report-line-requires : tie.Need-report-line-requires
+report-line-requires c κs = search needs
 
 enum-told-7 : tie.Need-enum-told-7
 enum-told-7 c = search needs
 
-one-report-requires-2 : tie.Need-one-report-requires-2
-one-report-requires-2 c κs = search needs
+report-line-requires-2 : tie.Need-report-line-requires-2
+report-line-requires-2 c κs = search needs
 
 enum-told-8 : tie.Need-enum-told-8
 enum-told-8 c = search needs
@@ -68,42 +68,42 @@ returns-2 c =
     let t = c .before in
     let k = t .before .before in
     let w = k .before in
-    c .window .ensures ∙ by-first (now (w .before .before .args .line)) (now (w .word .result)) (k .of .result) kind.Window (w .word .ensures) (k .of .ensures) (t .enum-told2 .given .1)
+    c .window-line .ensures ∙ by-first (now (w .before .before .args .line)) (now (w .word .result)) (k .of .result) kind.Window (w .word .ensures) (k .of .ensures) (t .enum-told2 .given .1)
 
 returns-3 : tie.Need-returns-3
 returns-3 c =
     let t = c .before in
     let k = t .before .before in
     let w = k .before in
-    c .question .ensures ∙ by-first (now (w .before .before .args .line)) (now (w .word .result)) (k .of .result) kind.Question (w .word .ensures) (k .of .ensures) (t .enum-told3 .given .1)
+    c .question-line .ensures ∙ by-first (now (w .before .before .args .line)) (now (w .word .result)) (k .of .result) kind.Question (w .word .ensures) (k .of .ensures) (t .enum-told3 .given .1)
 
 returns-4 : tie.Need-returns-4
 returns-4 c =
     let t = c .before in
     let k = t .before .before in
     let w = k .before in
-    c .remove .ensures ∙ by-first (now (w .before .before .args .line)) (now (w .word .result)) (k .of .result) kind.Remove (w .word .ensures) (k .of .ensures) (t .enum-told4 .given .1)
+    c .remove-line .ensures ∙ by-first (now (w .before .before .args .line)) (now (w .word .result)) (k .of .result) kind.Remove (w .word .ensures) (k .of .ensures) (t .enum-told4 .given .1)
 
 returns-5 : tie.Need-returns-5
 returns-5 c =
     let t = c .before in
     let k = t .before .before in
     let w = k .before in
-    c .show .ensures ∙ by-first (now (w .before .before .args .line)) (now (w .word .result)) (k .of .result) kind.Show (w .word .ensures) (k .of .ensures) (t .enum-told5 .given .1)
+    c .show-line .ensures ∙ by-first (now (w .before .before .args .line)) (now (w .word .result)) (k .of .result) kind.Show (w .word .ensures) (k .of .ensures) (t .enum-told5 .given .1)
 
 returns-6 : tie.Need-returns-6
 returns-6 c =
     let t = c .before in
     let k = t .before .before in
     let w = k .before in
-    c .one-report .ensures ∙ by-first (now (w .before .before .args .line)) (now (w .word .result)) (k .of .result) kind.Report (w .word .ensures) (k .of .ensures) (t .enum-told6 .given .1)
+    c .report-line .ensures ∙ by-first (now (w .before .before .args .line)) (now (w .word .result)) (k .of .result) kind.Report (w .word .ensures) (k .of .ensures) (t .enum-told6 .given .1)
 
 returns-7 : tie.Need-returns-7
 returns-7 c =
     let t = c .before in
     let k = t .before .before in
     let w = k .before in
-    c .one-report2 .ensures ∙ by-first (now (w .before .before .args .line)) (now (w .word .result)) (k .of .result) kind.Noted (w .word .ensures) (k .of .ensures) (t .enum-told7 .given .1)
+    c .report-line2 .ensures ∙ by-first (now (w .before .before .args .line)) (now (w .word .result)) (k .of .result) kind.Noted (w .word .ensures) (k .of .ensures) (t .enum-told7 .given .1)
 
 returns-8 : tie.Need-returns-8
 returns-8 c =
@@ -120,17 +120,17 @@ of-spec =
     of-requires
     enum-told
     enum-told-2
-    window-requires
+    window-line-requires
     enum-told-3
-    question-requires
+    question-line-requires
     enum-told-4
-    remove-requires
+    remove-line-requires
     enum-told-5
-    show-requires
+    show-line-requires
     enum-told-6
-    one-report-requires
+    report-line-requires
     enum-told-7
-    one-report-requires-2
+    report-line-requires-2
     enum-told-8
     returns
     returns-2

@@ -42,11 +42,11 @@ returns-2 c =
 word-requires-2 : tie.Need-word-requires-2
 word-requires-2 c κs = search needs
 
-slice-aggregate-equal : tie.Need-slice-aggregate-equal
-slice-aggregate-equal c = search needs
+slice-aggregate-same : tie.Need-slice-aggregate-same
+slice-aggregate-same c = search needs
 
-equal-requires : tie.Need-equal-requires
-equal-requires c κs = search needs
+same-requires : tie.Need-same-requires
+same-requires c κs = search needs
 
 returns-3 : tie.Need-returns-3
 unfolding dataOf
@@ -55,7 +55,7 @@ returns-3 c =
     let p : between 91 93 2 (wordAt 1 f) ≡ false = ap (between 91 93 2) (sym (c .before .before .before .before .before .before .before .before .before .word .ensures)) ∙ sym (c .before .before .before .before .before .before .before .before .between .ensures) ∙ c .before .before .before .before .before .before .before .if1 .left in
     let q : countIn (wordAt 1 f) ≡ c .before .before .before .before .before .before .count .result = ap countIn (sym (c .before .before .before .before .before .before .before .before .before .word .ensures)) ∙ sym (c .before .before .before .before .before .before .count .ensures) in
     let k : c .before .before .before .before .before .before .count .result .known ≡ true = not-false _ (c .before .before .before .before .if2 .left) in
-    let r : same (wordAt 2 f) (114 ∷ 101 ∷ 109 ∷ 111 ∷ 116 ∷ 101 ∷ []) ≡ true = ap (λ (w : List ℕ). same w (114 ∷ 101 ∷ 109 ∷ 111 ∷ 116 ∷ 101 ∷ [])) (sym (c .before .before .before .word2 .ensures)) ∙ sym (c .before .equal .ensures) ∙ c .if3 .taken in
+    let r : same (wordAt 2 f) (114 ∷ 101 ∷ 109 ∷ 111 ∷ 116 ∷ 101 ∷ []) ≡ true = ap (λ (w : List ℕ). same w (114 ∷ 101 ∷ 109 ∷ 111 ∷ 116 ∷ 101 ∷ [])) (sym (c .before .before .before .word2 .ensures)) ∙ sym (c .before .same .ensures) ∙ c .if3 .taken in
     rw (p, q, k, r)
 
 cast-size : tie.Need-cast-size
@@ -77,7 +77,7 @@ returns-4 c =
     let p : between 91 93 2 (wordAt 1 f) ≡ false = ap (between 91 93 2) (sym (c .before .before .before .before .before .before .before .before .before .before .before .before .before .word .ensures)) ∙ sym (c .before .before .before .before .before .before .before .before .before .before .before .before .between .ensures) ∙ c .before .before .before .before .before .before .before .before .before .before .before .if1 .left in
     let q : countIn (wordAt 1 f) ≡ c .before .before .before .before .before .before .before .before .before .before .count .result = ap countIn (sym (c .before .before .before .before .before .before .before .before .before .before .before .before .before .word .ensures)) ∙ sym (c .before .before .before .before .before .before .before .before .before .before .count .ensures) in
     let k : c .before .before .before .before .before .before .before .before .before .before .count .result .known ≡ true = not-false _ (c .before .before .before .before .before .before .before .before .if2 .left) in
-    let r : same (wordAt 2 f) (114 ∷ 101 ∷ 109 ∷ 111 ∷ 116 ∷ 101 ∷ []) ≡ false = ap (λ (w : List ℕ). same w (114 ∷ 101 ∷ 109 ∷ 111 ∷ 116 ∷ 101 ∷ [])) (sym (c .before .before .before .before .before .before .before .word2 .ensures)) ∙ sym (c .before .before .before .before .before .equal .ensures) ∙ c .before .before .before .before .if3 .left in
+    let r : same (wordAt 2 f) (114 ∷ 101 ∷ 109 ∷ 111 ∷ 116 ∷ 101 ∷ []) ≡ false = ap (λ (w : List ℕ). same w (114 ∷ 101 ∷ 109 ∷ 111 ∷ 116 ∷ 101 ∷ [])) (sym (c .before .before .before .before .before .before .before .word2 .ensures)) ∙ sym (c .before .before .before .before .before .same .ensures) ∙ c .before .before .before .before .if3 .left in
     let s : closedAt (2 + min (c .before .before .before .before .before .before .before .before .before .before .count .result .value) 8) f ≡ false = ap (λ (n : ℕ). closedAt (2 + n) f) (sym (c .before .before .least .ensures)) ∙ sym (c .before .closed .ensures) ∙ not-true (c .before .closed .result) (c .if4 .taken) in
     rw (p, q, k, r, s)
 
@@ -88,7 +88,7 @@ returns-5 c =
     let p : between 91 93 2 (wordAt 1 f) ≡ false = ap (between 91 93 2) (sym (c .before .before .before .before .before .before .before .before .before .before .before .before .before .word .ensures)) ∙ sym (c .before .before .before .before .before .before .before .before .before .before .before .before .between .ensures) ∙ c .before .before .before .before .before .before .before .before .before .before .before .if1 .left in
     let q : countIn (wordAt 1 f) ≡ c .before .before .before .before .before .before .before .before .before .before .count .result = ap countIn (sym (c .before .before .before .before .before .before .before .before .before .before .before .before .before .word .ensures)) ∙ sym (c .before .before .before .before .before .before .before .before .before .before .count .ensures) in
     let k : c .before .before .before .before .before .before .before .before .before .before .count .result .known ≡ true = not-false _ (c .before .before .before .before .before .before .before .before .if2 .left) in
-    let r : same (wordAt 2 f) (114 ∷ 101 ∷ 109 ∷ 111 ∷ 116 ∷ 101 ∷ []) ≡ false = ap (λ (w : List ℕ). same w (114 ∷ 101 ∷ 109 ∷ 111 ∷ 116 ∷ 101 ∷ [])) (sym (c .before .before .before .before .before .before .before .word2 .ensures)) ∙ sym (c .before .before .before .before .before .equal .ensures) ∙ c .before .before .before .before .if3 .left in
+    let r : same (wordAt 2 f) (114 ∷ 101 ∷ 109 ∷ 111 ∷ 116 ∷ 101 ∷ []) ≡ false = ap (λ (w : List ℕ). same w (114 ∷ 101 ∷ 109 ∷ 111 ∷ 116 ∷ 101 ∷ [])) (sym (c .before .before .before .before .before .before .before .word2 .ensures)) ∙ sym (c .before .before .before .before .before .same .ensures) ∙ c .before .before .before .before .if3 .left in
     let s : closedAt (2 + min (c .before .before .before .before .before .before .before .before .before .before .count .result .value) 8) f ≡ true = ap (λ (n : ℕ). closedAt (2 + n) f) (sym (c .before .before .least .ensures)) ∙ sym (c .before .closed .ensures) ∙ not-false (c .before .closed .result) (c .if4 .left) in
     rw (p, q, k, r, s)
 
@@ -102,8 +102,8 @@ of-spec =
     count-requires
     returns-2
     word-requires-2
-    slice-aggregate-equal
-    equal-requires
+    slice-aggregate-same
+    same-requires
     returns-3
     cast-size
     least-requires

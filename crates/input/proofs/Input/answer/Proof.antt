@@ -3,9 +3,9 @@
 use mathlib.Core.Path.{sym, _∙_, ap}
 use borrow.Author.Needs.{needs}
 use borrow.Author.Tests.{lt-ltb, le-ltb}
-use Rattle.input.specs.Reading.{answerOf, without}
 use Rattle.input.proofs.Reading.{no-line}
 use Rattle.input.proofs.Input.answer.Statement.{statement}
+use Rattle.input.specs.Inner.{without, answerOf}
 use Rattle.input.proofs.Input.answer.Tie as tie
 
 returns : tie.Need-returns

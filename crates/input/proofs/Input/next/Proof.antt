@@ -21,18 +21,18 @@ Inv-loop line₀ space₀ s₀ turns₀ line space s turns =
 abbrev μ-loop : tie.MeasureT-loop
 μ-loop line₀ space₀ s₀ turns₀ line space s turns = turns
 
-begun-requires : tie.Need-begun-requires Inv-loop μ-loop
-begun-requires c κs = search needs
+next-line-requires : tie.Need-next-line-requires Inv-loop μ-loop
+next-line-requires c κs = search needs
 
 loop-holds : tie.Need-loop-holds Inv-loop μ-loop
 loop-holds c =
     let a = c .before .before .before .args in
-    let s = c .begun .result in
-    let w = ap (λ (i : Input). i .whole) (c .begun .ensures) in
-    (refl, refl, λ h. w, refl, none-handed (unread s (now (a .space))) (now (a .line)) s w (ap (λ (i : Input). i .size) (c .begun .ensures)))
+    let s = c .next-line .result in
+    let w = ap (λ (i : Input). i .whole) (c .next-line .ensures) in
+    (refl, refl, λ h. w, refl, none-handed (unread s (now (a .space))) (now (a .line)) s w (ap (λ (i : Input). i .size) (c .next-line .ensures)))
 
-turn-requires : tie.Need-turn-requires Inv-loop μ-loop
-turn-requires c κs = search needs
+take-and-read-requires : tie.Need-take-and-read-requires Inv-loop μ-loop
+take-and-read-requires c κs = search needs
 
 turns-left-requires : tie.Need-turns-left-requires Inv-loop μ-loop
 turns-left-requires c κs = search needs
@@ -47,8 +47,8 @@ loop-again c =
       c .before .before .before .before .line .given ∙ l .loop .inv .0,
       c .before .before .space .given ∙ l .loop .inv .1,
       c .turns-left .ensures .1,
-      t .turn .ensures .number ∙ l .loop .inv .3,
-      handed-on (l .loop .inv .2 (t .before .before .before .loop-test .taken)) (l .loop .inv .4) (t .turn .ensures),
+      t .take-and-read .ensures .number ∙ l .loop .inv .3,
+      handed-on (l .loop .inv .2 (t .before .before .before .loop-test .taken)) (l .loop .inv .4) (t .take-and-read .ensures),
     )
 
 answer-requires : tie.Need-answer-requires Inv-loop μ-loop
@@ -65,7 +65,7 @@ returns c =
     let l = c .before .before in
     let a = l .before .before .before .before .args in
     rw (c .answer .ensures)
-    (comes (a .self) (now (a .line)) (now (a .space)) (l .loop .line) (l .loop .space) (l .loop .s) (l .before .begun .ensures) (l .loop .inv .4) (l .loop .inv .3))
+    (comes (a .self) (now (a .line)) (now (a .space)) (l .loop .line) (l .loop .space) (l .loop .s) (l .before .next-line .ensures) (l .loop .inv .4) (l .loop .inv .3))
 
 pub next-spec : {M : Type 1} → statement M
 next-spec =
@@ -73,9 +73,9 @@ next-spec =
     (tie.spec
     Inv-loop
     μ-loop
-    begun-requires
+    next-line-requires
     loop-holds
-    turn-requires
+    take-and-read-requires
     turns-left-requires
     loop-less
     loop-again

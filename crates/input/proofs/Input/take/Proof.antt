@@ -36,11 +36,11 @@ add-rest c =
 rest-requires : tie.Need-rest-requires
 rest-requires c κs = search needs
 
-add-grown : tie.Need-add-grown
-add-grown c = search needs
+add-sum-at-most : tie.Need-add-sum-at-most
+add-sum-at-most c = search needs
 
-grown-requires : tie.Need-grown-requires
-grown-requires c κs = search needs
+sum-at-most-requires : tie.Need-sum-at-most-requires
+sum-at-most-requires c κs = search needs
 
 same-length : tie.Need-same-length
 same-length c = search needs
@@ -55,7 +55,7 @@ unfolding firstLine
 returns c =
     let n = c .before .before .before .before .before .before .before in
     let a = n .before .before .before .before .before .args in (
-      took (length (now (a .line))) (a .self) (now (a .space)) (piece-so (n .before)) (n .length .ensures) (c .before .rest .ensures) (c .grown .ensures ∙ rw (c .before .before .before .before .put-all .ensures, length-sets)),
+      took (length (now (a .line))) (a .self) (now (a .space)) (piece-so (n .before)) (n .length .ensures) (c .before .rest .ensures) (c .sum-at-most .ensures ∙ rw (c .before .before .before .before .put-all .ensures, length-sets)),
       c .before .before .before .before .put-all .ensures ∙ rw (c .before .before .before .before .before .front2 .ensures, n .length .ensures, piece-so (n .before)),
     )
 
@@ -70,7 +70,7 @@ take-spec =
     put-all-requires
     add-rest
     rest-requires
-    add-grown
-    grown-requires
+    add-sum-at-most
+    sum-at-most-requires
     same-length
     returns)

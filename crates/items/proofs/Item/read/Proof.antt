@@ -9,7 +9,7 @@ use lib.ListN.{getD}
 use Rattle.wire.specs.Bytes.{number, part}
 use Rattle.items.specs.declared.Item.{Item}
 use Rattle.items.specs.declared.Item.the-variants.{Set, Frame, Remove, Show, Unknown, Window}
-use Rattle.items.specs.Items.{is, settingIn, itemIn}
+use Rattle.items.specs.Items.{isItem, settingIn, itemIn}
 use borrow.Author.Needs.{needs}
 use Rattle.items.proofs.Item.read.Statement.{statement}
 use Rattle.items.proofs.Item.read.Tie as tie
@@ -17,16 +17,16 @@ use Rattle.items.proofs.Item.read.Tie as tie
 -- What is left of the definition behind its first tests.
 module _ (tag : ℕ) (v : List ℕ) where
   abbrev shown : Item
-  shown = cond (is tag v 20 1) (Show (getD v 0 0)) Unknown
+  shown = cond (isItem tag v 20 1) (Show (getD v 0 0)) Unknown
 
   abbrev removed : Item
-  removed = cond (is tag v 19 1) (Remove (getD v 0 0)) shown
+  removed = cond (isItem tag v 19 1) (Remove (getD v 0 0)) shown
 
   abbrev framed : Item
-  framed = cond (is tag v 18 12) (Frame (number (part 0 4 v))) removed
+  framed = cond (isItem tag v 18 12) (Frame (number (part 0 4 v))) removed
 
   abbrev asked : Item
-  asked = cond (is tag v 17 6) (Set (settingIn v)) framed
+  asked = cond (isItem tag v 17 6) (Set (settingIn v)) framed
 
 module _ (c : tie.After-shared-slice-known) where
   abbrev tag : ℕ
@@ -40,83 +40,83 @@ module _ (c : tie.After-shared-slice-known) where
 
 no-window : (c : tie.Else1) → let s = c .before .before in all s ≡ asked (tag s) (value s)
 unfolding itemIn
-no-window c = rw (sym (c .before .is .ensures) ∙ c .if1 .left)
+no-window c = rw (sym (c .before .is-item .ensures) ∙ c .if1 .left)
 
 no-set : (c : tie.Else2) → let s = c .before .before .before .before in all s ≡ framed (tag s) (value s)
-no-set c = no-window (c .before .before) ∙ rw (sym (c .before .is2 .ensures) ∙ c .if2 .left)
+no-set c = no-window (c .before .before) ∙ rw (sym (c .before .is-item2 .ensures) ∙ c .if2 .left)
 
 no-frame : (c : tie.Else3) → let s = c .before .before .before .before .before .before in all s ≡ removed (tag s) (value s)
-no-frame c = no-set (c .before .before) ∙ rw (sym (c .before .is3 .ensures) ∙ c .if3 .left)
+no-frame c = no-set (c .before .before) ∙ rw (sym (c .before .is-item3 .ensures) ∙ c .if3 .left)
 
 no-remove : (c : tie.Else4) → let s = c .before .before .before .before .before .before .before .before in all s ≡ shown (tag s) (value s)
-no-remove c = no-frame (c .before .before) ∙ rw (sym (c .before .is4 .ensures) ∙ c .if4 .left)
+no-remove c = no-frame (c .before .before) ∙ rw (sym (c .before .is-item4 .ensures) ∙ c .if4 .left)
 
-is-requires : tie.Need-is-requires
-is-requires c κs = search needs
+is-item-requires : tie.Need-is-item-requires
+is-item-requires c κs = search needs
 
 read16-requires : tie.Need-read16-requires
 read16-requires c κs = search needs
 
 returns : tie.Need-returns
 unfolding itemIn
-returns c = rw (sym (c .before .before .is .ensures) ∙ c .before .if1 .taken) (ap Window (c .read16 .ensures))
+returns c = rw (sym (c .before .before .is-item .ensures) ∙ c .before .if1 .taken) (ap Window (c .read16 .ensures))
 
-is-requires-2 : tie.Need-is-requires-2
-is-requires-2 c κs = search needs
+is-item-requires-2 : tie.Need-is-item-requires-2
+is-item-requires-2 c κs = search needs
 
 read-requires : tie.Need-read-requires
 read-requires c κs = search needs
 
 returns-2 : tie.Need-returns-2
-returns-2 c = rw (no-window (c .before .before .before), sym (c .before .before .is2 .ensures) ∙ c .before .if2 .taken) (ap Set (c .read .ensures))
+returns-2 c = rw (no-window (c .before .before .before), sym (c .before .before .is-item2 .ensures) ∙ c .before .if2 .taken) (ap Set (c .read .ensures))
 
-is-requires-3 : tie.Need-is-requires-3
-is-requires-3 c κs = search needs
+is-item-requires-3 : tie.Need-is-item-requires-3
+is-item-requires-3 c κs = search needs
 
 read32-requires : tie.Need-read32-requires
 read32-requires c κs = search needs
 
 returns-3 : tie.Need-returns-3
-returns-3 c = rw (no-set (c .before .before .before), sym (c .before .before .is3 .ensures) ∙ c .before .if3 .taken) (ap Frame (c .read32 .ensures))
+returns-3 c = rw (no-set (c .before .before .before), sym (c .before .before .is-item3 .ensures) ∙ c .before .if3 .taken) (ap Frame (c .read32 .ensures))
 
-is-requires-4 : tie.Need-is-requires-4
-is-requires-4 c κs = search needs
+is-item-requires-4 : tie.Need-is-item-requires-4
+is-item-requires-4 c κs = search needs
 
 byte-requires : tie.Need-byte-requires
 byte-requires c κs = search needs
 
 returns-4 : tie.Need-returns-4
-returns-4 c = rw (no-frame (c .before .before .before), sym (c .before .before .is4 .ensures) ∙ c .before .if4 .taken) (ap Remove (c .byte .ensures))
+returns-4 c = rw (no-frame (c .before .before .before), sym (c .before .before .is-item4 .ensures) ∙ c .before .if4 .taken) (ap Remove (c .byte .ensures))
 
-is-requires-5 : tie.Need-is-requires-5
-is-requires-5 c κs = search needs
+is-item-requires-5 : tie.Need-is-item-requires-5
+is-item-requires-5 c κs = search needs
 
 byte-requires-2 : tie.Need-byte-requires-2
 byte-requires-2 c κs = search needs
 
 returns-5 : tie.Need-returns-5
-returns-5 c = rw (no-remove (c .before .before .before), sym (c .before .before .is5 .ensures) ∙ c .before .if5 .taken) (ap Show (c .byte2 .ensures))
+returns-5 c = rw (no-remove (c .before .before .before), sym (c .before .before .is-item5 .ensures) ∙ c .before .if5 .taken) (ap Show (c .byte2 .ensures))
 
 returns-6 : tie.Need-returns-6
-returns-6 c = rw (no-remove (c .before .before), sym (c .before .is5 .ensures) ∙ c .if5 .left)
+returns-6 c = rw (no-remove (c .before .before), sym (c .before .is-item5 .ensures) ∙ c .if5 .left)
 
 pub read-spec : {M : Type 1} → statement M
 read-spec =
     tie.close
     (tie.spec
-    is-requires
+    is-item-requires
     read16-requires
     returns
-    is-requires-2
+    is-item-requires-2
     read-requires
     returns-2
-    is-requires-3
+    is-item-requires-3
     read32-requires
     returns-3
-    is-requires-4
+    is-item-requires-4
     byte-requires
     returns-4
-    is-requires-5
+    is-item-requires-5
     byte-requires-2
     returns-5
     returns-6)

@@ -8,8 +8,8 @@ use borrow.Author.Needs.{needs}
 use Rattle.journal.proofs.Log.enter_item.Statement.{statement}
 use Rattle.journal.proofs.Log.enter_item.Tie as tie
 
-enter-known-requires : tie.Need-enter-known-requires
-enter-known-requires c κs = search needs
+enter-work-requires : tie.Need-enter-work-requires
+enter-work-requires c κs = search needs
 
 refused-requires : tie.Need-refused-requires
 refused-requires c κs = search needs
@@ -21,7 +21,7 @@ returns : tie.Need-returns
 unfolding enterItem
 returns c =
     let a = c .before .before .before .before .before .before .before .before .args in
-    refuses (a .self) _ (ap (λ (e : Entered). e .refusal) (c .before .before .before .before .before .enter-known .ensures)) (c .before .before .before .before .if1 .taken) (c .before .before .refused .ensures)
+    refuses (a .self) _ (ap (λ (e : Entered). e .refusal) (c .before .before .before .before .before .enter-work .ensures)) (c .before .before .before .before .if1 .taken) (c .before .before .refused .ensures)
 
 put-searches-requires : tie.Need-put-searches-requires
 put-searches-requires c κs = search needs
@@ -36,7 +36,7 @@ returns-2 : tie.Need-returns-2
 unfolding enterItem
 returns-2 c =
     let a = c .before .before .before .before .before .before .before .before .before .before .before .before .args in
-    let entered = c .before .before .before .before .before .before .before .before .before .enter-known .ensures in
+    let entered = c .before .before .before .before .before .before .before .before .before .enter-work .ensures in
     does (a .self) (ap (λ (e : Entered). e .refusal) entered) (c .before .before .before .before .before .before .before .before .if1 .left)
     (ap (λ (e : Entered). record { text = sLines (a .self .items) 0 (e .searched) (e .steps); log = withBoard (a .self) (e .board) }) entered)
     (stores _ _ (c .with-board .ensures) (c .before .before .before .before .put-searches .ensures))
@@ -45,7 +45,7 @@ pub enter-item-spec : {M : Type 1} → statement M
 enter-item-spec =
     tie.close
     (tie.spec
-    enter-known-requires
+    enter-work-requires
     refused-requires
     same-length
     returns

@@ -5,7 +5,7 @@ use Prim.Native.Nat.{_%_}
 use denote.Ref.{now}
 use lib.ListN.{set}
 use Rattle.joining.specs.declared.Taken.{Taken}
-use Rattle.journal.specs.Log.{withSessions, refused, answered}
+use Rattle.journal.specs.Log.{withSessions, refused, answerItem}
 use Rattle.journal.proofs.Calls.{outcome-is}
 use Rattle.journal.proofs.Frames.{unheard, heard}
 use borrow.Author.Needs.{needs}
@@ -47,8 +47,8 @@ array-set-from-sessions c = search needs
 with-sessions-requires : tie.Need-with-sessions-requires
 with-sessions-requires c κs = search needs
 
-answered-requires : tie.Need-answered-requires
-answered-requires c κs = search needs
+answer-item-requires : tie.Need-answer-item-requires
+answer-item-requires c κs = search needs
 
 same-length-2 : tie.Need-same-length-2
 same-length-2 c = search needs
@@ -58,7 +58,7 @@ returns-2 c =
     let a = c .before .before .before .before .before .before .before .before .before .before .before .before .args in
     let taken = c .before .before .before .before .before .before .lend .ensures in
     let left = c .before .before .before .before .with-sessions .ensures ∙ ap (λ (t : Taken). withSessions (a .self) (set (a .self .sessions) (a .id % 256) (t .session))) taken in
-    outcome-is (ap₂ answered left (ap (λ (t : Taken). t .answer) taken) ∙ heard (a .self) (a .id) (now (a .data)) (c .before .before .before .before .before .before .before .before .before .if1 .left)) (c .before .before .answered .ensures)
+    outcome-is (ap₂ answerItem left (ap (λ (t : Taken). t .answer) taken) ∙ heard (a .self) (a .id) (now (a .data)) (c .before .before .before .before .before .before .before .before .before .if1 .left)) (c .before .before .answer-item .ensures)
 
 pub frame-item-spec : {M : Type 1} → statement M
 frame-item-spec =
@@ -75,6 +75,6 @@ frame-item-spec =
     mul-sessions
     array-set-from-sessions
     with-sessions-requires
-    answered-requires
+    answer-item-requires
     same-length-2
     returns-2)

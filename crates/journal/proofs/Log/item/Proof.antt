@@ -2,14 +2,14 @@
 -- Assumes nothing.
 use mathlib.Core.Path.{ap, ap₂, _∙_}
 use Rattle.journal.specs.declared.Log.{Log}
-use Rattle.journal.specs.Log.{counted, refused, itemRefusal, byItem, itemDone}
+use Rattle.journal.specs.Log.{withItem, refused, itemRefusal, byItem, itemDone}
 use Rattle.journal.proofs.Calls.{outcome-is, refuses, does}
 use borrow.Author.Needs.{needs}
 use Rattle.journal.proofs.Log.item.Statement.{statement}
 use Rattle.journal.proofs.Log.item.Tie as tie
 
-counted-requires : tie.Need-counted-requires
-counted-requires c κs = search needs
+with-item-requires : tie.Need-with-item-requires
+with-item-requires c κs = search needs
 
 read-requires : tie.Need-read-requires
 read-requires c κs = search needs
@@ -28,9 +28,9 @@ unfolding itemDone
 returns c =
     let judged = c .before .before .before .before .before in
     let a = judged .before .before .before .before .before .args in
-    let log = judged .before .before .counted .ensures in
+    let log = judged .before .before .with-item .ensures in
     let refusal = judged .item-refusal .ensures ∙ ap₂ itemRefusal log (judged .before .read .ensures) in
-    refuses (counted (a .self)) _ refusal (c .before .before .before .before .if1 .taken) (outcome-is (ap (λ (l : Log). refused l (judged .item-refusal .result)) log) (c .before .before .refused .ensures))
+    refuses (withItem (a .self)) _ refusal (c .before .before .before .before .if1 .taken) (outcome-is (ap (λ (l : Log). refused l (judged .item-refusal .result)) log) (c .before .before .refused .ensures))
 
 data-in-requires : tie.Need-data-in-requires
 data-in-requires c κs = search needs
@@ -47,16 +47,16 @@ returns-2 c =
     let bytes = c .before .before .before .before in
     let judged = bytes .before .before in
     let a = judged .before .before .before .before .before .args in
-    let log = judged .before .before .counted .ensures in
+    let log = judged .before .before .with-item .ensures in
     let i = judged .before .read .ensures in
     let refusal = judged .item-refusal .ensures ∙ ap₂ itemRefusal log i in
-    does (counted (a .self)) refusal (bytes .before .if1 .left) (λ j. byItem (log j) (i j) (bytes .data-in .ensures j)) (c .before .before .by-item .ensures)
+    does (withItem (a .self)) refusal (bytes .before .if1 .left) (λ j. byItem (log j) (i j) (bytes .data-in .ensures j)) (c .before .before .by-item .ensures)
 
 pub item-spec : {M : Type 1} → statement M
 item-spec =
     tie.close
     (tie.spec
-    counted-requires
+    with-item-requires
     read-requires
     item-refusal-requires
     refused-requires

@@ -13,8 +13,8 @@ use Rattle.journal.proofs.Log.set_item.Tie as tie
 setting-rule-requires : tie.Need-setting-rule-requires
 setting-rule-requires c κs = search needs
 
-set-known-requires : tie.Need-set-known-requires
-set-known-requires c κs = search needs
+set-work-requires : tie.Need-set-work-requires
+set-work-requires c κs = search needs
 
 refused-requires : tie.Need-refused-requires
 refused-requires c κs = search needs
@@ -26,7 +26,7 @@ returns : tie.Need-returns
 unfolding setItem
 returns c =
     let a = c .before .before .before .before .before .before .before .before .before .args in
-    let placed = c .before .before .before .before .before .set-known .ensures ∙ ap (setWork (a .self .board) (a .s .slot) (a .s .k)) (c .before .before .before .before .before .before .before .setting-rule .ensures) in
+    let placed = c .before .before .before .before .before .set-work .ensures ∙ ap (setWork (a .self .board) (a .s .slot) (a .s .k)) (c .before .before .before .before .before .before .before .setting-rule .ensures) in
     refuses (a .self) _ (ap (λ (p : Placed). p .refusal) placed) (c .before .before .before .before .if1 .taken) (c .before .before .refused .ensures)
 
 put-s-requires : tie.Need-put-s-requires
@@ -42,7 +42,7 @@ returns-2 : tie.Need-returns-2
 unfolding setItem
 returns-2 c =
     let a = c .before .before .before .before .before .before .before .before .before .before .before .args in
-    let placed = c .before .before .before .before .before .before .before .set-known .ensures ∙ ap (setWork (a .self .board) (a .s .slot) (a .s .k)) (c .before .before .before .before .before .before .before .before .before .setting-rule .ensures) in
+    let placed = c .before .before .before .before .before .before .before .set-work .ensures ∙ ap (setWork (a .self .board) (a .s .slot) (a .s .k)) (c .before .before .before .before .before .before .before .before .before .setting-rule .ensures) in
     does (a .self) (ap (λ (p : Placed). p .refusal) placed) (c .before .before .before .before .before .before .if1 .left)
     (ap (λ (p : Placed). record { text = sLine (a .self .items) (a .s .slot) (p .steps); log = withBoard (a .self) (p .board) }) placed)
     (stores _ _ (c .with-board .ensures) (c .before .before .before .before .put-s .ensures))
@@ -52,7 +52,7 @@ set-item-spec =
     tie.close
     (tie.spec
     setting-rule-requires
-    set-known-requires
+    set-work-requires
     refused-requires
     same-length
     returns

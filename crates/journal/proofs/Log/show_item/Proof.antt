@@ -3,15 +3,15 @@
 use mathlib.Core.Path.{refl, ap}
 use lib.ListN.{take}
 use Rattle.slot.specs.declared.Shown.{Shown}
-use Rattle.text.specs.Text.{qLine, listed}
+use Rattle.text.specs.Text.{qLine, entriesOf}
 use Rattle.journal.specs.Log.{showItem}
 use Rattle.journal.proofs.Calls.{refuses, does, stores}
 use borrow.Author.Needs.{needs}
 use Rattle.journal.proofs.Log.show_item.Statement.{statement}
 use Rattle.journal.proofs.Log.show_item.Tie as tie
 
-read-known-requires : tie.Need-read-known-requires
-read-known-requires c κs = search needs
+read-work-requires : tie.Need-read-work-requires
+read-work-requires c κs = search needs
 
 refused-requires : tie.Need-refused-requires
 refused-requires c κs = search needs
@@ -23,7 +23,7 @@ returns : tie.Need-returns
 unfolding showItem
 returns c =
     let a = c .before .before .before .before .before .before .before .before .args in
-    let shown = c .before .before .before .before .before .read-known .ensures in
+    let shown = c .before .before .before .before .before .read-work .ensures in
     refuses (a .self) _ (ap (λ (s : Shown). s .refusal) shown) (c .before .before .before .before .if1 .taken) (c .before .before .refused .ensures)
 
 cast-put-q : tie.Need-cast-put-q
@@ -39,16 +39,16 @@ returns-2 : tie.Need-returns-2
 unfolding showItem
 returns-2 c =
     let a = c .before .before .before .before .before .before .before .before .before .before .before .args in
-    let shown = c .before .before .before .before .before .before .before .before .read-known .ensures in
+    let shown = c .before .before .before .before .before .before .before .before .read-work .ensures in
     does (a .self) (ap (λ (s : Shown). s .refusal) shown) (c .before .before .before .before .before .before .before .if1 .left)
-    (ap (λ (s : Shown). record { text = qLine (a .slot) (take (s .len) (listed (s .numbers) (s .scores))); log = a .self }) shown)
+    (ap (λ (s : Shown). record { text = qLine (a .slot) (take (s .len) (entriesOf (s .numbers) (s .scores))); log = a .self }) shown)
     (stores (a .self) _ refl (c .before .before .put-q .ensures))
 
 pub show-item-spec : {M : Type 1} → statement M
 show-item-spec =
     tie.close
     (tie.spec
-    read-known-requires
+    read-work-requires
     refused-requires
     same-length
     returns

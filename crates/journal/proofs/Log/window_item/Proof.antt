@@ -3,7 +3,7 @@
 use mathlib.Core.Path.{ap}
 use denote.Ref.{now}
 use Rattle.board.specs.declared.NewBoard.{NewBoard}
-use Rattle.journal.specs.Log.{quiet, withBoard, windowItem}
+use Rattle.journal.specs.Log.{noText, withBoard, windowItem}
 use Rattle.journal.proofs.Calls.{refuses, does, silent}
 use borrow.Author.Needs.{needs}
 use Rattle.journal.proofs.Log.window_item.Statement.{statement}
@@ -33,7 +33,7 @@ unfolding windowItem
 returns-2 c =
     let a = c .before .before .before .before .before .args in
     let made = c .before .before .before .fresh .ensures in
-    does (a .self) (ap (λ (b : NewBoard). b .refusal) made) (c .before .before .if1 .left) (ap (λ (b : NewBoard). quiet (withBoard (a .self) (b .board))) made)
+    does (a .self) (ap (λ (b : NewBoard). b .refusal) made) (c .before .before .if1 .left) (ap (λ (b : NewBoard). noText (withBoard (a .self) (b .board))) made)
     (silent (now (a .out)) (a .at) _ (search needs) (c .with-board .ensures))
 
 pub window-item-spec : {M : Type 1} → statement M

@@ -5,7 +5,7 @@ use Prim.Native.Nat.{_≤_, _<_, _-_}
 use lib.ListN.{length, drop}
 use denote.Ref.{now}
 use borrow.Author.Tests.{eq-eqb, ne-eqb}
-use Rattle.lines.specs.Numbers.{known, numberOn, numberIn}
+use Rattle.lines.specs.Numbers.{aNumber, numberOn, numberIn}
 use Rattle.lines.proofs.Numbers.{number-more, number-end}
 use borrow.Author.Needs.{needs}
 use native.Mathlib.Omega.{arith}
@@ -13,7 +13,7 @@ use Rattle.lines.proofs.Number.read.Statement.{statement}
 use Rattle.lines.proofs.Number.read.Tie as tie
 
 abbrev Inv-loop : tie.InvT-loop
-Inv-loop s base most n₀ i₀ n i = (i ≤ length s) × (0 < length s) × (numberOn base most n (drop i s) ≡ numberOn base most (known 0) s)
+Inv-loop s base most n₀ i₀ n i = (i ≤ length s) × (0 < length s) × (numberOn base most n (drop i s) ≡ numberOn base most (aNumber 0) s)
 
 abbrev μ-loop : tie.MeasureT-loop
 μ-loop s base most n₀ i₀ n i = length s - i
@@ -28,11 +28,11 @@ returns c = c .unknown .ensures ∙ rw (eq-eqb _ 0 (c .before .if1 .taken))
 loop-holds : tie.Need-loop-holds Inv-loop μ-loop
 loop-holds c = (omega arith, omega arith, refl)
 
-shared-slice-read-with : tie.Need-shared-slice-read-with Inv-loop μ-loop
-shared-slice-read-with c = omega arith
+shared-slice-read-with-digit : tie.Need-shared-slice-read-with-digit Inv-loop μ-loop
+shared-slice-read-with-digit c = omega arith
 
-with-requires : tie.Need-with-requires Inv-loop μ-loop
-with-requires c κs = search needs
+with-digit-requires : tie.Need-with-digit-requires Inv-loop μ-loop
+with-digit-requires c κs = search needs
 
 add-i : tie.Need-add-i Inv-loop μ-loop
 add-i c = omega arith
@@ -44,7 +44,7 @@ loop-again : tie.Need-loop-again Inv-loop μ-loop
 loop-again c =
     let l = c .before .before .before in
     let a = l .before .before .before .args in
-    (omega arith, l .loop .inv .1, rw (c .with .ensures) (sym (number-more (a .base) (a .most) (l .loop .n) (now (a .s)) (l .loop .i) (omega arith)) ∙ l .loop .inv .2))
+    (omega arith, l .loop .inv .1, rw (c .with-digit .ensures) (sym (number-more (a .base) (a .most) (l .loop .n) (now (a .s)) (l .loop .i) (omega arith)) ∙ l .loop .inv .2))
 
 returns-2 : tie.Need-returns-2 Inv-loop μ-loop
 unfolding numberIn
@@ -63,8 +63,8 @@ read-spec =
     unknown-requires
     returns
     loop-holds
-    shared-slice-read-with
-    with-requires
+    shared-slice-read-with-digit
+    with-digit-requires
     add-i
     loop-less
     loop-again

@@ -5,7 +5,7 @@ use Prim.Native.Nat.{_≤_, _-_, _+_}
 use lib.ListN.{length, drop}
 use denote.Ref.{now}
 use borrow.Author.Tests.{not-true, not-false}
-use Rattle.lines.specs.Words.{run}
+use Rattle.lines.specs.Words.{runLength}
 use Rattle.lines.proofs.Words.{run-more, run-stop, run-end}
 use borrow.Author.Needs.{needs}
 use native.Mathlib.Omega.{arith}
@@ -13,7 +13,7 @@ use Rattle.lines.proofs.Run.length.Statement.{statement}
 use Rattle.lines.proofs.Run.length.Tie as tie
 
 abbrev Inv-loop : tie.InvT-loop
-Inv-loop self s i₀ i = (i ≤ length s) × (i + run self (drop i s) ≡ run self s)
+Inv-loop self s i₀ i = (i ≤ length s) × (i + runLength self (drop i s) ≡ runLength self s)
 
 abbrev μ-loop : tie.MeasureT-loop
 μ-loop self s i₀ i = length s - i
@@ -21,17 +21,17 @@ abbrev μ-loop : tie.MeasureT-loop
 loop-holds : tie.Need-loop-holds Inv-loop μ-loop
 loop-holds c = (omega arith, omega arith)
 
-shared-slice-read-counts : tie.Need-shared-slice-read-counts Inv-loop μ-loop
-shared-slice-read-counts c = omega arith
+shared-slice-read-is-of-kind : tie.Need-shared-slice-read-is-of-kind Inv-loop μ-loop
+shared-slice-read-is-of-kind c = omega arith
 
-counts-requires : tie.Need-counts-requires Inv-loop μ-loop
-counts-requires c κs = search needs
+is-of-kind-requires : tie.Need-is-of-kind-requires Inv-loop μ-loop
+is-of-kind-requires c κs = search needs
 
 returns : tie.Need-returns Inv-loop μ-loop
 returns c =
     let l = c .before .before .before .before in
     let a = l .before .before .args in
-    omega (arith, l .loop .inv .1, run-stop (a .self) (now (a .s)) (l .loop .i) (omega arith) (sym (c .before .counts .ensures) ∙ not-true _ (c .if1 .taken)))
+    omega (arith, l .loop .inv .1, run-stop (a .self) (now (a .s)) (l .loop .i) (omega arith) (sym (c .before .is-of-kind .ensures) ∙ not-true _ (c .if1 .taken)))
 
 add-i : tie.Need-add-i Inv-loop μ-loop
 add-i c = omega arith
@@ -43,7 +43,7 @@ loop-again : tie.Need-loop-again Inv-loop μ-loop
 loop-again c =
     let l = c .before .before .before .before in
     let a = l .before .before .args in
-    (omega arith, sym (run-more (a .self) (now (a .s)) (l .loop .i) (omega arith) (sym (c .before .counts .ensures) ∙ not-false _ (c .if1 .left))) ∙ l .loop .inv .1)
+    (omega arith, sym (run-more (a .self) (now (a .s)) (l .loop .i) (omega arith) (sym (c .before .is-of-kind .ensures) ∙ not-false _ (c .if1 .left))) ∙ l .loop .inv .1)
 
 returns-2 : tie.Need-returns-2 Inv-loop μ-loop
 returns-2 c =
@@ -58,8 +58,8 @@ length-spec =
     Inv-loop
     μ-loop
     loop-holds
-    shared-slice-read-counts
-    counts-requires
+    shared-slice-read-is-of-kind
+    is-of-kind-requires
     returns
     add-i
     loop-less

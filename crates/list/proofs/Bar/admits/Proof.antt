@@ -26,13 +26,13 @@ above-requires c κs = search needs
 
 returns-2 : tie.Need-returns-2
 returns-2 c =
-    let told = c .before in
-    let first = told .before .before in
+    let earlier = c .before in
+    let first = earlier .before .before in
     let start = first .before in
     let a = start .args in
     c .above .ensures
-    ∙ ap₂ (λ s t. above (a .rule) (line (a .number) s) (line (a .self .number) t)) (toZ-ofZ (start .fits .score)) (kept w32 (a .self .score) (told .struct-told .given .1 .1 .0 .1))
-    ∙ sym (admits-full (above (a .rule)) (a .self) (line (a .number) (a .score)) (ne-eqb (a .number) 0 (first .if1 .left)) (told .before .if2 .taken))
+    ∙ ap₂ (λ s t. above (a .rule) (line (a .number) s) (line (a .self .number) t)) (toZ-ofZ (start .fits .score)) (kept w32 (a .self .score) (earlier .struct-told .given .1 .1 .0 .1))
+    ∙ sym (admits-full (above (a .rule)) (a .self) (line (a .number) (a .score)) (ne-eqb (a .number) 0 (first .if1 .left)) (earlier .before .if2 .taken))
 
 returns-3 : tie.Need-returns-3
 returns-3 c =

@@ -2,8 +2,8 @@
 -- Assumes nothing.
 use mir.Syntax.{w32}
 use Rattle.laws.proofs.Words.{kept}
-use Rattle.list.specs.Bars.{leastAt}
 use Rattle.list.proofs.Bar.least.Statement.{statement}
+use Rattle.list.specs.Inner.{leastAt}
 use Rattle.list.proofs.Bar.least.Tie as tie
 
 returns : tie.Need-returns

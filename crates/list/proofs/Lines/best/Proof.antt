@@ -7,11 +7,11 @@ use borrow.Author.Needs.{needs}
 use lib.IntN.{pos}
 use lib.ListN.{take, getD}
 use mir.Syntax.{w32}
-use Rattle.search.specs.Best.{best, place}
+use Rattle.search.specs.Best.{best, placed}
 use Rattle.ranking.specs.Standing.{above}
 use Rattle.laws.proofs.Words.{kept}
 use Rattle.ranking.proofs.Entries.{above-strict}
-use Rattle.list.specs.Lines.{linesOf, linesIn, stored}
+use Rattle.list.specs.Lines.{linesOf, linesIn, columnsOf}
 use Rattle.list.proofs.Stored.{Roomy, roomy-known, all-lines}
 use Rattle.list.proofs.Placing.{best-none, best-more}
 use Rattle.list.proofs.Lines.best.Statement.{statement}
@@ -22,13 +22,13 @@ Inv-loop rule k n numbers scores list₀ i₀ list i =
     (i ≤ n)
     × (n ≤ 16)
     × Roomy numbers scores
-    × (list ≡ stored (best (above rule) (min k 16) (take i (take n (linesOf numbers scores)))))
+    × (list ≡ columnsOf (best (above rule) (min k 16) (take i (take n (linesOf numbers scores)))))
 
 abbrev μ-loop : tie.MeasureT-loop
 μ-loop rule k n numbers scores list₀ i₀ list i = n - i
 
-shown-requires : tie.Need-shown-requires Inv-loop μ-loop
-shown-requires c κs = search needs
+line-count-requires : tie.Need-line-count-requires Inv-loop μ-loop
+line-count-requires c κs = search needs
 
 none-requires : tie.Need-none-requires Inv-loop μ-loop
 none-requires c κs = search needs
@@ -71,7 +71,7 @@ loop-again c =
     let start = at .before .before .before .before .before in
     let a = start .args in
     let l = a .self in
-    let n = at .before .before .before .before .shown .result in
+    let n = at .before .before .before .before .line-count .result in
     let i = at .loop .i in
     let inv = at .loop .inv in
     let back = kept w32 (getD (l .scores) i (pos 0)) (c .before .placed-arg .given) in (
@@ -79,7 +79,7 @@ loop-again c =
       inv .1,
       inv .2,
       c .placed .ensures
-          ∙ ap (λ s. stored (take (min (a .k) 16) (place (above (a .rule)) (record { number = getD (l .numbers) i 0; score = s }) (linesIn (at .loop .list))))) back
+          ∙ ap (λ s. columnsOf (take (min (a .k) 16) (placed (above (a .rule)) (record { number = getD (l .numbers) i 0; score = s }) (linesIn (at .loop .list))))) back
           ∙ best-more (above (a .rule)) (above-strict (a .rule)) (l .numbers) (l .scores) (inv .2) n (inv .1) i (search needs) (min (a .k) 16) (omega arith) (at .loop .list) (inv .3),
     )
 
@@ -88,12 +88,12 @@ returns c =
     let at = c .before in
     let start = at .before .before .before .before .before in
     let a = start .args in
-    let n = at .before .before .before .before .shown .result in
+    let n = at .before .before .before .before .line-count .result in
     let inv = at .loop .inv in
     let all : at .loop .i ≡ n = omega arith in
     inv .3
-    ∙ ap (λ l. stored (best (above (a .rule)) (min (a .k) 16) l))
-    (all-lines (a .self) (inv .2) n (at .before .before .before .before .shown .ensures) (at .loop .i) all)
+    ∙ ap (λ l. columnsOf (best (above (a .rule)) (min (a .k) 16) l))
+    (all-lines (a .self) (inv .2) n (at .before .before .before .before .line-count .ensures) (at .loop .i) all)
 
 pub best-spec : {M : Type 1} → statement M
 best-spec =
@@ -101,7 +101,7 @@ best-spec =
     (tie.spec
     Inv-loop
     μ-loop
-    shown-requires
+    line-count-requires
     none-requires
     loop-holds
     mul-placed

@@ -17,8 +17,8 @@ Inv-loop rule self n i₀ i = Descent (above rule) (falls (above rule) (linesIn 
 abbrev μ-loop : tie.MeasureT-loop
 μ-loop rule self n i₀ i = n - i
 
-shown-requires : tie.Need-shown-requires Inv-loop μ-loop
-shown-requires c κs = search needs
+line-count-requires : tie.Need-line-count-requires Inv-loop μ-loop
+line-count-requires c κs = search needs
 
 loop-holds : tie.Need-loop-holds Inv-loop μ-loop
 loop-holds c =
@@ -29,7 +29,7 @@ loop-holds c =
       up-to = search needs;
       within = search needs;
       room = room;
-      decides = ap (falls (above (c .before .args .rule))) (front-lines l room (c .shown .result) (c .shown .ensures));
+      decides = ap (falls (above (c .before .args .rule))) (front-lines l room (c .line-count .result) (c .line-count .ensures));
     }
 
 add-loop : tie.Need-add-loop Inv-loop μ-loop
@@ -89,7 +89,7 @@ falls-spec =
     (tie.spec
     Inv-loop
     μ-loop
-    shown-requires
+    line-count-requires
     loop-holds
     add-loop
     add-next

@@ -6,16 +6,16 @@ use native.Mathlib.Omega.{arith}
 use borrow.Author.Needs.{needs}
 use lib.ListN.{take}
 use mir.Facts.{toZ-ofZ}
-use Rattle.search.specs.Best.{place}
+use Rattle.search.specs.Best.{placed}
 use Rattle.ranking.specs.Standing.{above}
-use Rattle.list.specs.Lines.{linesOf, stored}
+use Rattle.list.specs.Lines.{linesOf, columnsOf}
 use Rattle.list.proofs.Stored.{roomy-known, front-lines, wiped-stored}
 use Rattle.list.proofs.Sliding.{placing-few}
 use Rattle.list.proofs.Lines.placed.Statement.{statement}
 use Rattle.list.proofs.Lines.placed.Tie as tie
 
-shown-requires : tie.Need-shown-requires
-shown-requires c κs = search needs
+line-count-requires : tie.Need-line-count-requires
+line-count-requires c κs = search needs
 
 smaller-requires : tie.Need-smaller-requires
 smaller-requires c κs = search needs
@@ -48,11 +48,11 @@ returns c =
     let room = roomy-known (l .numbers) (l .scores) (good .0 .1 .0 .1) (good .1 .0 .1 .0 .1) in
     let few = placing-few (put .put-in .ensures .0) (omega (arith, chosen .smaller .ensures)) in
     wiped-stored _ _ (put .put-in .ensures .1) (put .put-in .result) few (c .wipe .ensures .0) (c .wipe .ensures .1)
-    ∙ ap stored (put .put-in .ensures .0 .front)
-    ∙ ap₂ (λ n s. stored (take n (place (above (a .rule)) (record { number = a .number; score = s }) (take (counted .shown .result) (linesOf (l .numbers) (l .scores))))))
+    ∙ ap columnsOf (put .put-in .ensures .0 .front)
+    ∙ ap₂ (λ n s. columnsOf (take n (placed (above (a .rule)) (record { number = a .number; score = s }) (take (counted .line-count .result) (linesOf (l .numbers) (l .scores))))))
     (chosen .smaller .ensures) (toZ-ofZ (start .fits .score))
-    ∙ ap (λ m. stored (take (min (a .most) 16) (place (above (a .rule)) (record { number = a .number; score = a .score }) m)))
-    (front-lines l room (counted .shown .result) (counted .shown .ensures))
+    ∙ ap (λ m. columnsOf (take (min (a .most) 16) (placed (above (a .rule)) (record { number = a .number; score = a .score }) m)))
+    (front-lines l room (counted .line-count .result) (counted .line-count .ensures))
 
 pub placed-spec : {M : Type 1} → statement M
-placed-spec = tie.close (tie.spec shown-requires smaller-requires put-in-requires wipe-requires cast-len returns)
+placed-spec = tie.close (tie.spec line-count-requires smaller-requires put-in-requires wipe-requires cast-len returns)

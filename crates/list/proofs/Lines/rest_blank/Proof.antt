@@ -18,8 +18,8 @@ Inv-loop self i₀ i =
 abbrev μ-loop : tie.MeasureT-loop
 μ-loop self i₀ i = 16 - i
 
-shown-requires : tie.Need-shown-requires Inv-loop μ-loop
-shown-requires c κs = search needs
+line-count-requires : tie.Need-line-count-requires Inv-loop μ-loop
+line-count-requires c κs = search needs
 
 loop-holds : tie.Need-loop-holds Inv-loop μ-loop
 loop-holds c =
@@ -31,7 +31,7 @@ loop-holds c =
       up-to = search needs;
       within = search needs;
       room = room;
-      decides = ap (allOf blank) (drop-shown (l .numbers) (l .scores) room (l .len) (c .shown .result) (c .shown .ensures));
+      decides = ap (allOf blank) (drop-shown (l .numbers) (l .scores) room (l .len) (c .line-count .result) (c .line-count .ensures));
     }
 
 mul-if1 : tie.Need-mul-if1 Inv-loop μ-loop
@@ -85,7 +85,7 @@ rest-blank-spec =
     (tie.spec
     Inv-loop
     μ-loop
-    shown-requires
+    line-count-requires
     loop-holds
     mul-if1
     element-copy-out-if1

@@ -7,19 +7,19 @@ use Rattle.question.specs.Lines.{asked}
 use Rattle.question.proofs.Question.begun.Statement.{statement}
 use Rattle.question.proofs.Question.begun.Tie as tie
 
-first-requires : tie.Need-first-requires
-first-requires c κs = search needs
+first-cell-requires : tie.Need-first-cell-requires
+first-cell-requires c κs = search needs
 
-cast-blank : tie.Need-cast-blank
-cast-blank c = search needs
+cast-without-lines : tie.Need-cast-without-lines
+cast-without-lines c = search needs
 
-blank-requires : tie.Need-blank-requires
-blank-requires c κs = search needs
+without-lines-requires : tie.Need-without-lines-requires
+without-lines-requires c κs = search needs
 
 returns : tie.Need-returns
 returns c =
     let q = c .before .before .args .self in
-    c .blank .ensures ∙ ap (asked (q .k) (q .rule) []) (c .before .first .ensures)
+    c .without-lines .ensures ∙ ap (asked (q .k) (q .rule) []) (c .before .first-cell .ensures)
 
 pub begun-spec : {M : Type 1} → statement M
-begun-spec = tie.close (tie.spec first-requires cast-blank blank-requires returns)
+begun-spec = tie.close (tie.spec first-cell-requires cast-without-lines without-lines-requires returns)

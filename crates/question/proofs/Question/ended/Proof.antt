@@ -19,30 +19,30 @@ bar-requires c κs = search needs
 reach-requires : tie.Need-reach-requires
 reach-requires c κs = search needs
 
-at-requires : tie.Need-at-requires
-at-requires c κs = search needs
+with-next-requires : tie.Need-with-next-requires
+with-next-requires c κs = search needs
 
 returns : tie.Need-returns
 returns c =
-    let told = c .before .before in
-    let counted = told .before .before in
+    let earlier = c .before .before in
+    let counted = earlier .before .before in
     let q = counted .before .before .args .self in
     let bar = counted .bar .ensures ∙ ap (λ l. barOf l (q .k)) (counted .before .list .ensures) in
-    ap (λ b. record { steps = c .before .reach .result .cells; question = b }) (c .at .ensures)
-    ∙ ended-full q (counted .bar .result) bar (told .before .if1 .taken) (c .before .reach .result)
-    (c .before .reach .ensures ∙ ap (reachOf (q .rule)) (kept w32 (counted .bar .result .score) (told .struct-told .given .1 .1 .0 .1)))
+    ap (λ b. record { steps = c .before .reach .result .cells; question = b }) (c .with-next .ensures)
+    ∙ ended-full q (counted .bar .result) bar (earlier .before .if1 .taken) (c .before .reach .result)
+    (c .before .reach .ensures ∙ ap (reachOf (q .rule)) (kept w32 (counted .bar .result .score) (earlier .struct-told .given .1 .1 .0 .1)))
 
-at-requires-2 : tie.Need-at-requires-2
-at-requires-2 c κs = search needs
+with-next-requires-2 : tie.Need-with-next-requires-2
+with-next-requires-2 c κs = search needs
 
 returns-2 : tie.Need-returns-2
 returns-2 c =
     let counted = c .before .before in
     let q = counted .before .before .args .self in
     let bar = counted .bar .ensures ∙ ap (λ l. barOf l (q .k)) (counted .before .list .ensures) in
-    ap (λ b. record { steps = 256; question = b }) (c .at2 .ensures)
+    ap (λ b. record { steps = 256; question = b }) (c .with-next2 .ensures)
     ∙ ended-open q (counted .bar .result) bar (c .before .if1 .left)
 
 pub ended-spec : {M : Type 1} → statement M
 ended-spec =
-    tie.close (tie.spec list-requires bar-requires reach-requires at-requires returns at-requires-2 returns-2)
+    tie.close (tie.spec list-requires bar-requires reach-requires with-next-requires returns with-next-requires-2 returns-2)

@@ -21,35 +21,35 @@ list-requires c κs = search needs
 bar-requires : tie.Need-bar-requires
 bar-requires c κs = search needs
 
-cast-best : tie.Need-cast-best
-cast-best c = search needs
+cast-best-score : tie.Need-cast-best-score
+cast-best-score c = search needs
 
-best-requires : tie.Need-best-requires
-best-requires c κs = search needs
+best-score-requires : tie.Need-best-score-requires
+best-score-requires c κs = search needs
 
 returns-2 : tie.Need-returns-2
 returns-2 c =
     let then = c .before .before .before in
-    let told = then .before in
-    let start = told .before .before .before in
+    let earlier = then .before in
+    let start = earlier .before .before .before in
     let q = start .args .self in
     let good = start .good .0 .1 .1 .1 .1 in
-    let is = told .bar .ensures ∙ ap (λ l. bars.barOf l (q .k)) (told .before .list .ensures) in
-    ap₂ ltZ (kept w32 (c .before .before .best .result) (c .before .before .best .ok) ∙ c .before .before .best .ensures)
-    (kept w32 (told .bar .result .score) (c .struct-told .given .1 .1 .0 .1) ∙ ap (λ (b : Bar). b .score) is)
+    let is = earlier .bar .ensures ∙ ap (λ l. bars.barOf l (q .k)) (earlier .before .list .ensures) in
+    ap₂ ltZ (kept w32 (c .before .before .best-score .result) (c .before .before .best-score .ok) ∙ c .before .before .best-score .ensures)
+    (kept w32 (earlier .bar .result .score) (c .struct-told .given .1 .1 .0 .1) ∙ ap (λ (b : Bar). b .score) is)
     ∙ sym
-    (finished-full q (told .before .before .if1 .left) (roomy q (good .0 .1 .0 .1) (good .1 .0 .1 .0 .1))
+    (finished-full q (earlier .before .before .if1 .left) (roomy q (good .0 .1 .0 .1) (good .1 .0 .1 .0 .1))
     (sym (ap (λ (b : Bar). b .full) is) ∙ then .if2 .taken))
 
 returns-3 : tie.Need-returns-3
 returns-3 c =
-    let told = c .before in
-    let first = told .before .before in
+    let earlier = c .before in
+    let first = earlier .before .before in
     let q = first .before .args .self in
     sym
     (finished-open q (first .if1 .left)
-    (sym (ap (λ (b : Bar). b .full) (told .bar .ensures ∙ ap (λ l. bars.barOf l (q .k)) (told .before .list .ensures))) ∙ c .if2 .left))
+    (sym (ap (λ (b : Bar). b .full) (earlier .bar .ensures ∙ ap (λ l. bars.barOf l (q .k)) (earlier .before .list .ensures))) ∙ c .if2 .left))
 
 pub finished-spec : {M : Type 1} → statement M
 finished-spec =
-    tie.close (tie.spec returns list-requires bar-requires cast-best best-requires returns-2 returns-3)
+    tie.close (tie.spec returns list-requires bar-requires cast-best-score best-score-requires returns-2 returns-3)

@@ -10,11 +10,11 @@ use Rattle.question.proofs.Question.fresh.Tie as tie
 none-requires : tie.Need-none-requires
 none-requires c κs = search needs
 
-blank-requires : tie.Need-blank-requires
-blank-requires c κs = search needs
+without-lines-requires : tie.Need-without-lines-requires
+without-lines-requires c κs = search needs
 
 returns : tie.Need-returns
-returns c = c .blank .ensures ∙ ap (λ rule. asked 0 rule [] 0) (c .before .none .ensures)
+returns c = c .without-lines .ensures ∙ ap (λ rule. asked 0 rule [] 0) (c .before .none .ensures)
 
 pub fresh-spec : {M : Type 1} → statement M
-fresh-spec = tie.close (tie.spec none-requires blank-requires returns)
+fresh-spec = tie.close (tie.spec none-requires without-lines-requires returns)

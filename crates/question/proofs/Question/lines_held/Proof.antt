@@ -23,8 +23,8 @@ abbrev μ-loop : tie.MeasureT-loop
 list-requires : tie.Need-list-requires Inv-loop μ-loop
 list-requires c κs = search needs
 
-shown-requires : tie.Need-shown-requires Inv-loop μ-loop
-shown-requires c κs = search needs
+line-count-requires : tie.Need-line-count-requires Inv-loop μ-loop
+line-count-requires c κs = search needs
 
 loop-holds : tie.Need-loop-holds Inv-loop μ-loop
 loop-holds c =
@@ -36,7 +36,7 @@ loop-holds c =
       up-to = search needs;
       within = search needs;
       room = room;
-      decides = ap (allOf (heldAs (start .args .window) (q .rule))) (shown-lines q room (c .shown .result) (c .shown .ensures ∙ ap (λ (l : Lines). min (l .len) 16) (c .before .list .ensures)));
+      decides = ap (allOf (heldAs (start .args .window) (q .rule))) (shown-lines q room (c .line-count .result) (c .line-count .ensures ∙ ap (λ (l : Lines). min (l .len) 16) (c .before .list .ensures)));
     }
 
 mul-held-as : tie.Need-mul-held-as Inv-loop μ-loop
@@ -86,7 +86,7 @@ lines-held-spec =
     Inv-loop
     μ-loop
     list-requires
-    shown-requires
+    line-count-requires
     loop-holds
     mul-held-as
     element-copy-out-held-as

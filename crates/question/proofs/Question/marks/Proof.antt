@@ -19,11 +19,11 @@ abbrev μ-loop : tie.MeasureT-loop
 loop-holds : tie.Need-loop-holds Inv-loop μ-loop
 loop-holds c = (omega arith, record { whole = refl; first = refl })
 
-cast-marked : tie.Need-cast-marked Inv-loop μ-loop
-cast-marked c = search needs
+cast-is-marked : tie.Need-cast-is-marked Inv-loop μ-loop
+cast-is-marked c = search needs
 
-marked-requires : tie.Need-marked-requires Inv-loop μ-loop
-marked-requires c κs = search needs
+is-marked-requires : tie.Need-is-marked-requires Inv-loop μ-loop
+is-marked-requires c κs = search needs
 
 array-write-marks : tie.Need-array-write-marks Inv-loop μ-loop
 array-write-marks c = search needs
@@ -40,7 +40,7 @@ loop-again c =
     let q = at .before .args .self in
     let below : at .loop .cell < 256 = omega arith in (
       omega arith,
-      subst (λ v. Filled (isMarked q) (at .loop .cell + 1) (set (at .loop .marks) (at .loop .cell) v)) (sym (c .marked .ensures))
+      subst (λ v. Filled (isMarked q) (at .loop .cell + 1) (set (at .loop .marks) (at .loop .cell) v)) (sym (c .is-marked .ensures))
           (filled-more (isMarked q) (at .loop .cell) (at .loop .marks) below (at .loop .inv .1)),
     )
 
@@ -58,8 +58,8 @@ marks-spec =
     Inv-loop
     μ-loop
     loop-holds
-    cast-marked
-    marked-requires
+    cast-is-marked
+    is-marked-requires
     array-write-marks
     add-cell
     loop-less

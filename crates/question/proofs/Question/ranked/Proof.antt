@@ -6,7 +6,7 @@ use native.Mathlib.Omega.{arith}
 use borrow.Author.Needs.{needs}
 use Rattle.search.specs.Best.{best}
 use Rattle.ranking.specs.Standing.{above}
-use Rattle.list.specs.Lines.{linesIn, stored}
+use Rattle.list.specs.Lines.{linesIn, columnsOf}
 use Rattle.question.specs.Lines.{holding}
 use Rattle.question.proofs.Question.ranked.Statement.{statement}
 use Rattle.question.proofs.Question.ranked.Tie as tie
@@ -31,7 +31,7 @@ returns c =
     let q = start .args .self in
     let small : min (q .k) 16 ≡ q .k = omega (arith, start .pre) in
     c .holding .ensures
-    ∙ ap (holding q) (ranked .best .ensures ∙ ap₂ (λ n l. stored (best (above (q .rule)) n (linesIn l))) small (list .list .ensures))
+    ∙ ap (holding q) (ranked .best .ensures ∙ ap₂ (λ n l. columnsOf (best (above (q .rule)) n (linesIn l))) small (list .list .ensures))
 
 pub ranked-spec : {M : Type 1} → statement M
 ranked-spec = tie.close (tie.spec list-requires cast-best best-requires holding-requires returns)

@@ -7,8 +7,7 @@ use borrow.Author.Needs.{needs}
 use Rattle.ranking.specs.Standing.{top}
 use Rattle.window.specs.Rows.{standing}
 use Rattle.list.specs.Rows.{rowsOf}
-use Rattle.question.specs.Lines.{holding, withList}
-use Rattle.question.specs.Inner.{endedOf}
+use Rattle.question.specs.Lines.{holding, withList, endedOf}
 use Rattle.question.proofs.Finding.{first-wide, first-small}
 use Rattle.question.proofs.Question.searched_in.Statement.{statement}
 use Rattle.question.proofs.Question.searched_in.Tie as tie

@@ -2,9 +2,9 @@
 -- Assumes nothing.
 use mathlib.Core.Path.{sym, ap₂, _∙_}
 use borrow.Author.Needs.{needs}
-use Rattle.question.specs.Inner.{at}
 use Rattle.question.proofs.Taking.{step-wide, step-none, step-taken}
 use Rattle.question.proofs.Question.stepped.Statement.{statement}
+use Rattle.question.specs.Lines.{withNext}
 use Rattle.question.proofs.Question.stepped.Tie as tie
 
 returns : tie.Need-returns
@@ -16,25 +16,25 @@ returns-2 c = sym (step-none (c .before .before .before .args .self) (c .before 
 list-taken-requires : tie.Need-list-taken-requires
 list-taken-requires c κs = search needs
 
-cast-next : tie.Need-cast-next
-cast-next c = search needs
+cast-next-cell : tie.Need-cast-next-cell
+cast-next-cell c = search needs
 
-next-requires : tie.Need-next-requires
-next-requires c κs = search needs
+next-cell-requires : tie.Need-next-cell-requires
+next-cell-requires c κs = search needs
 
-at-requires : tie.Need-at-requires
-at-requires c κs = search needs
+with-next-requires : tie.Need-with-next-requires
+with-next-requires c κs = search needs
 
 returns-3 : tie.Need-returns-3
 returns-3 c =
     let second = c .before .before .before in
     let start = second .before .before .before in
     let q = start .args .self in
-    c .at .ensures
-    ∙ ap₂ at (c .before .before .list-taken .ensures) (c .before .next .ensures)
+    c .with-next .ensures
+    ∙ ap₂ withNext (c .before .before .list-taken .ensures) (c .before .next-cell .ensures)
     ∙ sym (step-taken q (start .args .window) (second .before .if1 .left) (second .if2 .left))
 
 pub stepped-spec : {M : Type 1} → statement M
 stepped-spec =
     tie.close
-    (tie.spec returns returns-2 list-taken-requires cast-next next-requires at-requires returns-3)
+    (tie.spec returns returns-2 list-taken-requires cast-next-cell next-cell-requires with-next-requires returns-3)

@@ -10,9 +10,9 @@ use Rattle.values.specs.Range.{low}
 use Rattle.ranking.specs.Cells.{cell}
 use Rattle.ranking.specs.Standing.{Held}
 use Rattle.laws.proofs.Words.{kept}
-use Rattle.question.specs.Inner.{joined}
 use Rattle.question.proofs.Taking.{taking-none, taking-other, taking-here}
 use Rattle.question.proofs.Question.taking.Statement.{statement}
+use Rattle.question.specs.Lines.{cutWith}
 use Rattle.question.proofs.Question.taking.Tie as tie
 
 abbrev report : ℕ → Values → Held
@@ -41,16 +41,16 @@ returns-2 c =
 score-requires : tie.Need-score-requires
 score-requires c κs = search needs
 
-joined-requires : tie.Need-joined-requires
-joined-requires c κs = search needs
+cut-with-requires : tie.Need-cut-with-requires
+cut-with-requires c κs = search needs
 
 returns-3 : tie.Need-returns-3
 returns-3 c =
     let first = c .before .before .before .before in
     let a = first .before .args in
     let r = report (a .number) (a .values) in
-    c .joined .ensures
-    ∙ ap (λ s. joined (a .self) (record { number = a .number; score = s })) (kept w32 (c .before .score .result) (c .before .score .ok) ∙ c .before .score .ensures)
+    c .cut-with .ensures
+    ∙ ap (λ s. cutWith (a .self) (record { number = a .number; score = s })) (kept w32 (c .before .score .result) (c .before .score .ok) ∙ c .before .score .ensures)
     ∙ sym
     (taking-here (a .self) r (ne-eqb (a .number) 0 (first .if1 .left))
     (eq-eqb (cell (r .values)) (a .self .next) (sym (c .before .before .before .cell .ensures) ∙ c .before .before .if2 .left)))
@@ -58,4 +58,4 @@ returns-3 c =
 pub taking-spec : {M : Type 1} → statement M
 taking-spec =
     tie.close
-    (tie.spec returns cell-requires cast-cell returns-2 score-requires joined-requires returns-3)
+    (tie.spec returns cell-requires cast-cell returns-2 score-requires cut-with-requires returns-3)

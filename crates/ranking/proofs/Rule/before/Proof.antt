@@ -9,11 +9,11 @@ use Rattle.laws.proofs.Words.{kept}
 use Rattle.ranking.proofs.Rule.before.Statement.{statement}
 use Rattle.ranking.proofs.Rule.before.Tie as tie
 
-best-requires : tie.Need-best-requires
-best-requires c κs = search needs
+best-score-requires : tie.Need-best-score-requires
+best-score-requires c κs = search needs
 
-best-requires-2 : tie.Need-best-requires-2
-best-requires-2 c κs = search needs
+best-score-requires-2 : tie.Need-best-score-requires-2
+best-score-requires-2 c κs = search needs
 
 greater-requires : tie.Need-greater-requires
 greater-requires c κs = search needs
@@ -24,8 +24,8 @@ returns c =
     let args = c .before .before .before .args in
     c .greater .ensures
     ∙ ap₂ (λ x y. greater x y (ltb (args .c) (args .d)))
-    (kept w32 (c .before .before .best .result) (c .before .before .best .ok) ∙ c .before .before .best .ensures)
-    (kept w32 (c .before .best2 .result) (c .before .best2 .ok) ∙ c .before .best2 .ensures)
+    (kept w32 (c .before .before .best-score .result) (c .before .before .best-score .ok) ∙ c .before .before .best-score .ensures)
+    (kept w32 (c .before .best-score2 .result) (c .before .best-score2 .ok) ∙ c .before .best-score2 .ensures)
 
 pub before-spec : {M : Type 1} → statement M
-before-spec = tie.close (tie.spec best-requires best-requires-2 greater-requires returns)
+before-spec = tie.close (tie.spec best-score-requires best-score-requires-2 greater-requires returns)

@@ -9,11 +9,11 @@ use Rattle.laws.proofs.Words.{kept}
 use Rattle.ranking.proofs.Rule.fit.Statement.{statement}
 use Rattle.ranking.proofs.Rule.fit.Tie as tie
 
-in-range-requires : tie.Need-in-range-requires
-in-range-requires c κs = search needs
+weight-fits-requires : tie.Need-weight-fits-requires
+weight-fits-requires c κs = search needs
 
-in-range-requires-2 : tie.Need-in-range-requires-2
-in-range-requires-2 c κs = search needs
+weight-fits-requires-2 : tie.Need-weight-fits-requires-2
+weight-fits-requires-2 c κs = search needs
 
 returns : tie.Need-returns
 unfolding fitRule
@@ -22,9 +22,9 @@ returns c =
     let rule = first .before .before .before .args .self in
     let a = kept w16 (rule .weights .loss) (first .before .struct-told .given .0 .1) in
     let b = kept w16 (rule .weights .shake) (first .before .struct-told .given .1 .0 .1) in
-    c .in-range2 .ensures
+    c .weight-fits2 .ensures
     ∙ ap weightFits b
-    ∙ sym (ap (λ t. t && weightFits (rule .weights .shake)) (sym (first .in-range .ensures ∙ ap weightFits a) ∙ c .before .before .if1 .taken))
+    ∙ sym (ap (λ t. t && weightFits (rule .weights .shake)) (sym (first .weight-fits .ensures ∙ ap weightFits a) ∙ c .before .before .if1 .taken))
 
 returns-2 : tie.Need-returns-2
 unfolding fitRule
@@ -33,7 +33,7 @@ returns-2 c =
     let rule = first .before .before .before .args .self in
     let a = kept w16 (rule .weights .loss) (first .before .struct-told .given .0 .1) in
     c .if1 .left
-    ∙ sym (ap (λ t. t && weightFits (rule .weights .shake)) (sym (first .in-range .ensures ∙ ap weightFits a) ∙ c .if1 .left))
+    ∙ sym (ap (λ t. t && weightFits (rule .weights .shake)) (sym (first .weight-fits .ensures ∙ ap weightFits a) ∙ c .if1 .left))
 
 pub fit-spec : {M : Type 1} → statement M
-fit-spec = tie.close (tie.spec in-range-requires in-range-requires-2 returns returns-2)
+fit-spec = tie.close (tie.spec weight-fits-requires weight-fits-requires-2 returns returns-2)

@@ -3,9 +3,9 @@
 use mathlib.Core.Path.{sym, ap, _∙_}
 use mathlib.Core.Bool.{_&&_}
 use borrow.Author.Needs.{needs}
-use Rattle.ranking.specs.Scan.{leads}
 use Rattle.ranking.proofs.Scan.{nearer-yes, nearer-no}
 use Rattle.ranking.proofs.Rule.nearer.Statement.{statement}
+use Rattle.ranking.specs.Inner.{leads}
 use Rattle.ranking.proofs.Rule.nearer.Tie as tie
 
 leads-requires : tie.Need-leads-requires

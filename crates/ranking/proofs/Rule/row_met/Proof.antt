@@ -8,11 +8,11 @@ use mir.Facts.{toZ-ofZ}
 use mir.Syntax.{w32}
 use mir.Val.{toZ, ofZ}
 use Rattle.ranking.specs.Cells.{bestScore}
-use Rattle.ranking.specs.Scan.{met, metRow}
 use Rattle.ranking.specs.declared.Sought.{Sought}
 use Rattle.laws.proofs.Words.{kept}
 use Rattle.ranking.proofs.Reaching.{met-few, row-none, row-more}
 use Rattle.ranking.proofs.Rule.row_met.Statement.{statement}
+use Rattle.ranking.specs.Inner.{met, metRow}
 use Rattle.ranking.proofs.Rule.row_met.Tie as tie
 
 abbrev Inv-loop : tie.InvT-loop
@@ -37,11 +37,11 @@ mul-cell c = search needs
 add-cell : tie.Need-add-cell Inv-loop μ-loop
 add-cell c = search needs
 
-cast-best : tie.Need-cast-best Inv-loop μ-loop
-cast-best c = search needs
+cast-best-score : tie.Need-cast-best-score Inv-loop μ-loop
+cast-best-score c = search needs
 
-best-requires : tie.Need-best-requires Inv-loop μ-loop
-best-requires c κs = search needs
+best-score-requires : tie.Need-best-score-requires Inv-loop μ-loop
+best-score-requires c κs = search needs
 
 met-requires : tie.Need-met-requires Inv-loop μ-loop
 met-requires c κs = search needs
@@ -60,7 +60,7 @@ loop-again c =
     let n = at .loop .column in
     let inv = at .loop .inv in
     let cell = 16 * a .row + n in
-    let best = kept w32 (c .before .best .result) (c .before .best .ok) ∙ c .before .best .ensures in
+    let best = kept w32 (c .before .best-score .result) (c .before .best-score .ok) ∙ c .before .best-score .ensures in
     let is = c .met .ensures ∙ ap (λ b. met (at .loop .found) cell b s) best in
     let once = subst (λ (m : Sought). m .cells ≤ at .loop .found .cells + 1) (sym is) (met-few (at .loop .found) cell (bestScore (a .self) cell) s) in (
       search needs,
@@ -85,8 +85,8 @@ row-met-spec =
     loop-holds
     mul-cell
     add-cell
-    cast-best
-    best-requires
+    cast-best-score
+    best-score-requires
     met-requires
     add-column
     loop-less

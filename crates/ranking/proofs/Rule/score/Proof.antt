@@ -16,7 +16,7 @@ use Rattle.ranking.proofs.Cells.{word-fits}
 use Rattle.ranking.proofs.Rule.score.Statement.{statement}
 use Rattle.ranking.proofs.Rule.score.Tie as tie
 
-module _ (c : tie.After-part2) where
+module _ (c : tie.After-weighted2) where
   rule : Rule
   rule = c .before .before .before .before .before .args .self
 
@@ -31,22 +31,22 @@ module _ (c : tie.After-part2) where
   unfolding rule
   shake-weight = record { sfits = c .before .before .before .struct-told .given .1 .0 .1 }
 
-  sum : toZ w32 (ofZ w32 (c .before .before .part .result)) +ℤ toZ w32 (ofZ w32 (c .part2 .result)) ≡ score rule counted
+  sum : toZ w32 (ofZ w32 (c .before .before .weighted .result)) +ℤ toZ w32 (ofZ w32 (c .weighted2 .result)) ≡ score rule counted
   unfolding rule counted score
   sum =
       ap₂ (λ x y. x +ℤ y)
-      (kept w32 (c .before .before .part .result) (c .before .before .part .ok) ∙ c .before .before .part .ensures ∙ ap (λ z. z *ℤ pos (counted .loss)) (toZ-ofZ loss-weight))
-      (kept w32 (c .part2 .result) (c .part2 .ok) ∙ c .part2 .ensures ∙ ap (λ z. z *ℤ pos (counted .shake)) (toZ-ofZ shake-weight))
+      (kept w32 (c .before .before .weighted .result) (c .before .before .weighted .ok) ∙ c .before .before .weighted .ensures ∙ ap (λ z. z *ℤ pos (counted .loss)) (toZ-ofZ loss-weight))
+      (kept w32 (c .weighted2 .result) (c .weighted2 .ok) ∙ c .weighted2 .ensures ∙ ap (λ z. z *ℤ pos (counted .shake)) (toZ-ofZ shake-weight))
 
   fits : SFits w32 (score rule counted)
   unfolding counted
   fits = word-fits rule counted loss-weight shake-weight (low-in _)
 
-part-requires : tie.Need-part-requires
-part-requires c κs = search needs
+weighted-requires : tie.Need-weighted-requires
+weighted-requires c κs = search needs
 
-part-requires-2 : tie.Need-part-requires-2
-part-requires-2 c κs = search needs
+weighted-requires-2 : tie.Need-weighted-requires-2
+weighted-requires-2 c κs = search needs
 
 add-result : tie.Need-add-result
 add-result c = rw (sum c) (fits c)
@@ -56,4 +56,4 @@ unfolding rule counted
 returns c = rw (sum c) (toZ-ofZ (fits c))
 
 pub score-spec : {M : Type 1} → statement M
-score-spec = tie.close (tie.spec part-requires part-requires-2 add-result returns)
+score-spec = tie.close (tie.spec weighted-requires weighted-requires-2 add-result returns)

@@ -4,9 +4,9 @@ use mathlib.Core.Path.{_≡_, sym, subst}
 use Prim.Native.Nat.{_+_, _-_, _≤_, _<_}
 use native.Mathlib.Omega.{arith}
 use borrow.Author.Needs.{needs}
-use Rattle.ranking.specs.Scan.{leads}
 use Rattle.ranking.proofs.Scan.{Scanned, scanned-none, scanned-more, scanned-all}
 use Rattle.ranking.proofs.Rule.seek.Statement.{statement}
+use Rattle.ranking.specs.Inner.{leads}
 use Rattle.ranking.proofs.Rule.seek.Tie as tie
 
 abbrev Inv-loop : tie.InvT-loop

@@ -17,26 +17,26 @@ use Rattle.ranking.proofs.Sought.met.Tie as tie
 
 returns : tie.Need-returns
 returns c =
-    let told = c .before .before .before in
-    let a = told .before .args in
-    let x = told .before .fits in
+    let earlier = c .before .before .before in
+    let a = earlier .before .args in
+    let x = earlier .before .fits in
     let at = a .self in
     ap (λ b. record { cells = at .cells; next = a .cell; best = b }) (toZ-ofZ (x .best))
     ∙ sym
     (met-sooner at (a .cell) (a .best) (a .score) (sym (less-kept (x .best) (x .score)) ∙ c .before .before .if1 .taken)
     (or-right (leb 256 (at .next)) (ltZ (at .best) (a .best))
-    (sym (less-kept {a = at .best} (record { sfits = told .struct-told .given .1 .1 .0 .1 }) (x .best)) ∙ c .if3 .taken)))
+    (sym (less-kept {a = at .best} (record { sfits = earlier .struct-told .given .1 .1 .0 .1 }) (x .best)) ∙ c .if3 .taken)))
 
 returns-2 : tie.Need-returns-2
 returns-2 c =
-    let told = c .before .before .before in
-    let a = told .before .args in
-    let x = told .before .fits in
+    let earlier = c .before .before .before in
+    let a = earlier .before .args in
+    let x = earlier .before .fits in
     let at = a .self in
     sym
     (met-later at (a .cell) (a .best) (a .score) (sym (less-kept (x .best) (x .score)) ∙ c .before .before .if1 .taken)
     (ap₂ (λ l t. l || t) (lt-leb 256 (at .next) (c .before .if2 .taken))
-    (sym (less-kept {a = at .best} (record { sfits = told .struct-told .given .1 .1 .0 .1 }) (x .best)) ∙ c .if3 .left)))
+    (sym (less-kept {a = at .best} (record { sfits = earlier .struct-told .given .1 .1 .0 .1 }) (x .best)) ∙ c .if3 .left)))
 
 returns-3 : tie.Need-returns-3
 returns-3 c =

@@ -10,12 +10,12 @@ use Rattle.slot.proofs.gauge.Gauge.of.Tie as tie
 least-requires : tie.Need-least-requires
 least-requires c κs = search needs
 
-low-requires : tie.Need-low-requires
-low-requires c κs = search needs
+lowest-requires : tie.Need-lowest-requires
+lowest-requires c κs = search needs
 
 returns : tie.Need-returns
 returns c =
-    (λ i. record { rule = c .before .before .before .args .question .rule; least = (kept w32 (c .before .least .result) (c .before .least .ok) ∙ c .before .least .ensures) i; low = c .low .ensures i })
+    (λ i. record { rule = c .before .before .before .args .question .rule; least = (kept w32 (c .before .least .result) (c .before .least .ok) ∙ c .before .least .ensures) i; low = c .lowest .ensures i })
 
 pub of-spec : {M : Type 1} → statement M
-of-spec = tie.close (tie.spec least-requires low-requires returns)
+of-spec = tie.close (tie.spec least-requires lowest-requires returns)
