@@ -37,29 +37,26 @@ pub fn obeyed(board: Board, order: BoardOrder, out: &mut [u8]) -> Left {
         BoardOrder::Enter { loss, shake } => enter(board, Values { loss, shake }, out),
         BoardOrder::Begin(slot) => begin(board, slot, out),
         BoardOrder::Step(slot) => step(board, slot, out),
-        BoardOrder::Read(slot) => {
-            let end = read(board.read(slot), out);
-            Left { board, end }
-        }
-        BoardOrder::Marks(slot) => {
-            let end = marks(pokes::slot(board, slot), out);
-            Left { board, end }
-        }
-        BoardOrder::Steps(slot) => {
-            let end = put_counted(out, 0, b"steps", pokes::slot(board, slot).steps() as u64);
-            Left { board, end }
-        }
-        BoardOrder::Held => {
-            let end = held(board.window, out);
-            Left { board, end }
-        }
         _ => {
-            let end = put(out, 0, b"ok");
+            let end = shown(board, order, out);
             Left {
                 board: pokes::poked(board, order),
                 end,
             }
         }
+    }
+}
+
+// The answer to an order that makes no call which changes the board: what it asks to see, or ok of a poke.
+fn shown(board: Board, order: BoardOrder, out: &mut [u8]) -> usize {
+    match order {
+        BoardOrder::Read(slot) => read(board.read(slot), out),
+        BoardOrder::Marks(slot) => marks(pokes::slot(board, slot), out),
+        BoardOrder::Steps(slot) => {
+            put_counted(out, 0, b"steps", pokes::slot(board, slot).steps() as u64)
+        }
+        BoardOrder::Held => held(board.window, out),
+        _ => put(out, 0, b"ok"),
     }
 }
 
