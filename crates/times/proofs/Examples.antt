@@ -2,14 +2,14 @@
 -- Assumes nothing.
 use mathlib.Core.Path.{_≡_, refl}
 use mathlib.Core.Option.{Option, none, some}
-use mathlib.Core.List.{List, [], _∷_}
+use mathlib.Core.List.{[], _∷_}
 use Prim.Native.Nat.{ℕ}
 use Rattle.wire.specs.Bytes.{number}
 use Rattle.joining.specs.declared.Answer.the-variants.{Refused, Kept}
-use Rattle.joining.specs.Frame.{Frame, frameRefusal, malformed, foreign}
+use Rattle.joining.specs.Frame.{frameRefusal, malformed, foreign}
 use Rattle.joining.specs.Joining.{fit, isClosed, isOpen, carries, sound, announcementRefusal, announce, packet, take-frame}
 use Rattle.joining.proofs.Examples.{packs, sized, first}
-use Rattle.times.specs.Timed.{Last, noTime, timeOf, fitLast, isBefore, isLate, timed-frame}
+use Rattle.times.specs.Timed.{noTime, timeOf, fitLast, isBefore, isLate, timed-frame}
 use Rattle.times.specs.Run.{Timed, stationAfterAll, stationAnswers, freshStation}
 
 -- Sender 5's announcement of 17 bytes and its packets 1 and 2, with a time or without.

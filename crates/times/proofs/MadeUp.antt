@@ -1,14 +1,14 @@
 -- A report is only ever what one sender sent, and sent in time: an open session holds the packets that came, in sequence, since the announcement that opened it, and the newest time among these is the last kept one.
 -- Assumes nothing.
 use mathlib.Core.Path.{_≡_, refl, sym, _∙_, ap, subst}
-use mathlib.Core.Bool.{Bool, true, false, cond, _||_, or-true}
+use mathlib.Core.Bool.{Bool, true, false, cond}
 use mathlib.Core.Logic.{_⊎_, inl, inr}
 use mathlib.Core.Option.{Option, none, some}
 use mathlib.Core.List.{List, [], _∷_, _++_, append-assoc, append-nil}
 use Prim.Native.Nat.{ℕ, suc, _+_, _≤_, _<_}
 use native.Mathlib.Omega.{arith}
 use borrow.Author.Tests.{le-leb, ltb-true, eqb-true}
-use lib.Dec.{leb, ltb, eqb}
+use lib.Dec.{ltb, eqb}
 use lib.ListN.{length, getD, take}
 use Rattle.report.specs.Payload.{readPayload}
 use Rattle.report.specs.declared.Report.{Report}
@@ -24,9 +24,9 @@ use Rattle.joining.specs.Run.{soloStep, Announces, Numbered, InSequence, joined
 use Rattle.joining.proofs.Cases.{Case, passed, shut, stray, good, next, last, cases}
 use Rattle.joining.proofs.Reached.{fit-open}
 use Rattle.joining.proofs.MadeUp.{Opening, starts, goes-on, in-order, all-packets, ended}
-use Rattle.times.specs.Timed.{Last, timeOf, Station, lastAfter}
+use Rattle.times.specs.Timed.{Last, timeOf, Station}
 use Rattle.times.specs.Run.{Timed, sender, stationStep, stationAfterAll, Stations, stationOf, freshStation, freshStations, stationsAfter, timedAnswer, stationsAfterAll, timedAnswers, framesOf, ownTimed, passedOver, heardAt, timeIn, timesOf, Spaced, SentTimed, FromSender}
-use Rattle.times.proofs.Steps.{Fit, Near, lastBy, NearBy, Way, away, straight, late, ways, closed-fit, step-stays-fit}
+use Rattle.times.proofs.Steps.{Fit, lastBy, NearBy, Way, away, straight, late, ways, closed-fit, step-stays-fit}
 use Rattle.times.proofs.Mixing.{mixing, own-answer}
 use Rattle.times.proofs.Reached.{fresh-whole, fresh-station, fresh-is-fit, run-fit}
 

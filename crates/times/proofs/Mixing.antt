@@ -6,16 +6,14 @@ use mathlib.Core.Option.{none}
 use mathlib.Core.List.{List, [], _∷_}
 use Prim.Native.Nat.{ℕ, _<_}
 use native.Mathlib.Omega.{arith}
-use borrow.Author.Tests.{lt-ltb, ne-eqb, eqb-true, eqb-false}
-use lib.ListN.{length, getD, set, length-set}
+use borrow.Author.Tests.{lt-ltb, eqb-true, eqb-false}
+use lib.ListN.{length, set, length-set}
 use lib.Seq.{getD-set-same, getD-set-other, set-getD}
 use lib.Dec.{ltb, eqb}
-use Rattle.joining.specs.declared.Session.{Session}
 use Rattle.joining.specs.declared.Answer.{Answer}
 use Rattle.joining.specs.Frame.{Frame}
-use Rattle.joining.specs.Run.{nobody, sessionOf, sessionsAfter, answerTo, sessionsAfterAll, answersToAll, ownFrames, ownAnswers}
-use Rattle.times.specs.declared.Times.{Times}
-use Rattle.times.specs.Timed.{Last, Station, Outcome, untimed-frame, lastOf, withLast}
+use Rattle.joining.specs.Run.{nobody, sessionsAfter, answerTo, sessionsAfterAll, answersToAll, ownAnswers}
+use Rattle.times.specs.Timed.{Station}
 use Rattle.times.specs.Run.{Timed, sender, stationStep, stationAfterAll, stationAnswers, Stations, stationOf, withStation, stationsAfter, timedAnswer, stationsAfterAll, timedAnswers, framesOf, untimed, ownTimed}
 
 -- A session and a last time for each sender.

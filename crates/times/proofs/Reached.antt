@@ -1,8 +1,8 @@
 -- What frames with and without times lead to from fresh sessions and no times is fit, station by station; so no frame is ever refused 24.
 -- Assumes nothing.
-use mathlib.Core.Path.{_≡_, refl, sym, _∙_, ap, subst}
+use mathlib.Core.Path.{_≡_, refl, subst}
 use mathlib.Core.Bool.{Bool, true, false, cond}
-use mathlib.Core.Logic.{_⊎_, inl, inr}
+use mathlib.Core.Logic.{inl, inr}
 use mathlib.Core.List.{List, [], _∷_}
 use Prim.Native.Nat.{ℕ, _≤_, _<_}
 use native.Mathlib.Omega.{arith}
@@ -10,14 +10,12 @@ use borrow.Author.Tests.{ltb-true, ltb-false, lt-ltb}
 use lib.Dec.{ltb}
 use lib.ListN.{length-replicate, getD-replicate}
 use Rattle.laws.proofs.Tests.{clash, either}
-use Rattle.joining.specs.declared.Answer.{Answer}
-use Rattle.joining.specs.declared.Answer.the-variants.{Refused, Kept, Complete}
+use Rattle.joining.specs.declared.Answer.the-variants.{Refused}
 use Rattle.joining.specs.Frame.{senderOf, malformed, foreign, frameRefusal}
 use Rattle.joining.specs.Joining.{freshSession, fit}
-use Rattle.joining.specs.Run.{sessionOf}
 use Rattle.joining.proofs.Reached.{fresh-fit, fresh-of}
 use Rattle.times.specs.Timed.{fitLast, Station}
-use Rattle.times.specs.Run.{Timed, sender, stationStep, stationAfterAll, Stations, stationOf, freshStation, freshStations, timedAnswer, stationsAfterAll, ownTimed}
+use Rattle.times.specs.Run.{Timed, sender, stationStep, stationAfterAll, stationOf, freshStation, freshStations, timedAnswer, stationsAfterAll, ownTimed}
 use Rattle.times.proofs.Steps.{Fit, step-stays-fit, Named, step-named, frame-refusals}
 use Rattle.times.proofs.Mixing.{Whole, mixing}
 

@@ -6,7 +6,7 @@ use mathlib.Core.Option.{Option, none, some}
 use mathlib.Core.List.{List, [], _∷_, _++_}
 use Prim.Native.Nat.{ℕ, zero, suc, _+_, _-_, _≤_}
 use native.Mathlib.Omega.{arith}
-use borrow.Author.Tests.{ne-eqb, eqb-true, eqb-false}
+use borrow.Author.Tests.{eqb-true}
 use lib.Dec.{eqb}
 use lib.ListN.{replicate}
 use Rattle.report.specs.declared.Report.{Report}
@@ -15,15 +15,14 @@ use Rattle.report.proofs.RoundTrip.{Permitted}
 use Rattle.joining.specs.declared.Session.{Session}
 use Rattle.joining.specs.declared.Answer.{Answer}
 use Rattle.joining.specs.declared.Answer.the-variants.{Refused, Kept, Complete}
-use Rattle.joining.specs.declared.Taken.{Taken}
 use Rattle.joining.specs.Frame.{Frame, frameRefusal}
 use Rattle.joining.specs.Joining.{packets, fit, take-frame, payloadHeld}
 use Rattle.joining.specs.Run.{soloStep, soloSession, soloAnswers, ownAnswers}
 use Rattle.joining.proofs.Reached.{step-fit}
 use Rattle.bench.specs.Bench.{frames}
 use Rattle.bench.proofs.RoundTrip as bench
-use Rattle.times.specs.Timed.{Last, timeOf, fitLast, metAt, Station, Outcome, lastAfter, kept-at}
-use Rattle.times.specs.Run.{Timed, frameAt, stationStep, stationAfterAll, stationAnswers, Stations, stationOf, stationsAfterAll, timedAnswers, framesOf, ownTimed, timeIn, timesOf, Spaced, lastIn, TimelyFrom, Timely}
+use Rattle.times.specs.Timed.{Last, timeOf, metAt, Station, Outcome, lastAfter}
+use Rattle.times.specs.Run.{Timed, frameAt, stationAfterAll, stationAnswers, Stations, stationOf, stationsAfterAll, timedAnswers, framesOf, ownTimed, timeIn, timesOf, Spaced, lastIn, TimelyFrom, Timely}
 use Rattle.times.proofs.Steps.{Fit, Near, not-before, not-late, met-fit, after-fit, in-time, settled, lastBy, taken-by, by-fit}
 use Rattle.times.proofs.Mixing.{Whole, mixing}
 

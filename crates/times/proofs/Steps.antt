@@ -1,13 +1,13 @@
 -- What a frame with a time does where its tests are known, and what it can't be answered: the cases of the definition, in their order.
 -- Assumes nothing.
 use mathlib.Core.Path.{_≡_, refl, sym, _∙_, ap, subst}
-use mathlib.Core.Bool.{Bool, true, false, cond, not, _&&_, _||_, false≢true}
+use mathlib.Core.Bool.{Bool, true, false, cond, not, _&&_, false≢true}
 use mathlib.Core.Logic.{_⊎_, inl, inr}
 use mathlib.Core.Option.{Option, none, some}
-use mathlib.Core.List.{List, [], _∷_, _++_}
-use Prim.Native.Nat.{ℕ, _+_, _-_, _≤_, _<_}
+use mathlib.Core.List.{List}
+use Prim.Native.Nat.{ℕ, _+_, _-_, _≤_}
 use native.Mathlib.Omega.{arith}
-use borrow.Author.Tests.{lt-ltb, le-ltb, ltb-true, ltb-false, ne-eqb, eqb-false, eqb-true}
+use borrow.Author.Tests.{le-ltb, ltb-false, ne-eqb, eqb-false, eqb-true}
 use lib.Dec.{lit≤, ltb, eqb}
 use lib.ListN.{getD, take}
 use Rattle.laws.proofs.Tests.{if-not, either}
@@ -22,7 +22,7 @@ use Rattle.joining.specs.Joining.{fit, isClosed, closed, stored, yields, refuse
 use Rattle.joining.specs.Run.{soloStep}
 use Rattle.joining.proofs.Steps.{announcement-refusals}
 use Rattle.joining.proofs.Reached.{step-fit}
-use Rattle.times.specs.Timed.{Last, timeOf, fitLast, isBefore, isLate, metAt, Station, Outcome, turned, lastAfter, kept-at, timed-frame, untimed-frame}
+use Rattle.times.specs.Timed.{Last, fitLast, isBefore, isLate, metAt, Station, Outcome, turned, lastAfter, kept-at, timed-frame}
 use Rattle.times.specs.Run.{Timed, frameAt, stationStep}
 
 -- A session and a last time that are both fit.

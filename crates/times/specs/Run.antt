@@ -17,7 +17,7 @@ use Rattle.joining.specs.Joining.{packets, freshSession}
 use Rattle.joining.specs.Run.{senders, freshSessions, sessionOf, Announces, InSequence, joined}
 use Rattle.bus.specs.Room.{sessionsIn}
 use Rattle.times.specs.declared.Times.{Times}
-use Rattle.times.specs.Timed.{Last, noTime, timeOf, Station, Outcome, timed-frame, untimed-frame, lastOf, withLast, freshTimes}
+use Rattle.times.specs.Timed.{Last, noTime, Station, Outcome, timed-frame, untimed-frame, lastOf, withLast, freshTimes}
 
 -- A frame with a time, or without.
 pub record Timed : Type 0 where
