@@ -123,13 +123,9 @@ fn numbers_of(form: Form, line: &[u8]) -> Numbers {
     match form {
         Form::Window => Numbers::read(line, 1, b"h"),
         Form::Set => Numbers::read(line, 1, b"bbww"),
-        Form::Remove => Numbers::read(line, 1, b"b"),
-        Form::Read => Numbers::read(line, 1, b"b"),
+        Form::Remove | Form::Read => Numbers::read(line, 1, b"b"),
         Form::Enter => Numbers::read(line, 1, b"hh"),
-        Form::Begin => Numbers::read(line, 1, b"s"),
-        Form::Step => Numbers::read(line, 1, b"s"),
-        Form::Marks => Numbers::read(line, 1, b"s"),
-        Form::Steps => Numbers::read(line, 1, b"s"),
+        Form::Begin | Form::Step | Form::Marks | Form::Steps => Numbers::read(line, 1, b"s"),
         Form::Frame => Numbers::read(line, 1, b"xd"),
         Form::Session => Numbers::read(line, 1, b"u"),
         Form::Payload => Numbers::read(line, 1, b"d"),
@@ -156,8 +152,7 @@ fn extras_of(form: Form, line: &[u8], from: u8) -> Extras {
 fn made(form: Form, numbers: Numbers, extras: Extras) -> Order {
     let n = numbers.values;
     match form {
-        Form::Unknown => Order::Wrong(form),
-        Form::UnknownPoke => Order::Wrong(form),
+        Form::Unknown | Form::UnknownPoke => Order::Wrong(form),
         Form::Help => Order::Help,
         Form::Window => Order::Window(short(n[0])),
         Form::Frame => Order::Bus(BusOrder::Frame {
