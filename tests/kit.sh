@@ -36,3 +36,24 @@ build_rust() { # FOLDER PROGRAM WORDS...
     mkdir -p "$(dirname "$program")"
     rustc --edition 2021 -C opt-level=3 -o "$program" "$folder/main.rs" "$@"
 }
+
+# Proves a program and compiles it to ROOM/NAME.o, as rt does, with the shell script on standard input in the compiler's place: that finds the
+# LLVM module as module.bc where it runs, and the kit's own compiler as $clang. It needs target/rlib, which `rt check NAME` builds.
+compile_by() { # NAME ROOM
+    local name words=(--crate-name "$1" "crates/$1/src/main.rt" --extern "std=$own/rlib/std.rlib")
+    rm -rf "$2"
+    mkdir -p "$2/bin"
+    ln -s "$tools"/bin/* "$2/bin"
+    ln -s "$tools/lib" "$2/lib"
+    rm "$2/bin/clang"
+    { printf '#!/bin/sh\nclang=%s\n' "'$tools/bin/clang'" && cat; } >"$2/bin/clang"
+    chmod +x "$2/bin/clang"
+    for name in $(sed -n "s/^$1: *//p" crates.txt); do
+        if [ -d "crates/$name" ]; then words+=(--extern "$name=target/rlib/$name.rlib"); else words+=(--extern "$name=$own/rlib/$name.rlib"); fi
+    done
+    words+=(-L dependency=target/rlib -L "dependency=$own/rlib" --antt-project "$home/logic/antt-project.json" --logic-built "$own/logic-built")
+    if ! "$own/bin/rattle" build "${words[@]}" --toolchain "$2" -o "$2/$1.o" >"$2/said" 2>&1; then
+        cat "$2/said" >&2
+        return 1
+    fi
+}

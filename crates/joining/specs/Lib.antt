@@ -3,3 +3,4 @@ pub mod Frame
 pub mod Joining
 pub mod Run
 pub mod Answers
+pub mod Inner

@@ -2,12 +2,14 @@
 ghost use mathlib.Core.Path.{_≡_};
 ghost use mathlib.Core.Bool.{true};
 ghost use mathlib.Core.List.{[]};
-ghost use Prim.Native.Nat.{_-_, _*_, _≤_};
+ghost use Prim.Native.Nat.{_-_, _*_};
 ghost use lib.ListN.{take, drop};
 ghost use lib.Seq.{sets};
-ghost use Rattle.report.specs.Payload.{largestPayload, readPayload};
+ghost use Rattle.report.specs.Payload.{readPayload};
 ghost use Rattle.joining.specs.Frame.{foreign, frameRefusal, senderIn};
-ghost use Rattle.joining.specs.Joining.{packets, carries, freshSession, isOpen, fit, closed, opened, stored, finishes, yields, refused, sound, announcementRefusal, announce, packet, take-frame, sizeHeld, payloadHeld};
+ghost use Rattle.joining.specs.Joining.{packets, carries, freshSession, fit, yields, sound, announcementRefusal, announce, packet, take-frame, sizeHeld, payloadHeld};
+ghost use Rattle.joining.specs.declared.Answer.the-variants.{Refused};
+ghost use Rattle.joining.specs.Inner.{sessionWith, beside};
 
 mod lent;
 
@@ -42,6 +44,14 @@ pub struct Session {
 pub struct Taken {
     pub answer: Answer,
     pub session: Session,
+}
+
+// A frame's answer and the numbers of the session that it leaves, whose bytes are changed where they stand.
+struct Step {
+    answer: Answer,
+    size: u8,
+    count: u8,
+    next: u8,
 }
 
 // An identifier and the data bytes, as they come from the bus.
@@ -163,23 +173,15 @@ impl Session {
     pub fn frame(self, id: u32, data: &[u8]) -> Taken
         ensures { λ r. ⌜ r ≡ take-frame self id (now («data» .entry)) ⌝ }
     {
-        let n = frame_refusal(id, data);
-        if n != 0 {
-            return Taken {
-                answer: Answer::Refused(n),
-                session: self,
-            };
-        }
-        if !self.fit() {
-            return Taken {
-                answer: Answer::Refused(Session::UNFIT),
-                session: self,
-            };
-        }
-        if id / 65536 % 256 == Frame::ANNOUNCEMENT {
-            announced(self, data)
-        } else {
-            packet(self, data)
+        let mut left = self;
+        let step = stepped(&mut left.bytes, self.size, self.count, self.next, id, data);
+        left.size = step.size;
+        left.count = step.count;
+        left.next = step.next;
+        let answer = step.answer;
+        Taken {
+            answer,
+            session: left,
         }
     }
 
@@ -225,16 +227,6 @@ fn carries(size: u16) -> bool
     Payload::NOTED <= n && n <= Payload::LARGEST
 }
 
-// The session with no report under way; its bytes stay.
-fn closed(mut s: Session) -> Session
-    ensures { λ r. ⌜ r ≡ closed s ⌝ }
-{
-    s.size = 0;
-    s.count = 0;
-    s.next = 0;
-    s
-}
-
 // Whether an announcement's size is one that a broadcast can have, with the count that belongs to it.
 fn sound(data: &[u8]) -> bool
     ensures { λ r. ⌜ r ≡ sound (now («data» .entry)) ⌝ }
@@ -247,18 +239,6 @@ fn sound(data: &[u8]) -> bool
         return false;
     }
     wire::byte(data, 3) as u16 == packets(size)
-}
-
-// The session that an announcement opens, replacing what was under way.
-fn opened(size: u16) -> Session
-    requires { ⌜ size ≤ largestPayload ⌝ }
-    ensures { λ r. ⌜ r ≡ opened size ⌝ }
-{
-    let mut s = Session::fresh();
-    s.size = size as u8;
-    s.count = packets(size) as u8;
-    s.next = 1;
-    s
 }
 
 // Why an announcement opens no session, or 0.
@@ -280,69 +260,93 @@ pub fn announcement_refusal(data: &[u8]) -> u8
     0
 }
 
-// An announcement of the session's sender.
-fn announced(s: Session, data: &[u8]) -> Taken
-    ensures { λ r. ⌜ r ≡ announce s (now («data» .entry)) ⌝ }
+// A frame of the session's sender, on the session's bytes where they stand.
+fn stepped(
+    bytes: &mut [u8; Payload::LARGEST],
+    size: u8,
+    count: u8,
+    next: u8,
+    id: u32,
+    data: &[u8],
+) -> Step
+    ensures { λ r. ⌜ r ≡ beside (take-frame (sessionWith (now (bytes .entry)) size count next) id (now («data» .entry))) ⌝ }
+    ensures { λ _. ⌜ now (bytes .exit) ≡ take-frame (sessionWith (now (bytes .entry)) size count next) id (now («data» .entry)) .session .bytes ⌝ }
+{
+    let n = frame_refusal(id, data);
+    if n != 0 {
+        return refused(n, size, count, next);
+    }
+    if !numbers_fit(size, count, next) {
+        return refused(Session::UNFIT, size, count, next);
+    }
+    if id / 65536 % 256 == Frame::ANNOUNCEMENT {
+        announced(bytes, size, count, next, data)
+    } else {
+        packet(bytes, size, count, next, data)
+    }
+}
+
+// A refusal, and the numbers that it leaves.
+fn refused(n: u8, size: u8, count: u8, next: u8) -> Step
+    ensures { λ r. ⌜ r ≡ record { answer = Refused n; size = size; count = count; next = next } ⌝ }
+{
+    Step {
+        answer: Answer::Refused(n),
+        size,
+        count,
+        next,
+    }
+}
+
+// An announcement of the session's sender. One that isn't refused replaces what was under way.
+fn announced(bytes: &mut [u8; Payload::LARGEST], size: u8, count: u8, next: u8, data: &[u8]) -> Step
+    ensures { λ r. ⌜ r ≡ beside (announce (sessionWith (now (bytes .entry)) size count next) (now («data» .entry))) ⌝ }
+    ensures { λ _. ⌜ now (bytes .exit) ≡ announce (sessionWith (now (bytes .entry)) size count next) (now («data» .entry)) .session .bytes ⌝ }
 {
     let n = announcement_refusal(data);
     if n == 0 {
-        return Taken {
+        let whole = wire::read16(data, 1);
+        *bytes = [255u8; Payload::LARGEST];
+        return Step {
             answer: Answer::Kept,
-            session: opened(wire::read16(data, 1)),
+            size: whole as u8,
+            count: packets(whole) as u8,
+            next: 1,
         };
     }
     if n != Session::NOT_AN_ANNOUNCEMENT {
-        return refused(n, closed(s));
+        return refused(n, 0, 0, 0);
     }
-    refused(n, s)
+    refused(n, size, count, next)
 }
 
-fn refused(n: u8, s: Session) -> Taken
-    ensures { λ r. ⌜ r ≡ refused n s ⌝ }
+// A data packet of the session's sender. The last one's payload is read where it stands in the session's bytes.
+fn packet(bytes: &mut [u8; Payload::LARGEST], size: u8, count: u8, next: u8, data: &[u8]) -> Step
+    requires { ⌜ fit (sessionWith (now bytes) size count next) ≡ true ⌝ }
+    ensures { λ r. ⌜ r ≡ beside (packet (sessionWith (now (bytes .entry)) size count next) (now («data» .entry))) ⌝ }
+    ensures { λ _. ⌜ now (bytes .exit) ≡ packet (sessionWith (now (bytes .entry)) size count next) (now («data» .entry)) .session .bytes ⌝ }
 {
-    Taken {
-        answer: Answer::Refused(n),
-        session: s,
-    }
-}
-
-// A data packet of the session's sender.
-fn packet(s: Session, data: &[u8]) -> Taken
-    requires { ⌜ fit s ≡ true ⌝ }
-    ensures { λ r. ⌜ r ≡ packet s (now («data» .entry)) ⌝ }
-{
-    let size = s.size;
-    let count = s.count;
-    let next = s.next;
     if size == 0 {
-        return refused(Session::NOT_OPEN, s);
+        return refused(Session::NOT_OPEN, size, count, next);
     }
     if wire::byte(data, 0) != next {
-        return refused(Session::OUT_OF_SEQUENCE, closed(s));
+        return refused(Session::OUT_OF_SEQUENCE, 0, 0, 0);
     }
-    let bytes = stored(s, data);
+    store(bytes, size, next - 1, data);
     if next < count {
-        return Taken {
+        return Step {
             answer: Answer::Kept,
-            session: Session {
-                bytes,
-                size,
-                count,
-                next: next + 1,
-            },
+            size,
+            count,
+            next: next + 1,
         };
     }
-    finishes(bytes, size)
-}
-
-// The session's bytes with the expected packet's among them, those past the size left out.
-fn stored(s: Session, data: &[u8]) -> [u8; Payload::LARGEST]
-    requires { ⌜ isOpen s ≡ true ⌝ }
-    ensures { λ r. ⌜ r ≡ stored s (now («data» .entry)) ⌝ }
-{
-    let mut bytes = s.bytes;
-    store(&mut bytes, s.size, s.next - 1, data);
-    bytes
+    Step {
+        answer: answered(wire::front(bytes, size as usize)),
+        size: 0,
+        count: 0,
+        next: 0,
+    }
 }
 
 // Stores a packet's bytes behind those of the `sent` packets before it, those past the size left out.
@@ -358,22 +362,6 @@ pub fn store(bytes: &mut [u8], size: u8, sent: u8, data: &[u8])
         return;
     }
     wire::put_all(bytes, at, wire::front(&data[1..], end - at));
-}
-
-// What the last packet answers, and the session that it closes.
-fn finishes(bytes: [u8; Payload::LARGEST], size: u8) -> Taken
-    ensures { λ r. ⌜ r ≡ finishes bytes size ⌝ }
-{
-    let answer = answered(wire::front(&bytes, size as usize));
-    Taken {
-        answer,
-        session: Session {
-            bytes,
-            size: 0,
-            count: 0,
-            next: 0,
-        },
-    }
 }
 
 // What a whole payload is answered: its report, or the reader's refusal.

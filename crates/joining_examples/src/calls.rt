@@ -5,6 +5,7 @@ use bus::Bus;
 use joining::Frame;
 use joining::Sender;
 use joining::Session;
+use joining::Taken;
 use printing::number;
 use printing::refused;
 use printing::text;
@@ -44,7 +45,15 @@ pub fn sender(id: u32, data: &[u8]) {
 
 // Prints a frame's answer and the session left, and hands that back.
 pub fn take(session: Session, id: u32, data: &[u8]) -> Session {
-    let taken = session.frame(id, data);
+    shown(session.frame(id, data))
+}
+
+// The same, by the call that lends the session.
+pub fn lend(session: Session, id: u32, data: &[u8]) -> Session {
+    shown(session.lend(id, data))
+}
+
+fn shown(taken: Taken) -> Session {
     let left = taken.session;
     let said = taken.answer;
     print::answer(said);

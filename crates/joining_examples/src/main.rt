@@ -3,6 +3,7 @@
 //
 // session SIZE COUNT NEXT USED   a session with these numbers and the first bytes of P1's payload, and whether it is fit
 // frame ID DATA..                that session takes a frame: the answer, and the session left
+// advance ID DATA..              the same, by the call that lends the session
 // each ID DATA..                 whose the frame is, and what a fresh session, an ended one and an open one make of it
 // payload                        the payload that the session holds, and its note
 // bus                            a fresh session for every sender
@@ -64,6 +65,7 @@ fn tried(
     match wire::byte(line, 0) {
         b's' => return asked(line),
         b'f' => return take(session, id, data),
+        b'a' => return calls::lend(session, id, data),
         b'e' => each(id, data),
         b'p' => calls::payload(session),
         b'b' => calls::fresh(room),
