@@ -1,5 +1,5 @@
 /* A session machine as a CAN stack's broadcast receiver has it: one session a sender, filled in place. It reads a log of frames (one
-   window item, then frame items), checks what the rules (docs/RULES.md) ask of frames and payloads, and prints the same R lines as `cart`. */
+   window item, then frame items, with times or without), checks what the rules (docs/RULES.md) ask of frames and payloads, and prints the same R lines as `cart`. */
 #include <stdint.h>
 #include <stdio.h>
 #include <string.h>
@@ -7,6 +7,8 @@
 struct session {
     uint8_t size, count, next;
     uint8_t bytes[84 + 7];
+    uint8_t timed;
+    uint32_t last;
 };
 
 static struct session sessions[254];
@@ -73,9 +75,12 @@ static int packet(struct session *s, const uint8_t *data)
     return 0;
 }
 
-static int frame(const uint8_t *value)
+/* A time of -1 is none. */
+static int frame(int64_t time, const uint8_t *value)
 {
     uint32_t id = le32(value), format = id >> 16 & 255;
+    struct session *s;
+    int code;
 
     if (id >= 1u << 29)
         return 1;
@@ -83,9 +88,19 @@ static int frame(const uint8_t *value)
         return 2;
     if ((id & 255) > 253)
         return 3;
-    if (format == 236)
-        return announcement(&sessions[id & 255], value + 4);
-    return packet(&sessions[id & 255], value + 4);
+    s = &sessions[id & 255];
+    if (time >= 0 && s->timed) {
+        if (time < s->last)
+            return 26;
+        if (time - s->last > 750)
+            s->size = s->count = s->next = 0;
+    }
+    code = format == 236 ? announcement(s, value + 4) : packet(s, value + 4);
+    if (time >= 0 && (code == 0 || code == 11)) {
+        s->timed = 1;
+        s->last = time;
+    }
+    return code;
 }
 
 int main(void)
@@ -102,7 +117,9 @@ int main(void)
             int code = 0;
             item++;
             if (room[at] == 18 && length == 12)
-                code = frame(room + at + 3);
+                code = frame(-1, room + at + 3);
+            else if (room[at] == 21 && length == 16)
+                code = frame(le32(room + at + 3), room + at + 7);
             else if (item > 1) {
                 fprintf(stderr, "item %lu is not a frame\n", item);
                 return 1;

@@ -1,6 +1,6 @@
 //! The workloads, each from a seed: what is read first and not counted (`base`), and the whole log, which begins with it.
 
-use crate::logs::{bytes, carry, payload, remove, report, set, show, window, Item, Rng};
+use crate::logs::{bytes, carry, item, payload, remove, report, set, show, window, Item, Rng};
 use crate::{C, FAST, NAIVE, OURS};
 
 pub struct Workload {
@@ -67,10 +67,27 @@ fn frames(rng: &mut Rng, senders: usize, count: usize) -> Vec<Item> {
     out
 }
 
-fn joining(senders: usize, units: usize) -> Workload {
+/// The same frames, a sender's 10 to 60 ms apart; one in a thousand comes over 750 ms after its sender's last, and one before it.
+fn timed(rng: &mut Rng, frames: &[Item]) -> Vec<Item> {
+    let mut clocks = [0u32; 256];
+    let mut out = Vec::new();
+    for frame in frames {
+        let clock = &mut clocks[frame[3] as usize];
+        let step = if rng.below(1000) == 0 { 751 } else { 10 + rng.below(51) as u32 };
+        let time = if rng.below(1000) == 0 { clock.saturating_sub(1) } else { clock.wrapping_add(step) };
+        *clock = time.max(*clock);
+        let mut value = time.to_le_bytes().to_vec();
+        value.extend(&frame[3..]);
+        out.push(item(21, &value));
+    }
+    out
+}
+
+fn joining(senders: usize, times: bool, units: usize) -> Workload {
     let mut log = window(1);
-    log.extend(bytes(&frames(&mut Rng(7), senders, units)));
-    let name = format!("(a) {} sender{}, a frame", senders, if senders == 1 { "" } else { "s" });
+    let plain = frames(&mut Rng(7), senders, units);
+    log.extend(bytes(&if times { timed(&mut Rng(19), &plain) } else { plain }));
+    let name = format!("(a) {} sender{}, a frame{}", senders, if senders == 1 { "" } else { "s" }, if times { " with a time" } else { "" });
     Workload { name, base: window(1), log, units, who: vec![OURS, FAST, NAIVE, C] }
 }
 
@@ -164,8 +181,10 @@ fn whole(units: usize) -> Workload {
 /// Every workload, as a function of its units; the number of units where it is fixed.
 pub fn all() -> Vec<(Make, Option<usize>)> {
     let mut out: Vec<(Make, Option<usize>)> = Vec::new();
-    for senders in [1, 2, 254] {
-        out.push((Box::new(move |u| joining(senders, u)), None));
+    for times in [false, true] {
+        for senders in [1, 2, 254] {
+            out.push((Box::new(move |u| joining(senders, times, u)), None));
+        }
     }
     for questions in [1, 8, 32] {
         for n in [16, 128, 1024] {
@@ -197,8 +216,10 @@ pub fn all() -> Vec<(Make, Option<usize>)> {
 /// The workloads whose instructions are counted.
 pub fn counted() -> Vec<Workload> {
     vec![
-        joining(1, 2000),
-        joining(254, 2000),
+        joining(1, false, 2000),
+        joining(254, false, 2000),
+        joining(1, true, 2000),
+        joining(254, true, 2000),
         entries(Values::Rising, 8, 16, 16, 500),
         entries(Values::Rising, 8, 1024, 16, 500),
         entries(Values::Uniform, 32, 1024, 16, 20),

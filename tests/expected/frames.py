@@ -1,10 +1,12 @@
 """The rules (docs/RULES.md) on frames and the bench sender, for the scripts beside this one; nothing here comes from the crates.
 
-A session is its size, count and next packet, and its 84 bytes.
+A session is its size, count and next packet, and its 84 bytes. A sender's last kept time is whether there is one, and which.
 """
 from payload import read_payload, write_payload
 
 FRESH = (0, 0, 0, bytes([255] * 84))
+NO_TIME = (False, 0)
+LONGEST = 750
 
 
 def up(size):
@@ -28,17 +30,23 @@ def is_fit(session):
     return (size, count, nxt) == (0, 0, 0) or (is_payload_size(size) and count == up(size) and 1 <= nxt <= count)
 
 
+def refuse(n, *left):
+    return "refused %d" % n, *left
+
+
+def closed_of(session):
+    return (0, 0, 0, session[3])
+
+
 def take(session, ident, data):
     """The answer, as text or as the report that it completes, and the session that is left."""
-    def refuse(n, s):
-        return "refused %d" % n, s
     fault = frame_fault(ident, data)
     if fault:
         return refuse(fault, session)
     if not is_fit(session):
         return refuse(24, session)
     size, count, nxt, held = session
-    closed = (0, 0, 0, held)
+    closed = closed_of(session)
     if (ident >> 16) & 0xFF == 236:
         if data[0] != 32:
             return refuse(4, session)
@@ -60,6 +68,23 @@ def take(session, ident, data):
     if nxt < count:
         return "kept", (size, count, nxt + 1, held)
     return read_payload(held[:size]) or "refused 10", (0, 0, 0, held)
+
+
+def take_at(session, last, time, ident, data):
+    """The same of a frame that came at a time, and its sender's last kept time behind it."""
+    fault = frame_fault(ident, data)
+    if fault:
+        return refuse(fault, session, last)
+    known, before = last
+    if not is_fit(session) or (not known and before != 0):
+        return refuse(24, session, last)
+    if known and time < before:
+        return refuse(26, session, last)
+    if known and time - before > LONGEST:
+        session = closed_of(session)
+    answer, left = take(session, ident, data)
+    kept = not isinstance(answer, str) or answer == "kept"
+    return answer, left, (True, time) if kept else last
 
 
 def send(room, sender, report, note):

@@ -4,3 +4,4 @@ pub mod Frames
 pub mod ReadBack
 pub mod Outcomes
 pub mod Examples
+pub mod Starts

@@ -1,10 +1,11 @@
 -- A captured frame in the log's form, ID#DATA, and what is written for the line that holds it.
 use Prim.Native.Nat.{ℕ, _+_}
-use mathlib.Core.List.{List, [], _∷_}
+use mathlib.Core.List.{List, [], _∷_, _++_}
 use mathlib.Core.Bool.{Bool, true, false, cond, not, _&&_}
 use lib.ListN.{length, getD, take, drop}
 use lib.Dec.{leb, ltb, eqb}
 use Rattle.wire.specs.Bytes.{same}
+use Rattle.items.specs.declared.Item.{Item}
 use Rattle.items.specs.declared.Item.the-variants as item
 use Rattle.items.specs.Run.{Meant}
 use Rattle.lines.specs.declared.Number.{Number}
@@ -12,7 +13,11 @@ use Rattle.lines.specs.declared.Run.the-variants.{Until}
 use Rattle.lines.specs.Words.{runLength, wordAt}
 use Rattle.lines.specs.Numbers.{noNumber, numberIn}
 use Rattle.joining.specs.Frame.{frameRefusal}
-use Rattle.dump.specs.Dump.{interfaceIn, isDrop, frameIn}
+use Rattle.stamps.specs.declared.Stamp.{Stamp}
+use Rattle.stamps.specs.declared.Since.{Since}
+use Rattle.stamps.specs.declared.Since.the-variants as since
+use Rattle.stamps.specs.Stamps.{noStamp, earliest, sinceOf}
+use Rattle.dump.specs.Dump.{interfaceIn, timeIn, isDrop, frameIn}
 use Rattle.capture.specs.declared.Sort.{Sort}
 use Rattle.capture.specs.declared.Sort.the-variants as sort
 
@@ -76,9 +81,10 @@ place sort.Remote = 5
 place sort.Error = 6
 place sort.Fd = 7
 place sort.Length = 8
-place sort.Dropped = 9
-place sort.Nothing = 10
-place sort.Broken = 11
+place sort.Beyond = 9
+place sort.Dropped = 10
+place sort.Nothing = 11
+place sort.Broken = 12
 
 abbrev pub is : Sort → Sort → Bool
 is s t = eqb (place s) (place t)
@@ -95,41 +101,88 @@ placed elsewhere s = cond (elsewhere && not (is sort.Broken s)) sort.Elsewhere s
 unfoldable pub isForeign : Bool → List ℕ → Bool
 isForeign ours w = ours && not (eqb (frameRefusal (idIn w .value) (bytesIn (dataText w))) 0)
 
-unfoldable pub frameFor : Bool → List ℕ → Sort
-frameFor ours w = cond (isForeign ours w) sort.Foreign (cond (isMarked (rawText w)) sort.Marked sort.Frame)
+-- A time that a log can't hold.
+abbrev pub isBeyond : Since → Bool
+isBeyond since.Unknown = false
+isBeyond (since.At ms) = false
+isBeyond since.Beyond = true
 
-unfoldable pub wanted : Bool → List ℕ → Sort → Sort
-wanted ours w s = cond (is sort.Frame s) (frameFor ours w) s
+unfoldable pub frameFor : Bool → Since → List ℕ → Sort
+frameFor ours t w = cond (isForeign ours w) sort.Foreign (cond (isBeyond t) sort.Beyond (cond (isMarked (rawText w)) sort.Marked sort.Frame))
+
+unfoldable pub wanted : Bool → Since → List ℕ → Sort → Sort
+wanted ours t w s = cond (is sort.Frame s) (frameFor ours t w) s
 
 -- What a frame is of those that are asked for.
-unfoldable pub sortFor : Bool → Bool → List ℕ → Sort
-sortFor ours elsewhere w = wanted ours w (placed elsewhere (sortOfFrame w))
+unfoldable pub sortFor : Bool → Bool → Since → List ℕ → Sort
+sortFor ours elsewhere t w = wanted ours t w (placed elsewhere (sortOfFrame w))
 
 -- What a line holds: nothing where it has no words; how many frames were missed; or a frame.
-unfoldable pub sortIn : Bool → List ℕ → List ℕ → Sort
-sortIn ours name line =
+unfoldable pub sortIn : Bool → List ℕ → Since → List ℕ → Sort
+sortIn ours name t line =
     cond (eqb (length (wordAt 0 line)) 0) sort.Nothing
     (cond (isDrop line) sort.Dropped
-    (sortFor ours (isElsewhere name line) (frameIn line)))
+    (sortFor ours (isElsewhere name line) t (frameIn line)))
 
--- The log item of a frame.
-abbrev pub itemOfWord : List ℕ → Meant
-itemOfWord w = record { item = item.Frame (idIn w .value); data-bytes = bytesIn (dataText w) }
+-- The log item of a frame, with its time if there is one.
+abbrev pub frameItem : Since → ℕ → Item
+frameItem since.Unknown id = item.Frame id
+frameItem (since.At ms) id = item.Timed ms id
+frameItem since.Beyond id = item.Frame id
+
+abbrev pub itemOfWord : Since → List ℕ → Meant
+itemOfWord t w = record { item = frameItem t (idIn w .value); data-bytes = bytesIn (dataText w) }
 
 -- What is written: the item of a frame that a log holds, and nothing else.
-abbrev pub itemOf : Sort → List ℕ → List Meant
-itemOf sort.Frame w = itemOfWord w ∷ []
-itemOf sort.Marked w = itemOfWord w ∷ []
-itemOf sort.Foreign w = []
-itemOf sort.Elsewhere w = []
-itemOf sort.Short w = []
-itemOf sort.Remote w = []
-itemOf sort.Error w = []
-itemOf sort.Fd w = []
-itemOf sort.Length w = []
-itemOf sort.Dropped w = []
-itemOf sort.Nothing w = []
-itemOf sort.Broken w = []
+abbrev pub itemOf : Since → Sort → List ℕ → List Meant
+itemOf t sort.Frame w = itemOfWord t w ∷ []
+itemOf t sort.Marked w = itemOfWord t w ∷ []
+itemOf t sort.Foreign w = []
+itemOf t sort.Elsewhere w = []
+itemOf t sort.Short w = []
+itemOf t sort.Remote w = []
+itemOf t sort.Error w = []
+itemOf t sort.Fd w = []
+itemOf t sort.Length w = []
+itemOf t sort.Beyond w = []
+itemOf t sort.Dropped w = []
+itemOf t sort.Nothing w = []
+itemOf t sort.Broken w = []
 
-unfoldable pub itemsOfLine : Bool → List ℕ → List ℕ → List Meant
-itemsOfLine ours name line = itemOf (sortIn ours name line) (frameIn line)
+unfoldable pub itemsOfLine : Bool → List ℕ → Since → List ℕ → List Meant
+itemsOfLine ours name t line = itemOf t (sortIn ours name t line) (frameIn line)
+
+-- ---- a capture, line by line
+
+-- Frames of every sort, written or not.
+abbrev pub isFrame : Sort → Bool
+isFrame s = ltb (place s) 10
+
+-- Times count from the first frame that has one.
+unfoldable pub startAfter : Stamp → Stamp → Sort → Stamp
+startAfter start s sort = cond (isFrame sort) (earliest start s) start
+
+-- The time of a line, where times are asked for, and the same in the log: the first one is 0.
+unfoldable pub stampIn : Bool → List ℕ → Stamp
+stampIn timed line = cond timed (timeIn line) noStamp
+
+unfoldable pub sinceIn : Stamp → Stamp → Since
+sinceIn start s = sinceOf (earliest start s) s
+
+-- What is written for the lines of a capture, where times count from `start`.
+unfoldable pub itemsOfLines : Bool → List ℕ → Bool → Stamp → List (List ℕ) → List Meant
+itemsOfLines ours name timed start [] = []
+itemsOfLines ours name timed start (l ∷ ls) =
+    itemsOfLine ours name (sinceIn start (stampIn timed l)) l
+    ++ itemsOfLines ours name timed (startAfter start (stampIn timed l) (sortIn ours name (sinceIn start (stampIn timed l)) l)) ls
+
+-- Where times count from behind those lines.
+unfoldable pub startAfterLines : Bool → List ℕ → Bool → Stamp → List (List ℕ) → Stamp
+startAfterLines ours name timed start [] = start
+startAfterLines ours name timed start (l ∷ ls) =
+    startAfterLines ours name timed (startAfter start (stampIn timed l) (sortIn ours name (sinceIn start (stampIn timed l)) l)) ls
+
+-- The time of a capture's first frame that has one, whatever is asked for.
+unfoldable pub firstStamp : Bool → List (List ℕ) → Stamp
+firstStamp timed [] = noStamp
+firstStamp timed (l ∷ ls) = cond (isFrame (sortIn false [] since.Unknown l)) (cond (stampIn timed l .known) (stampIn timed l) (firstStamp timed ls)) (firstStamp timed ls)

@@ -3,7 +3,8 @@ use Prim.Native.Nat.{ℕ}
 use mathlib.Core.List.{List}
 use mathlib.Core.Bool.{Bool}
 use Rattle.items.specs.Run.{Meant}
+use Rattle.stamps.specs.declared.Since.{Since}
 use Rattle.capture.specs.Capture.{sortFor, itemOf}
 
-unfoldable pub itemsFor : Bool → Bool → List ℕ → List Meant
-itemsFor ours elsewhere w = itemOf (sortFor ours elsewhere w) w
+unfoldable pub itemsFor : Bool → Bool → Since → List ℕ → List Meant
+itemsFor ours elsewhere t w = itemOf t (sortFor ours elsewhere t w) w

@@ -7,15 +7,17 @@ ghost use Rattle.joining.specs.Frame.{frameRefusal};
 ghost use lib.ListN.{length, replicate};
 ghost use lib.Seq.{sets};
 ghost use Rattle.items.specs.Run.{runBytes};
-ghost use Rattle.capture.specs.Capture.{hexIn, bytesIn, rawText, isMarked, dataText, idIn, sortOfFrame, isElsewhere, placed, isForeign, frameFor, sortFor, sortIn, itemOf, itemsOfLine};
+ghost use Rattle.capture.specs.Capture.{hexIn, bytesIn, rawText, isMarked, dataText, idIn, sortOfFrame, isElsewhere, placed, isForeign, isBeyond, frameFor, sortFor, sortIn, frameItem, itemOf, itemsOfLine, isFrame, startAfter, sinceIn};
 ghost use Rattle.capture.specs.Inner.{itemsFor};
 use dump::Text;
 use items::Item;
 use lines::Number;
 use lines::Run;
+use stamps::Since;
+use stamps::Stamp;
 
-// What a line holds: a frame that a log can hold, perhaps with a mark for a length over 8; one that isn't asked for; a frame of another kind;
-// how many frames were missed; nothing; or nothing that can be read.
+// What a line holds: a frame that a log can hold, perhaps with a mark for a length over 8; one that isn't asked for; a frame of another kind, or
+// past the last time that a log can hold; how many frames were missed; nothing; or nothing that can be read.
 pub enum Sort {
     Frame,
     Marked,
@@ -26,6 +28,7 @@ pub enum Sort {
     Error,
     Fd,
     Length,
+    Beyond,
     Dropped,
     Nothing,
     Broken,
@@ -95,14 +98,43 @@ impl Sort {
             _ => Sort::Elsewhere,
         }
     }
+
+    // Whether a line of this sort is a frame, written or not.
+    fn is_frame(self) -> bool
+        ensures { λ r. ⌜ r ≡ isFrame self ⌝ }
+    {
+        match self {
+            Sort::Dropped => false,
+            Sort::Nothing => false,
+            Sort::Broken => false,
+            _ => true,
+        }
+    }
 }
 
-// Writes the item of a line's frame to the front of `room`, where the line holds one that is asked for: `Item::FRAME_BYTES`. Asked for
-// are all frames, or with `ours` those that a report can be joined from; and of all interfaces, or of the one that `name` names. What lies
-// past the room's end is not stored.
-pub fn write(line: &[u8], ours: bool, name: &[u8], room: &mut [u8]) -> Sort
-    ensures { λ r. ⌜ r ≡ sortIn ours (now (name .entry)) (now (line .entry)) ⌝ }
-    ensures { λ _. ⌜ now (room .exit) ≡ sets (now (room .entry)) 0 (runBytes (itemsOfLine ours (now (name .entry)) (now (line .entry)))) ⌝ }
+// The time in the log of a frame that came at `stamp`, where times count from `start`, or from this frame if none before it had a time.
+pub fn since(start: Stamp, stamp: Stamp) -> Since
+    ensures { λ r. ⌜ r ≡ sinceIn start stamp ⌝ }
+{
+    Stamp::since(Stamp::earliest(start, stamp), stamp)
+}
+
+// Where times count from behind a line of this time and sort: the first frame that has a time, written or not.
+pub fn started(start: Stamp, stamp: Stamp, sort: Sort) -> Stamp
+    ensures { λ r. ⌜ r ≡ startAfter start stamp sort ⌝ }
+{
+    if !sort.is_frame() {
+        return start;
+    }
+    Stamp::earliest(start, stamp)
+}
+
+// Writes the item of a line's frame to the front of `room`, where the line holds one that is asked for: `Item::TIMED_BYTES` if it has a time in
+// the log, and otherwise `Item::FRAME_BYTES`. Asked for are all frames, or with `ours` those that a report can be joined from; and of all
+// interfaces, or of the one that `name` names. What lies past the room's end is not stored.
+pub fn write(line: &[u8], ours: bool, name: &[u8], time: Since, room: &mut [u8]) -> Sort
+    ensures { λ r. ⌜ r ≡ sortIn ours (now (name .entry)) time (now (line .entry)) ⌝ }
+    ensures { λ _. ⌜ now (room .exit) ≡ sets (now (room .entry)) 0 (runBytes (itemsOfLine ours (now (name .entry)) time (now (line .entry)))) ⌝ }
 {
     let first = lines::word(line, 0);
     if first.len() == 0 {
@@ -113,11 +145,11 @@ pub fn write(line: &[u8], ours: bool, name: &[u8], room: &mut [u8]) -> Sort
     }
     let elsewhere = is_elsewhere(name, line);
     if dump::is_log(line) {
-        return write_frame(dump::logged(line), ours, elsewhere, room);
+        return write_frame(dump::logged(line), ours, elsewhere, time, room);
     }
     let mut text = [0u8; Text::LONGEST];
     let size = dump::shown(line, &mut text);
-    write_frame(wire::front(&text, size), ours, elsewhere, room)
+    write_frame(wire::front(&text, size), ours, elsewhere, time, room)
 }
 
 // Whether a line is of another interface than the one that is named.
@@ -131,33 +163,57 @@ fn is_elsewhere(name: &[u8], line: &[u8]) -> bool
 }
 
 // The same for a frame in the log's form.
-fn write_frame(word: &[u8], ours: bool, elsewhere: bool, room: &mut [u8]) -> Sort
-    ensures { λ r. ⌜ r ≡ sortFor ours elsewhere (now (word .entry)) ⌝ }
-    ensures { λ _. ⌜ now (room .exit) ≡ sets (now (room .entry)) 0 (runBytes (itemsFor ours elsewhere (now (word .entry)))) ⌝ }
+fn write_frame(word: &[u8], ours: bool, elsewhere: bool, time: Since, room: &mut [u8]) -> Sort
+    ensures { λ r. ⌜ r ≡ sortFor ours elsewhere time (now (word .entry)) ⌝ }
+    ensures { λ _. ⌜ now (room .exit) ≡ sets (now (room .entry)) 0 (runBytes (itemsFor ours elsewhere time (now (word .entry)))) ⌝ }
 {
     let sort = Sort::of_frame(word).placed(elsewhere);
     match sort {
-        Sort::Frame => put_frame(word, ours, room),
+        Sort::Frame => put_frame(word, ours, time, room),
         _ => sort,
     }
 }
 
 // The same for one with 8 data bytes.
-fn put_frame(word: &[u8], ours: bool, room: &mut [u8]) -> Sort
+fn put_frame(word: &[u8], ours: bool, time: Since, room: &mut [u8]) -> Sort
     requires { ⌜ length (dataText (now word)) ≡ 16 ⌝ }
-    ensures { λ r. ⌜ r ≡ frameFor ours (now (word .entry)) ⌝ }
-    ensures { λ _. ⌜ now (room .exit) ≡ sets (now (room .entry)) 0 (runBytes (itemOf (frameFor ours (now (word .entry))) (now (word .entry)))) ⌝ }
+    ensures { λ r. ⌜ r ≡ frameFor ours time (now (word .entry)) ⌝ }
+    ensures { λ _. ⌜ now (room .exit) ≡ sets (now (room .entry)) 0 (runBytes (itemOf time (frameFor ours time (now (word .entry))) (now (word .entry)))) ⌝ }
 {
     let id = identifier(word);
     let bytes = eight_bytes(digits(word));
     if foreign(ours, id.value, &bytes) {
         return Sort::Foreign;
     }
-    Item::Frame(id.value).put(&bytes, room, 0);
+    if is_beyond(time) {
+        return Sort::Beyond;
+    }
+    frame_item(time, id.value).put(&bytes, room, 0);
     if marked(raw(word)) {
         return Sort::Marked;
     }
     Sort::Frame
+}
+
+fn is_beyond(time: Since) -> bool
+    ensures { λ r. ⌜ r ≡ isBeyond time ⌝ }
+{
+    match time {
+        Since::Unknown => false,
+        Since::At(_) => false,
+        Since::Beyond => true,
+    }
+}
+
+// A frame's item, with its time if there is one.
+fn frame_item(time: Since, id: u32) -> Item
+    ensures { λ r. ⌜ r ≡ frameItem time id ⌝ }
+{
+    match time {
+        Since::Unknown => Item::Frame(id),
+        Since::At(ms) => Item::Timed(ms, id),
+        Since::Beyond => Item::Frame(id),
+    }
 }
 
 // Whether a frame isn't asked for, since no report can be joined from it.

@@ -1,7 +1,7 @@
 -- Lines and the items that they stand for, computed by the definitions.
 -- Assumes nothing.
 use mathlib.Core.Path.{_≡_, refl}
-use mathlib.Core.List.{List, [], _∷_}
+use mathlib.Core.List.{List, [], _∷_, _++_}
 use Prim.Native.Nat.{ℕ}
 use Rattle.wire.specs.Bytes.{bytes, head, field}
 use Rattle.items.specs.Items.{signed16, unsigned16, settingBytes}
@@ -11,12 +11,13 @@ use Rattle.lines.specs.Numbers.{digitOf, withDigit, numberOn, numberIn, negated
 use Rattle.values.specs.Range.{inRange}
 use Rattle.report.specs.Payload.{payload, noteFits, fault}
 use Rattle.bench.specs.Bench.{announcement, packetData, packetsFrom, frames, frameBytes, sendRefusal}
-use Rattle.commands.specs.Lines.{kindOf, valueAt, weightAt, noMore, firstFalse, windowLine, questionLine, oneSlot, showLine, reportLine, commandOf, noteIn}
-use Rattle.commands.specs.Items.{reportRefusal, reportItems, itemsOf}
+use Rattle.commands.specs.Lines.{kindOf, valueAt, weightAt, noMore, firstFalse, windowLine, questionLine, oneSlot, showLine, reportLine, timeLine, untimedLine, commandOf}
+use Rattle.commands.specs.declared.Time.the-variants.{Untimed}
+use Rattle.commands.specs.Items.{reportRefusal, reportItems, lineItems, textItems}
 
--- The items of a line.
+-- The items of a line, at no time.
 abbrev items : List ℕ → List ℕ
-items line = runBytes (itemsOf (commandOf line) (noteIn line))
+items line = runBytes (lineItems Untimed line)
 
 -- `window 3`.
 pub window-three : items (119 ∷ 105 ∷ 110 ∷ 100 ∷ 111 ∷ 119 ∷ 32 ∷ 51 ∷ []) ≡ 16 ∷ 2 ∷ 0 ∷ 3 ∷ 0 ∷ []
@@ -34,9 +35,21 @@ unfolding commandOf kindOf wordAt tailAt trimmed behindWord runLength valueAt nu
 show-forty = refl
 
 -- `report 5 100 200 7`: the frames of P1.
-pub report-first : items (114 ∷ 101 ∷ 112 ∷ 111 ∷ 114 ∷ 116 ∷ 32 ∷ 53 ∷ 32 ∷ 49 ∷ 48 ∷ 48 ∷ 32 ∷ 50 ∷ 48 ∷ 48 ∷ 32 ∷ 55 ∷ []) ≡ 18 ∷ 12 ∷ 0 ∷ 5 ∷ 255 ∷ 236 ∷ 28 ∷ 32 ∷ 17 ∷ 0 ∷ 3 ∷ 255 ∷ 20 ∷ 255 ∷ 0 ∷ 18 ∷ 12 ∷ 0 ∷ 5 ∷ 255 ∷ 235 ∷ 28 ∷ 1 ∷ 1 ∷ 2 ∷ 0 ∷ 100 ∷ 0 ∷ 2 ∷ 2 ∷ 18 ∷ 12 ∷ 0 ∷ 5 ∷ 255 ∷ 235 ∷ 28 ∷ 2 ∷ 0 ∷ 200 ∷ 0 ∷ 3 ∷ 4 ∷ 0 ∷ 7 ∷ 18 ∷ 12 ∷ 0 ∷ 5 ∷ 255 ∷ 235 ∷ 28 ∷ 3 ∷ 0 ∷ 0 ∷ 0 ∷ 255 ∷ 255 ∷ 255 ∷ 255 ∷ []
+abbrev report-text : List ℕ
+report-text = 114 ∷ 101 ∷ 112 ∷ 111 ∷ 114 ∷ 116 ∷ 32 ∷ 53 ∷ 32 ∷ 49 ∷ 48 ∷ 48 ∷ 32 ∷ 50 ∷ 48 ∷ 48 ∷ 32 ∷ 55 ∷ []
+
+abbrev report-bytes : List ℕ
+report-bytes = 18 ∷ 12 ∷ 0 ∷ 5 ∷ 255 ∷ 236 ∷ 28 ∷ 32 ∷ 17 ∷ 0 ∷ 3 ∷ 255 ∷ 20 ∷ 255 ∷ 0 ∷ 18 ∷ 12 ∷ 0 ∷ 5 ∷ 255 ∷ 235 ∷ 28 ∷ 1 ∷ 1 ∷ 2 ∷ 0 ∷ 100 ∷ 0 ∷ 2 ∷ 2 ∷ 18 ∷ 12 ∷ 0 ∷ 5 ∷ 255 ∷ 235 ∷ 28 ∷ 2 ∷ 0 ∷ 200 ∷ 0 ∷ 3 ∷ 4 ∷ 0 ∷ 7 ∷ 18 ∷ 12 ∷ 0 ∷ 5 ∷ 255 ∷ 235 ∷ 28 ∷ 3 ∷ 0 ∷ 0 ∷ 0 ∷ 255 ∷ 255 ∷ 255 ∷ 255 ∷ []
+
+pub report-first : items report-text ≡ report-bytes
 unfolding commandOf kindOf wordAt tailAt trimmed behindWord runLength valueAt numberIn numberOn withDigit digitOf noMore firstFalse field head bytes runBytes reportLine reportRefusal reportItems frames packetsFrom frameBytes sendRefusal announcement packetData payload inRange noteFits fault
 report-first = refl
+
+-- Lines in a row, `time 258` and `untimed` each before that report: its frames with the time, and then without.
+pub report-timed : runBytes (textItems Untimed ((116 ∷ 105 ∷ 109 ∷ 101 ∷ 32 ∷ 50 ∷ 53 ∷ 56 ∷ []) ∷ report-text ∷ (117 ∷ 110 ∷ 116 ∷ 105 ∷ 109 ∷ 101 ∷ 100 ∷ []) ∷ report-text ∷ []))
+    ≡ (21 ∷ 16 ∷ 0 ∷ 2 ∷ 1 ∷ 0 ∷ 0 ∷ 5 ∷ 255 ∷ 236 ∷ 28 ∷ 32 ∷ 17 ∷ 0 ∷ 3 ∷ 255 ∷ 20 ∷ 255 ∷ 0 ∷ 21 ∷ 16 ∷ 0 ∷ 2 ∷ 1 ∷ 0 ∷ 0 ∷ 5 ∷ 255 ∷ 235 ∷ 28 ∷ 1 ∷ 1 ∷ 2 ∷ 0 ∷ 100 ∷ 0 ∷ 2 ∷ 2 ∷ 21 ∷ 16 ∷ 0 ∷ 2 ∷ 1 ∷ 0 ∷ 0 ∷ 5 ∷ 255 ∷ 235 ∷ 28 ∷ 2 ∷ 0 ∷ 200 ∷ 0 ∷ 3 ∷ 4 ∷ 0 ∷ 7 ∷ 21 ∷ 16 ∷ 0 ∷ 2 ∷ 1 ∷ 0 ∷ 0 ∷ 5 ∷ 255 ∷ 235 ∷ 28 ∷ 3 ∷ 0 ∷ 0 ∷ 0 ∷ 255 ∷ 255 ∷ 255 ∷ 255 ∷ []) ++ report-bytes
+unfolding commandOf kindOf wordAt tailAt trimmed behindWord runLength valueAt numberIn numberOn withDigit digitOf noMore firstFalse field head bytes runBytes reportLine reportRefusal reportItems frames packetsFrom frameBytes sendRefusal announcement packetData payload inRange noteFits fault timeLine untimedLine textItems
+report-timed = refl
 
 -- `window 65536`: nothing is written.
 pub wrong-line : items (119 ∷ 105 ∷ 110 ∷ 100 ∷ 111 ∷ 119 ∷ 32 ∷ 54 ∷ 53 ∷ 53 ∷ 51 ∷ 54 ∷ []) ≡ []

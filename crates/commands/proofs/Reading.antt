@@ -13,9 +13,10 @@ use Rattle.lines.proofs.Numbers.{number-most, short-most}
 use Rattle.commands.specs.declared.Kind.{Kind}
 use Rattle.commands.specs.declared.Kind.the-variants as kind
 use Rattle.commands.specs.declared.Slot.{Slot}
+use Rattle.commands.specs.declared.Time.the-variants as time
 use Rattle.commands.specs.declared.Command.{Command}
 use Rattle.commands.specs.declared.Command.the-variants as command
-use Rattle.commands.specs.Lines.{kindOf, firstFalse, valueAt, weightAt, noMore, unless, windowLine, questionLine, oneSlot, removeLine, showLine, reportKind, reportLine, byKind, commandOf}
+use Rattle.commands.specs.Lines.{kindOf, firstFalse, valueAt, weightAt, noMore, unless, windowLine, questionLine, oneSlot, removeLine, showLine, reportKind, reportLine, timeLine, untimedLine, byKind, commandOf}
 
 -- ---- which test fails first
 
@@ -120,6 +121,25 @@ module _ (line : List ℕ) (always : Bool) (s l k n : Number) (w : ℕ) (sender 
   unfolding reportLine
   report-right noted e h =
       rw (← sender, ← loss, ← shake, ← own, ← first, ← e) (right w (reportKind always) (sent noted) h)
+
+module _ (line : List ℕ) (v : Number) (m : Bool) (w : ℕ) (one : v ≡ valueAt 1 4294967295 line) (end : m ≡ noMore 2 line)
+    (first : w ≡ firstFalse 1 (v .known ∷ m ∷ true ∷ true ∷ true ∷ [])) where
+  pub time-wrong : (w ≡ 0 → ⊥) → command.Wrong (record { kind = kind.Time; word = w }) ≡ timeLine line
+  unfolding timeLine
+  time-wrong h = rw (← one, ← end, ← first) (wrong w kind.Time (command.Time (time.At (v .value))) h)
+
+  pub time-right : w ≡ 0 → command.Time (time.At (v .value)) ≡ timeLine line
+  unfolding timeLine
+  time-right h = rw (← one, ← end, ← first) (right w kind.Time (command.Time (time.At (v .value))) h)
+
+module _ (line : List ℕ) (m : Bool) (w : ℕ) (end : m ≡ noMore 1 line) (first : w ≡ firstFalse 1 (m ∷ true ∷ true ∷ true ∷ true ∷ [])) where
+  pub untimed-wrong : (w ≡ 0 → ⊥) → command.Wrong (record { kind = kind.Untimed; word = w }) ≡ untimedLine line
+  unfolding untimedLine
+  untimed-wrong h = rw (← end, ← first) (wrong w kind.Untimed (command.Time time.Untimed) h)
+
+  pub untimed-right : w ≡ 0 → command.Time time.Untimed ≡ untimedLine line
+  unfolding untimedLine
+  untimed-right h = rw (← end, ← first) (right w kind.Untimed (command.Time time.Untimed) h)
 
 -- ---- how large
 

@@ -13,10 +13,11 @@ use Rattle.lines.specs.Numbers.{numberIn, shortIn}
 use Rattle.commands.specs.declared.Kind.{Kind}
 use Rattle.commands.specs.declared.Kind.the-variants as kind
 use Rattle.commands.specs.declared.Slot.{Slot}
+use Rattle.commands.specs.declared.Time.the-variants as time
 use Rattle.commands.specs.declared.Command.{Command}
 use Rattle.commands.specs.declared.Command.the-variants as command
 
--- The words window, question, remove, show, report and noted, in ASCII.
+-- The words window, question, remove, show, report, noted, time and untimed, in ASCII.
 abbrev pub windowWord : List ℕ
 windowWord = 119 ∷ 105 ∷ 110 ∷ 100 ∷ 111 ∷ 119 ∷ []
 
@@ -35,6 +36,12 @@ reportWord = 114 ∷ 101 ∷ 112 ∷ 111 ∷ 114 ∷ 116 ∷ []
 abbrev pub notedWord : List ℕ
 notedWord = 110 ∷ 111 ∷ 116 ∷ 101 ∷ 100 ∷ []
 
+abbrev pub timeWord : List ℕ
+timeWord = 116 ∷ 105 ∷ 109 ∷ 101 ∷ []
+
+abbrev pub untimedWord : List ℕ
+untimedWord = 117 ∷ 110 ∷ 116 ∷ 105 ∷ 109 ∷ 101 ∷ 100 ∷ []
+
 -- The kind of line that its first word names. No word, and one that starts with #, say nothing.
 unfoldable pub kindOf : List ℕ → Kind
 kindOf w =
@@ -46,7 +53,9 @@ kindOf w =
     (cond (same w showWord) kind.Show
     (cond (same w reportWord) kind.Report
     (cond (same w notedWord) kind.Noted
-    kind.Unknown)))))))
+    (cond (same w timeWord) kind.Time
+    (cond (same w untimedWord) kind.Untimed
+    kind.Unknown)))))))))
 
 -- The decimal number that is word n of a line, where it is at most `most`.
 unfoldable pub valueAt : ℕ → ℕ → List ℕ → Number
@@ -119,6 +128,15 @@ reportLine always line =
       noted = always || not (noMore 5 line);
     }))
 
+-- `time MS`: MS fits four bytes. `untimed` stands alone.
+unfoldable pub timeLine : List ℕ → Command
+timeLine line =
+    unless (firstFalse 1 (valueAt 1 4294967295 line .known ∷ noMore 2 line ∷ true ∷ true ∷ true ∷ [])) kind.Time
+    (command.Time (time.At (valueAt 1 4294967295 line .value)))
+
+unfoldable pub untimedLine : List ℕ → Command
+untimedLine line = unless (firstFalse 1 (noMore 1 line ∷ true ∷ true ∷ true ∷ true ∷ [])) kind.Untimed (command.Time time.Untimed)
+
 abbrev pub byKind : Kind → List ℕ → Command
 byKind kind.Nothing line = command.Nothing
 byKind kind.Window line = windowLine line
@@ -127,6 +145,8 @@ byKind kind.Remove line = removeLine line
 byKind kind.Show line = showLine line
 byKind kind.Report line = reportLine false line
 byKind kind.Noted line = reportLine true line
+byKind kind.Time line = timeLine line
+byKind kind.Untimed line = untimedLine line
 byKind kind.Unknown line = command.Wrong (record { kind = kind.Unknown; word = 0 })
 
 -- What a line stands for.

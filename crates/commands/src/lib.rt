@@ -1,6 +1,7 @@
 // The bench sender's text: what a line stands for, and the log items that are written for it.
 // A line is `window N`, `question SLOT K A B`, `remove SLOT`, `show SLOT`, `report SENDER LOSS SHAKE NUMBER`, with a note
-// behind it perhaps, or `noted` for a report whose note may be empty. Empty lines and those that start with # say nothing.
+// behind it perhaps, or `noted` for a report whose note may be empty. `time MS` gives the frames behind it that time, in
+// milliseconds, until `untimed` ends that. Empty lines and those that start with # say nothing.
 ghost use mathlib.Core.Path.{_≡_};
 ghost use mathlib.Core.List.{[], _∷_, map};
 ghost use mathlib.Core.Bool.{Bool, not, _||_};
@@ -10,8 +11,8 @@ ghost use lib.Seq.{sets};
 ghost use Rattle.items.specs.Run.{runBytes};
 ghost use Rattle.bench.specs.Bench.{framesIn};
 ghost use Rattle.lines.specs.Words.{tailAt};
-ghost use Rattle.commands.specs.Lines.{kindOf, firstFalse, valueAt, weightAt, noMore, oneSlot, windowLine, questionLine, removeLine, showLine, reportKind, reportLine, commandOf, noteIn};
-ghost use Rattle.commands.specs.Items.{itemOfFrame, itemsOf, answerOf, reportItems, reportAnswer};
+ghost use Rattle.commands.specs.Lines.{kindOf, firstFalse, valueAt, weightAt, noMore, oneSlot, windowLine, questionLine, removeLine, showLine, reportKind, reportLine, timeLine, untimedLine, commandOf};
+ghost use Rattle.commands.specs.Items.{frameItem, itemOfFrame, itemsOf, answerOf, reportItems, reportAnswer, timeAfter, lineOutcome, lineItems};
 use bench::Bench;
 use items::Item;
 use items::Setting;
@@ -29,6 +30,8 @@ pub enum Kind {
     Show,
     Report,
     Noted,
+    Time,
+    Untimed,
     Unknown,
 }
 
@@ -60,6 +63,12 @@ impl Kind {
         if lines::same(word, b"noted") {
             return Kind::Noted;
         }
+        if lines::same(word, b"time") {
+            return Kind::Time;
+        }
+        if lines::same(word, b"untimed") {
+            return Kind::Untimed;
+        }
         Kind::Unknown
     }
 }
@@ -77,11 +86,19 @@ pub struct Sending {
     pub noted: bool,
 }
 
-// What a line stands for: nothing, one item of the log, a report's frames, or nothing that can be read.
+// The time that frames are written with, in milliseconds; at first they are written without one.
+pub enum Time {
+    Untimed,
+    At(u32),
+}
+
+// What a line stands for: nothing, one item of the log, a report's frames, the time of the frames behind it, or nothing that
+// can be read.
 pub enum Command {
     Nothing,
     Item(Item),
     Report(Sending),
+    Time(Time),
     Wrong(Fault),
 }
 
@@ -92,19 +109,29 @@ pub enum Answer {
     Refused(u8),
 }
 
-// Writes the items of a line to the front of `room`; a wrong line writes none. What lies past the room's end is not stored.
-pub fn write(line: &[u8], room: &mut [u8]) -> Answer
-    ensures { λ r. ⌜ r ≡ answerOf (commandOf (now (line .entry))) (noteIn (now (line .entry))) ⌝ }
-    ensures { λ _. ⌜ now (room .exit) ≡ sets (now (room .entry)) 0 (runBytes (itemsOf (commandOf (now (line .entry))) (noteIn (now (line .entry))))) ⌝ }
+// What came of a line, and the time for the lines behind it.
+pub struct Outcome {
+    pub answer: Answer,
+    pub time: Time,
+}
+
+// Writes the items of a line to the front of `room`, its frames at this time; a wrong line writes none. What lies past the
+// room's end is not stored.
+pub fn write(line: &[u8], time: Time, room: &mut [u8]) -> Outcome
+    ensures { λ r. ⌜ r ≡ lineOutcome time (now (line .entry)) ⌝ }
+    ensures { λ _. ⌜ now (room .exit) ≡ sets (now (room .entry)) 0 (runBytes (lineItems time (now (line .entry)))) ⌝ }
 {
     let command = Command::of(line);
     let note = lines::tail(line, 5);
-    command.put(note, room)
+    Outcome {
+        answer: command.put(time, note, room),
+        time: command.time_after(time),
+    }
 }
 
 impl Command {
-    // Bytes that are enough for any line's items: an announcement and 12 packets, 15 bytes each.
-    pub const LARGEST: usize = 195;
+    // Bytes that are enough for any line's items: an announcement and 12 packets, 19 bytes each.
+    pub const LARGEST: usize = 247;
 
     // What a line stands for.
     pub fn of(line: &[u8]) -> Command
@@ -119,6 +146,8 @@ impl Command {
             Kind::Show => show_line(line),
             Kind::Report => report_line(line, false),
             Kind::Noted => report_line(line, true),
+            Kind::Time => time_line(line),
+            Kind::Untimed => untimed_line(line),
             Kind::Unknown => Command::Wrong(Fault {
                 kind: Kind::Unknown,
                 word: 0,
@@ -126,10 +155,10 @@ impl Command {
         }
     }
 
-    // Writes a command's items to the front of `room`; `note` is read for a report that has one.
-    pub fn put(self, note: &[u8], room: &mut [u8]) -> Answer
-        ensures { λ r. ⌜ r ≡ answerOf self (now (note .entry)) ⌝ }
-        ensures { λ _. ⌜ now (room .exit) ≡ sets (now (room .entry)) 0 (runBytes (itemsOf self (now (note .entry)))) ⌝ }
+    // Writes a command's items to the front of `room`, frames at this time; `note` is read for a report that has one.
+    pub fn put(self, time: Time, note: &[u8], room: &mut [u8]) -> Answer
+        ensures { λ r. ⌜ r ≡ answerOf time self (now (note .entry)) ⌝ }
+        ensures { λ _. ⌜ now (room .exit) ≡ sets (now (room .entry)) 0 (runBytes (itemsOf time self (now (note .entry)))) ⌝ }
     {
         match self {
             Command::Nothing => Answer::Items(0),
@@ -137,8 +166,19 @@ impl Command {
                 let size = i.put(wire::front(note, 0), room, 0);
                 Answer::Items(size)
             }
-            Command::Report(s) => put_report(room, s, note),
+            Command::Report(s) => put_report(room, time, s, note),
+            Command::Time(_) => Answer::Items(0),
             Command::Wrong(f) => Answer::Wrong(f),
+        }
+    }
+
+    // The time of the frames behind a command, by the time before it.
+    pub fn time_after(self, time: Time) -> Time
+        ensures { λ r. ⌜ r ≡ timeAfter time self ⌝ }
+    {
+        match self {
+            Command::Time(t) => t,
+            _ => time,
         }
     }
 }
@@ -310,38 +350,78 @@ fn report_kind(noted: bool) -> Kind
     if noted { Kind::Noted } else { Kind::Report }
 }
 
+fn time_line(line: &[u8]) -> Command
+    ensures { λ r. ⌜ r ≡ timeLine (now (line .entry)) ⌝ }
+{
+    let ms = value(line, 1, 4294967295);
+    let wrong = first_false(ms.known, no_more(line, 2), true, true, true);
+    if wrong != 0 {
+        return Command::Wrong(Fault {
+            kind: Kind::Time,
+            word: wrong,
+        });
+    }
+    Command::Time(Time::At(ms.value))
+}
+
+fn untimed_line(line: &[u8]) -> Command
+    ensures { λ r. ⌜ r ≡ untimedLine (now (line .entry)) ⌝ }
+{
+    let wrong = first_false(no_more(line, 1), true, true, true, true);
+    if wrong != 0 {
+        return Command::Wrong(Fault {
+            kind: Kind::Untimed,
+            word: wrong,
+        });
+    }
+    Command::Time(Time::Untimed)
+}
+
 // ---- writing
 
-fn put_report(room: &mut [u8], s: Sending, note: &[u8]) -> Answer
-    ensures { λ r. ⌜ r ≡ reportAnswer s (now (note .entry)) ⌝ }
-    ensures { λ _. ⌜ now (room .exit) ≡ sets (now (room .entry)) 0 (runBytes (reportItems s (now (note .entry)))) ⌝ }
+fn put_report(room: &mut [u8], time: Time, s: Sending, note: &[u8]) -> Answer
+    ensures { λ r. ⌜ r ≡ reportAnswer time s (now (note .entry)) ⌝ }
+    ensures { λ _. ⌜ now (room .exit) ≡ sets (now (room .entry)) 0 (runBytes (reportItems time s (now (note .entry)))) ⌝ }
 {
     let mut frames = [0u8; Bench::LARGEST];
     let report = s.report;
     let written = Bench::send(&mut frames, s.sender, report, s.noted, note);
     match written {
         Written::Bytes(n) => {
-            let count = n / Bench::FRAME;
-            put_frames(room, &frames, count);
-            Answer::Items(Item::FRAME_BYTES * count)
+            let size = put_frames(room, time, &frames, n / Bench::FRAME);
+            Answer::Items(size)
         }
         Written::Refused(code) => Answer::Refused(code),
     }
 }
 
-// Stores the first `count` frames as items.
-fn put_frames(room: &mut [u8], frames: &[u8], count: usize)
+// A frame's item, by its identifier.
+fn frame_item(time: Time, id: u32) -> Item
+    ensures { λ r. ⌜ r ≡ frameItem time id ⌝ }
+{
+    match time {
+        Time::Untimed => Item::Frame(id),
+        Time::At(t) => Item::Timed(t, id),
+    }
+}
+
+// Stores the first `count` frames as items, and answers how many bytes they take.
+fn put_frames(room: &mut [u8], time: Time, frames: &[u8], count: usize) -> usize
     requires { ⌜ 12 * count ≤ length (now frames) ⌝ }
     requires { ⌜ length (now frames) ≤ 156 ⌝ }
-    ensures { λ _. ⌜ now (room .exit) ≡ sets (now (room .entry)) 0 (runBytes (map itemOfFrame (framesIn count (now (frames .entry))))) ⌝ }
+    ensures { λ r. ⌜ r ≡ length (runBytes (map (itemOfFrame time) (framesIn count (now (frames .entry))))) ⌝ }
+    ensures { λ _. ⌜ now (room .exit) ≡ sets (now (room .entry)) 0 (runBytes (map (itemOfFrame time) (framesIn count (now (frames .entry))))) ⌝ }
 {
     let mut i: usize = 0;
+    let mut at: usize = 0;
     while i < count {
         let start = Bench::FRAME * i;
         let behind = start + Item::DATA;
         let end = start + Bench::FRAME;
-        let item = Item::Frame(wire::read32(frames, start));
-        item.put(&frames[behind..end], room, Item::FRAME_BYTES * i);
+        let item = frame_item(time, wire::read32(frames, start));
+        let size = item.put(&frames[behind..end], room, at);
+        at += size;
         i += 1;
     }
+    at
 }

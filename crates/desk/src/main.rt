@@ -10,6 +10,7 @@ use orders::BoardOrder;
 use orders::Order;
 use replies::put;
 use replies::refused;
+use times::Times;
 
 // The board, and whether there is one: whether a window was made.
 struct Desk {
@@ -33,6 +34,9 @@ fn main() {
     let mut room = [0u8; Bus::ROOM];
     let sessions = Bus::fresh().sessions;
     Bus::fill(&mut room, sessions);
+    let times = Times::fresh();
+    let mut known = times.known;
+    let mut at = times.at;
     let mut desk = fresh();
     greet();
     let mut turns = u64::MAX;
@@ -44,7 +48,7 @@ fn main() {
             break;
         };
         input = found;
-        let answer = answered(desk, found, &line, &mut room, &mut out);
+        let answer = answered(desk, found, &line, &mut room, &mut known, &mut at, &mut out);
         desk = answer.desk;
         if !written(&mut out, answer.end) {
             break;
@@ -104,6 +108,8 @@ fn answered(
     found: Input,
     line: &[u8],
     room: &mut [u8; Bus::ROOM],
+    known: &mut [bool; Bus::SENDERS],
+    at: &mut [u32; Bus::SENDERS],
     out: &mut [u8],
 ) -> Answer {
     if found.is_cut() {
@@ -114,7 +120,7 @@ fn answered(
         return Answer { desk, end };
     }
     let text = wire::front(line, found.size);
-    obeyed(desk, Order::of(text), text, room, out)
+    obeyed(desk, Order::of(text), text, room, known, at, out)
 }
 
 fn obeyed(
@@ -122,13 +128,15 @@ fn obeyed(
     order: Order,
     line: &[u8],
     room: &mut [u8; Bus::ROOM],
+    known: &mut [bool; Bus::SENDERS],
+    at: &mut [u32; Bus::SENDERS],
     out: &mut [u8],
 ) -> Answer {
     match order {
         Order::Window(n) => window(desk, n, out),
         Order::Board(asked) => on_board(desk, asked, out),
         Order::Bus(asked) => {
-            let end = desk_bus::obeyed(asked, line, room, out);
+            let end = desk_bus::obeyed(asked, line, room, known, at, out);
             Answer { desk, end }
         }
         _ => {

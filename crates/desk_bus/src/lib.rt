@@ -14,16 +14,29 @@ use report::Payload;
 use report::Reading;
 use report::Report;
 use report::Written;
+use times::Times;
 use values::Values;
 
 // No line holds more bytes than this.
 const BYTES: usize = 256;
 
-// Where the answer ends.
-pub fn obeyed(order: BusOrder, line: &[u8], room: &mut [u8; Bus::ROOM], out: &mut [u8]) -> usize {
+// Where the answer ends. The sessions stand in `room`, and their senders' last times in `known` and `at`.
+pub fn obeyed(
+    order: BusOrder,
+    line: &[u8],
+    room: &mut [u8; Bus::ROOM],
+    known: &mut [bool; Bus::SENDERS],
+    at: &mut [u32; Bus::SENDERS],
+    out: &mut [u8],
+) -> usize {
     match order {
-        BusOrder::Frame { id, word } => frame(id, lines::word(line, word), room, out),
-        BusOrder::Session(sender) => session(place(room, sender), out),
+        BusOrder::Frame { id, word, extras } => {
+            frame(id, lines::word(line, word), extras, room, known, at, out)
+        }
+        BusOrder::Session(sender) => {
+            let end = session(place(room, sender), out);
+            put_last(sender, known, at, end, out)
+        }
         BusOrder::Payload { word } => payload(lines::word(line, word), out),
         BusOrder::Write {
             sender,
@@ -35,23 +48,44 @@ pub fn obeyed(order: BusOrder, line: &[u8], room: &mut [u8; Bus::ROOM], out: &mu
             let values = Values { loss, shake };
             write(sender, Report { values, own }, extras, line, out)
         }
+        _ => {
+            poked(order, room, known, at);
+            put(out, 0, b"ok")
+        }
+    }
+}
+
+// Stores what a poke asks for.
+fn poked(
+    order: BusOrder,
+    room: &mut [u8; Bus::ROOM],
+    known: &mut [bool; Bus::SENDERS],
+    at: &mut [u32; Bus::SENDERS],
+) {
+    match order {
         BusOrder::PokeSession {
             sender,
             size,
             count,
             next,
+            extras,
         } => {
             poke_session(room, sender, size, count, next);
-            put(out, 0, b"ok")
+            if extras.timed {
+                poke_time(known, at, sender, true, extras.time);
+            }
         }
         BusOrder::PokeByte {
             sender,
-            place: at,
+            place,
             value,
-        } => {
-            wire::put(room, Bus::PLACE * (sender as usize) + (at as usize), value);
-            put(out, 0, b"ok")
-        }
+        } => wire::put(
+            room,
+            Bus::PLACE * (sender as usize) + (place as usize),
+            value,
+        ),
+        BusOrder::PokeUntimed { sender, time } => poke_time(known, at, sender, false, time),
+        _ => {}
     }
 }
 
@@ -67,12 +101,20 @@ fn back(s: &[u8], at: usize) -> &[u8] {
 }
 
 // A frame for its sender's session. The size of the payload that it may end is the one that the session had before.
-fn frame(id: u32, digits: &[u8], room: &mut [u8; Bus::ROOM], out: &mut [u8]) -> usize {
+fn frame(
+    id: u32,
+    digits: &[u8],
+    extras: Extras,
+    room: &mut [u8; Bus::ROOM],
+    known: &mut [bool; Bus::SENDERS],
+    at: &mut [u32; Bus::SENDERS],
+    out: &mut [u8],
+) -> usize {
     let mut bytes = [0u8; BYTES];
     let n = ranges::bytes(digits, &mut bytes);
     let sender = (id % 256) as u8;
     let size = wire::byte(place(room, sender), Bus::SIZE);
-    let answer = Bus::take(room, id, wire::front(&bytes, n));
+    let answer = taken(id, wire::front(&bytes, n), extras, room, known, at);
     match answer {
         Answer::Refused(code) => refused(out, code),
         Answer::Kept => put(out, 0, b"kept"),
@@ -80,6 +122,21 @@ fn frame(id: u32, digits: &[u8], room: &mut [u8; Bus::ROOM], out: &mut [u8]) -> 
             put_report(report, wire::front(place(room, sender), size as usize), out)
         }
     }
+}
+
+// The call of a frame with a time, or of one without.
+fn taken(
+    id: u32,
+    data: &[u8],
+    extras: Extras,
+    room: &mut [u8; Bus::ROOM],
+    known: &mut [bool; Bus::SENDERS],
+    at: &mut [u32; Bus::SENDERS],
+) -> Answer {
+    if extras.timed {
+        return Times::take(room, known, at, extras.time, id, data);
+    }
+    Bus::take(room, id, data)
 }
 
 // A report, with the note of its payload.
@@ -108,6 +165,28 @@ fn session(place: &[u8], out: &mut [u8]) -> usize {
     let count = put_number(out, size, wire::byte(place, Bus::COUNT) as u64);
     let next = put_number(out, count, wire::byte(place, Bus::NEXT) as u64);
     put_word(wire::front(place, Payload::LARGEST), next, out)
+}
+
+// A sender's last time behind its session, if there is one.
+fn put_last(
+    sender: u8,
+    known: &[bool; Bus::SENDERS],
+    at: &[u32; Bus::SENDERS],
+    end: usize,
+    out: &mut [u8],
+) -> usize {
+    let k = sender as usize;
+    if Bus::SENDERS <= k {
+        return end;
+    }
+    put_time(known[k], at[k], end, out)
+}
+
+fn put_time(known: bool, time: u32, end: usize, out: &mut [u8]) -> usize {
+    if !known {
+        return end;
+    }
+    put_counted(out, end, b" at", time as u64)
 }
 
 // The payload's reader alone.
@@ -181,4 +260,19 @@ fn poke_session(room: &mut [u8], sender: u8, size: u8, count: u8, next: u8) {
     wire::put(room, at + Bus::SIZE, size);
     wire::put(room, at + Bus::COUNT, count);
     wire::put(room, at + Bus::NEXT, next);
+}
+
+// Stores whether there is a last time, and which.
+fn poke_time(
+    known: &mut [bool; Bus::SENDERS],
+    at: &mut [u32; Bus::SENDERS],
+    sender: u8,
+    is_known: bool,
+    time: u32,
+) {
+    let k = sender as usize;
+    if k < Bus::SENDERS {
+        known[k] = is_known;
+        at[k] = time;
+    }
 }

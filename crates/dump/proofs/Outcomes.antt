@@ -15,12 +15,17 @@ use Rattle.dump.proofs.is_log.Kinds as is-log-kinds
 use Rattle.dump.proofs.is_log.Reads as is-log-reads
 use Rattle.dump.proofs.shown.Kinds as shown-kinds
 use Rattle.dump.proofs.shown.Reads as shown-reads
+use Rattle.dump.proofs.time.Kinds as time-kinds
+use Rattle.dump.proofs.time.Reads as time-reads
 
 is-drop-once : OneAnswer 1 is-drop-kinds.ps is-drop-kinds.r is-drop-reads.Post
 is-drop-once κs a x y s t p q = p ∙ sym q
 
 is-log-once : OneAnswer 1 is-log-kinds.ps is-log-kinds.r is-log-reads.Post
 is-log-once κs a x y s t p q = p ∙ sym q
+
+time-once : OneAnswer 1 time-kinds.ps time-kinds.r time-reads.Post
+time-once κs a x y s t p q = p ∙ sym q
 
 shown-once : OneAnswer 2 shown-kinds.ps shown-kinds.r shown-reads.Post
 shown-once κs a x y s t p q = p .0 ∙ sym (q .0)

@@ -9,6 +9,8 @@ use Rattle.lines.specs.declared.Number.{Number}
 use Rattle.lines.specs.declared.Run.the-variants.{Until}
 use Rattle.lines.specs.Words.{runLength, wordAt, tailAt}
 use Rattle.lines.specs.Numbers.{noNumber, numberIn}
+use Rattle.stamps.specs.declared.Stamp.{Stamp}
+use Rattle.stamps.specs.Stamps.{noStamp, secondsIn, datedIn}
 use Rattle.dump.specs.declared.Data.{Data}
 use Rattle.dump.specs.declared.Data.the-variants as kind
 
@@ -28,6 +30,15 @@ behindTime line =
     (cond (closes (wordAt 1 line)) (tailAt 2 line)
     []))
     (tailAt 0 line)
+
+-- The time: seconds in one word, or a date and a time of day in two. None where there is none that can be read.
+unfoldable pub timeIn : List ℕ → Stamp
+timeIn line =
+    cond (opens (wordAt 0 line))
+    (cond (closes (wordAt 0 line)) (secondsIn (wordAt 0 line))
+    (cond (closes (wordAt 1 line)) (datedIn (wordAt 0 line) (wordAt 1 line))
+    noStamp))
+    noStamp
 
 -- The interface is the first word there.
 unfoldable pub interfaceIn : List ℕ → List ℕ

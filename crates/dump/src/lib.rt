@@ -5,9 +5,10 @@ ghost use mathlib.Core.Path.{_≡_};
 ghost use Prim.Native.Nat.{_+_, _≤_, min};
 ghost use lib.ListN.{length, take, drop};
 ghost use lib.Seq.{sets};
-ghost use Rattle.dump.specs.Dump.{opens, closes, behindTime, interfaceIn, isLog, ended, loggedIn, fieldsIn, between, countIn, pairOf, pairsIn, markOf, closedAt, dataOf, textOf, isId, shownIn, isDrop};
+ghost use Rattle.dump.specs.Dump.{opens, closes, behindTime, timeIn, interfaceIn, isLog, ended, loggedIn, fieldsIn, between, countIn, pairOf, pairsIn, markOf, closedAt, dataOf, textOf, isId, shownIn, isDrop};
 use lines::Number;
 use lines::Run;
+use stamps::Stamp;
 
 // A frame in the log's form.
 pub struct Text {}
@@ -26,6 +27,24 @@ pub fn interface(line: &[u8]) -> &[u8]
     ensures { λ r. ⌜ now r ≡ interfaceIn (now (line .entry)) ⌝ }
 {
     lines::word(behind_time(line), 0)
+}
+
+// The time of a line.
+pub fn time(line: &[u8]) -> Stamp
+    ensures { λ r. ⌜ r ≡ timeIn (now (line .entry)) ⌝ }
+{
+    let first = lines::word(line, 0);
+    if !opens(first) {
+        return Stamp::none();
+    }
+    if closes(first) {
+        return Stamp::seconds(first);
+    }
+    let second = lines::word(line, 1);
+    if closes(second) {
+        return Stamp::dated(first, second);
+    }
+    Stamp::none()
 }
 
 // Whether a line says only that frames were missed.

@@ -23,6 +23,7 @@ pub enum Form {
     PokeLine,
     PokeSession,
     PokeByte,
+    PokeUntimed,
     Help,
     Unknown,
     UnknownPoke,
@@ -30,7 +31,7 @@ pub enum Form {
 
 impl Form {
     // How many there are.
-    pub const COUNT: u8 = 21;
+    pub const COUNT: u8 = 22;
 
     // The one at that place of the page's table; the last where there is none.
     fn at(n: u8) -> Form {
@@ -55,6 +56,7 @@ impl Form {
             17 => Form::PokeLine,
             18 => Form::PokeSession,
             19 => Form::PokeByte,
+            20 => Form::PokeUntimed,
             _ => Form::Help,
         }
     }
@@ -135,6 +137,9 @@ impl Form {
         if lines::same(word, b"byte") {
             return Form::PokeByte;
         }
+        if lines::same(word, b"untimed") {
+            return Form::PokeUntimed;
+        }
         Form::UnknownPoke
     }
 }
@@ -168,7 +173,7 @@ fn put_form(buf: &mut [u8], at: usize, form: Form) -> usize {
         Form::Frame => put(
             buf,
             at,
-            b"frame ID DATA; ID is 1 to 8 hexadecimal digits, DATA an even number of them",
+            b"frame ID DATA [at MS]; ID is 1 to 8 hexadecimal digits, DATA an even number of them, MS 0 to 4294967295",
         ),
         Form::Session => put(buf, at, b"session SENDER; SENDER is 0 to 253"),
         Form::Payload => put(
@@ -232,16 +237,31 @@ fn put_poke_form(buf: &mut [u8], at: usize, form: Form) -> usize {
             at,
             b"poke line SLOT PLACE NUMBER SCORE; SLOT is 0 to 31, PLACE 0 to 15, NUMBER 0 to 4294967295, SCORE -2147483648 to 2147483647",
         ),
+        _ => put_session_poke_form(buf, at, form),
+    }
+}
+
+fn put_session_poke_form(buf: &mut [u8], at: usize, form: Form) -> usize {
+    match form {
         Form::PokeSession => put(
             buf,
             at,
-            b"poke session SENDER SIZE COUNT NEXT; SENDER is 0 to 253, the others 0 to 255",
+            b"poke session SENDER SIZE COUNT NEXT [at MS]; SENDER is 0 to 253, MS 0 to 4294967295, the others 0 to 255",
         ),
         Form::PokeByte => put(
             buf,
             at,
             b"poke byte SENDER PLACE VALUE; SENDER is 0 to 253, PLACE 0 to 83, VALUE 0 to 255",
         ),
-        _ => put(buf, at, b"poke window, row, slot, line, session or byte"),
+        Form::PokeUntimed => put(
+            buf,
+            at,
+            b"poke untimed SENDER MS; SENDER is 0 to 253, MS 0 to 4294967295",
+        ),
+        _ => put(
+            buf,
+            at,
+            b"poke window, row, slot, line, session, byte or untimed",
+        ),
     }
 }

@@ -15,8 +15,8 @@ use Rattle.wire.proofs.Numbers.{Bytes, length-bytes, number-bytes, number-below
 use Rattle.wire.proofs.Fields.{part-number, part-split, bytes-part, length-part}
 use Rattle.items.specs.declared.Setting.{Setting}
 use Rattle.items.specs.declared.Item.{Item}
-use Rattle.items.specs.declared.Item.the-variants.{Window, Set, Frame, Remove, Show, Unknown}
-use Rattle.items.specs.Items.{signed16, unsigned16, settingBytes, settingIn, tagOf, valueOf, isItem, dataIn, itemIn}
+use Rattle.items.specs.declared.Item.the-variants.{Window, Set, Frame, Remove, Show, Timed, Unknown}
+use Rattle.items.specs.Items.{signed16, unsigned16, settingBytes, settingIn, tagOf, valueOf, isItem, dataOf, itemIn}
 use Rattle.items.specs.Run.{Meant, meantBy}
 use Rattle.items.proofs.Signs.{unsigned-below, unsigned-signed, signed-unsigned}
 
@@ -39,6 +39,10 @@ pub show-read : (slot : ℕ) → itemIn 20 (slot ∷ []) ≡ Show slot
 unfolding itemIn
 show-read slot = refl
 
+pub timed-read : (v : List ℕ) → length v ≡ 16 → itemIn 21 v ≡ Timed (number (part 0 4 v)) (number (part 4 4 v))
+unfolding itemIn
+timed-read v e = rw e
+
 -- ---- written, then read
 
 -- What fits an item's bytes: numbers of their width, and 8 data bytes with a frame, none with any other item.
@@ -48,6 +52,7 @@ Fits (Set s) ds = (mag (s .loss) < 32768) × (mag (s .shake) < 32768) × (ds ≡
 Fits (Frame id) ds = (id < 4294967296) × (length ds ≡ 8)
 Fits (Remove slot) ds = ds ≡ []
 Fits (Show slot) ds = ds ≡ []
+Fits (Timed time id) ds = (time < 4294967296) × (id < 4294967296) × (length ds ≡ 8)
 Fits Unknown ds = ds ≡ []
 
 abbrev pub meant : Item → List ℕ → Meant
@@ -94,11 +99,32 @@ module _ (id : ℕ) (ds : List ℕ) (eight : length ds ≡ 8) where
   twelve : length (bytes 4 id ++ ds) ≡ 12
   twelve = omega (arith, length-append (bytes 4 id) ds, length-bytes 4 id)
 
-  data-back : dataIn (bytes 4 id ++ ds) ≡ ds
+  data-back : part 4 8 (bytes 4 id ++ ds) ≡ ds
   data-back = rw (drop-at (bytes 4 id) ds 4 (length-bytes 4 id)) (take-all 8 ds (omega arith))
 
   frame-back : id < 4294967296 → itemIn 18 (bytes 4 id ++ ds) ≡ Frame id
   frame-back h = frame-read (bytes 4 id ++ ds) twelve ∙ ap Frame (ap number (take-at (bytes 4 id) ds 4 (length-bytes 4 id)) ∙ number-bytes 4 id h)
+
+  -- The same behind a time.
+  module _ (time : ℕ) where
+    abbrev timed : List ℕ
+    timed = bytes 4 time ++ (bytes 4 id ++ ds)
+
+    sixteen : length timed ≡ 16
+    sixteen = omega (arith, length-append (bytes 4 time) (bytes 4 id ++ ds), length-bytes 4 time, twelve)
+
+    timed-data-back : part 8 8 timed ≡ ds
+    unfolding bytes
+    timed-data-back = take-all 8 ds (omega arith)
+
+    id-back : part 4 4 timed ≡ bytes 4 id
+    unfolding bytes
+    id-back = refl
+
+    timed-back : time < 4294967296 → id < 4294967296 → itemIn 21 timed ≡ Timed time id
+    timed-back h k =
+        timed-read timed sixteen
+        ∙ ap₂ Timed (ap number (take-at (bytes 4 time) (bytes 4 id ++ ds) 4 (length-bytes 4 time)) ∙ number-bytes 4 time h) (ap number id-back ∙ number-bytes 4 id k)
 
 unknown-back : meantBy 0 [] ≡ meant Unknown []
 unfolding itemIn
@@ -111,6 +137,7 @@ written-back (Set s) ds fits = rw (set-back s (fits .0) (fits .1), fits .2)
 written-back (Frame id) ds fits = rw (frame-back id ds (fits .1) (fits .0), data-back id ds (fits .1))
 written-back (Remove slot) ds fits = rw (remove-read slot, fits)
 written-back (Show slot) ds fits = rw (show-read slot, fits)
+written-back (Timed time id) ds fits = rw (timed-back id ds (fits .2) time (fits .0) (fits .1), timed-data-back id ds (fits .2) time)
 written-back Unknown ds fits = rw fits unknown-back
 
 -- ---- read, then written
@@ -126,12 +153,14 @@ module _ (P : Item → Type 0) (tag : ℕ) (v : List ℕ) where
 
   pub by-cases : (tag ≡ 16 → length v ≡ 2 → P (Window (number (part 0 2 v)))) → (tag ≡ 17 → length v ≡ 6 → P (Set (settingIn v)))
       → (tag ≡ 18 → length v ≡ 12 → P (Frame (number (part 0 4 v)))) → (tag ≡ 19 → length v ≡ 1 → P (Remove (getD v 0 0)))
-      → (tag ≡ 20 → length v ≡ 1 → P (Show (getD v 0 0))) → P Unknown → P (itemIn tag v)
+      → (tag ≡ 20 → length v ≡ 1 → P (Show (getD v 0 0))) → (tag ≡ 21 → length v ≡ 16 → P (Timed (number (part 0 4 v)) (number (part 4 4 v)))) → P Unknown
+      → P (itemIn tag v)
   unfolding itemIn
-  by-cases w s f r q u =
+  by-cases w s f r q t u =
       case 16 2 (Window (number (part 0 2 v))) w
       (case 17 6 (Set (settingIn v)) s
-      (case 18 12 (Frame (number (part 0 4 v))) f (case 19 1 (Remove (getD v 0 0)) r (case 20 1 (Show (getD v 0 0)) q u))))
+      (case 18 12 (Frame (number (part 0 4 v))) f
+      (case 19 1 (Remove (getD v 0 0)) r (case 20 1 (Show (getD v 0 0)) q (case 21 16 (Timed (number (part 0 4 v)) (number (part 4 4 v))) t u)))))
 
 one-byte : (v : List ℕ) → length v ≡ 1 → getD v 0 0 ∷ [] ≡ v
 one-byte [] e = absurd (omega arith)
@@ -155,26 +184,32 @@ setting-bytes v bs six =
     ap₂ (λ (x y : List ℕ). getD v 0 0 ∷ (getD v 1 0 ∷ (x ++ y))) (weight-bytes v 2 bs (omega arith)) (weight-bytes v 4 bs (omega arith) ∙ to-the-end v 4 2 (omega arith))
     ∙ sym (drop-cons v 0 0 (omega arith) ∙ ap (λ (l : List ℕ). getD v 0 0 ∷ l) (drop-cons v 1 0 (omega arith) ∙ ap (λ (l : List ℕ). getD v 1 0 ∷ l) (part-split v 2 2)))
 
-frame-bytes : (v : List ℕ) → Bytes v → length v ≡ 12 → bytes 4 (number (part 0 4 v)) ++ dataIn v ≡ v
-frame-bytes v bs e =
-    ap₂ (λ (x y : List ℕ). x ++ y) (sym (part-number v 0 4 bs (omega arith))) (to-the-end v 4 8 (omega arith)) ∙ sym (part-split v 0 4)
+-- A frame up to the end.
+frame-bytes : (v : List ℕ) (at : ℕ) → Bytes v → at + 12 ≡ length v → bytes 4 (number (part at 4 v)) ++ part (at + 4) 8 v ≡ drop at v
+frame-bytes v at bs e =
+    ap₂ (λ (x y : List ℕ). x ++ y) (sym (part-number v at 4 bs (omega arith))) (to-the-end v (at + 4) 8 (omega arith)) ∙ sym (part-split v at 4)
+
+timed-bytes : (v : List ℕ) → Bytes v → length v ≡ 16 → bytes 4 (number (part 0 4 v)) ++ (bytes 4 (number (part 4 4 v)) ++ part 8 8 v) ≡ v
+timed-bytes v bs e =
+    ap₂ (λ (x y : List ℕ). x ++ y) (sym (part-number v 0 4 bs (omega arith))) (frame-bytes v 4 bs (omega arith)) ∙ sym (part-split v 0 4)
 
 -- A known tag and value is what is written for the item that it says.
-pub read-back : (tag : ℕ) (v : List ℕ) → Bytes v → (itemIn tag v ≡ Unknown → ⊥) → (tagOf (itemIn tag v) ≡ tag) × (valueOf (itemIn tag v) (dataIn v) ≡ v)
+pub read-back : (tag : ℕ) (v : List ℕ) → Bytes v → (itemIn tag v ≡ Unknown → ⊥) → (tagOf (itemIn tag v) ≡ tag) × (valueOf (itemIn tag v) (dataOf (itemIn tag v) v) ≡ v)
 read-back tag v bs =
-    by-cases (λ i. (i ≡ Unknown → ⊥) → (tagOf i ≡ tag) × (valueOf i (dataIn v) ≡ v)) tag v
+    by-cases (λ i. (i ≡ Unknown → ⊥) → (tagOf i ≡ tag) × (valueOf i (dataOf i v) ≡ v)) tag v
     (λ t e k. (sym t, sym (part-number v 0 2 bs (omega arith)) ∙ to-the-end v 0 2 (omega arith)))
     (λ t e k. (sym t, setting-bytes v bs e))
-    (λ t e k. (sym t, frame-bytes v bs e))
+    (λ t e k. (sym t, frame-bytes v 0 bs (omega arith)))
     (λ t e k. (sym t, one-byte v e))
     (λ t e k. (sym t, one-byte v e))
+    (λ t e k. (sym t, timed-bytes v bs e))
     (λ k. absurd (k refl))
 
--- No value that is empty or of more than 12 bytes is known.
-pub long-unknown : (tag : ℕ) (v : List ℕ) → 12 < length v → itemIn tag v ≡ Unknown
+-- No value that is empty or of more than 16 bytes is known.
+pub long-unknown : (tag : ℕ) (v : List ℕ) → 16 < length v → itemIn tag v ≡ Unknown
 long-unknown tag v h =
-    by-cases (λ i. i ≡ Unknown) tag v (λ t e. absurd (omega arith)) (λ t e. absurd (omega arith)) (λ t e. absurd (omega arith)) (λ t e. absurd (omega arith)) (λ t e. absurd (omega arith)) refl
+    by-cases (λ i. i ≡ Unknown) tag v (λ t e. absurd (omega arith)) (λ t e. absurd (omega arith)) (λ t e. absurd (omega arith)) (λ t e. absurd (omega arith)) (λ t e. absurd (omega arith)) (λ t e. absurd (omega arith)) refl
 
 pub empty-unknown : (tag : ℕ) → itemIn tag [] ≡ Unknown
 empty-unknown tag =
-    by-cases (λ i. i ≡ Unknown) tag [] (λ t e. absurd (omega arith)) (λ t e. absurd (omega arith)) (λ t e. absurd (omega arith)) (λ t e. absurd (omega arith)) (λ t e. absurd (omega arith)) refl
+    by-cases (λ i. i ≡ Unknown) tag [] (λ t e. absurd (omega arith)) (λ t e. absurd (omega arith)) (λ t e. absurd (omega arith)) (λ t e. absurd (omega arith)) (λ t e. absurd (omega arith)) (λ t e. absurd (omega arith)) refl

@@ -10,7 +10,7 @@ use Rattle.wire.specs.Bytes.{bytes, head, field, part, fieldAt}
 use Rattle.wire.specs.declared.Field.the-variants.{Whole}
 use Rattle.wire.proofs.Fields.{length-field, written-stands, stands-facts, whole, cut-short}
 use Rattle.items.specs.declared.Item.{Item}
-use Rattle.items.specs.declared.Item.the-variants.{Window, Set, Frame, Remove, Show, Unknown}
+use Rattle.items.specs.declared.Item.the-variants.{Window, Set, Frame, Remove, Show, Timed, Unknown}
 use Rattle.items.specs.Items.{settingBytes, tagOf, valueOf}
 use Rattle.items.specs.Run.{Meant, meantBy, runBytes, firstThen, itemsIn, readItems}
 use Rattle.items.proofs.Reading.{Fits, written-back}
@@ -40,6 +40,7 @@ value-short (Set s) ds fits = omega arith
 value-short (Frame id) ds fits = omega (arith, fits .1)
 value-short (Remove slot) ds fits = omega arith
 value-short (Show slot) ds fits = omega arith
+value-short (Timed time id) ds fits = omega (arith, fits .2)
 value-short Unknown ds fits = omega arith
 
 abbrev pub AllFit : List Meant → Type 0

@@ -20,18 +20,26 @@ pub setting-stored : (s : Setting) {a b : ℕ} {b₁ b₂ b₃ b₄ : List ℕ} 
 unfolding settingBytes bytes
 setting-stored s e f e₁ e₂ e₃ e₄ = rw (e₄, e₃, e₂, e₁, e, f)
 
--- A frame's tag, length, identifier and data.
-pub frame-stored : (b : List ℕ) {b₁ b₂ b₃ b₄ : List ℕ} (at id : ℕ) (d : List ℕ) → b₁ ≡ set b at 18 → b₂ ≡ sets b₁ (at + 1) (bytes 2 ((4 + length d) % 65536))
-    → b₃ ≡ sets b₂ (at + 3) (bytes 4 id) → b₄ ≡ sets b₃ (at + 3 + 4) d → b₄ ≡ sets b at (field 18 (bytes 4 id ++ d))
-frame-stored b {b₁} {b₂} {b₃} {b₄} at id d e₁ e₂ e₃ e₄ =
-    let value = bytes 4 id ++ d in
-    let long : length value ≡ 4 + length d = omega (arith, length-append (bytes 4 id) d, length-bytes 4 id) in
-    let row : b₄ ≡ sets b₂ (at + 3) value =
-    rw (e₄, e₃, sets-append b₂ (at + 3) (bytes 4 id) d, length-bytes 4 id) in
-    put-value b at 18 ((4 + length d) % 65536) value (head-low 18 (4 + length d) ∙ ap (head 18) (sym long)) (put-tag b at 18 ((4 + length d) % 65536) e₁ e₂) row
+-- A frame's tag and length, the bytes before its identifier, the identifier and the data.
+pub frame-stored : (b : List ℕ) {b₁ b₂ b₃ b₄ b₅ : List ℕ} (at tag : ℕ) (w : List ℕ) (id : ℕ) (d : List ℕ) → b₁ ≡ set b at tag
+    → b₂ ≡ sets b₁ (at + 1) (bytes 2 ((length w + 4 + length d) % 65536)) → b₃ ≡ sets b₂ (at + 3) w → b₄ ≡ sets b₃ (at + 3 + length w) (bytes 4 id)
+    → b₅ ≡ sets b₄ (at + 3 + length w + 4) d → b₅ ≡ sets b at (field tag (w ++ (bytes 4 id ++ d)))
+frame-stored b {b₁} {b₂} {b₃} {b₄} {b₅} at tag w id d e₁ e₂ e₃ e₄ e₅ =
+    let value = w ++ (bytes 4 id ++ d) in
+    let size = length w + 4 + length d in
+    let long : length value ≡ size = omega (arith, length-append w (bytes 4 id ++ d), length-append (bytes 4 id) d, length-bytes 4 id) in
+    let row : b₅ ≡ sets b₂ (at + 3) value =
+    rw (e₅, e₄, e₃, sets-append b₂ (at + 3) w (bytes 4 id ++ d), sets-append (sets b₂ (at + 3) w) (at + 3 + length w) (bytes 4 id) d, length-bytes 4 id) in
+    put-value b at tag (size % 65536) value (head-low tag size ∙ ap (head tag) (sym long)) (put-tag b at tag (size % 65536) e₁ e₂) row
 
+-- The bytes of a frame's item, without a time and with one.
 pub frame-long : (id : ℕ) (d : List ℕ) → length (field 18 (bytes 4 id ++ d)) ≡ 3 + 4 + length d
 frame-long id d = omega (arith, length-field 18 (bytes 4 id ++ d), length-append (bytes 4 id) d, length-bytes 4 id)
+
+pub timed-long : (time id : ℕ) (d : List ℕ) → length (field 21 (bytes 4 time ++ (bytes 4 id ++ d))) ≡ 3 + 4 + 4 + length d
+timed-long time id d =
+    let frame = bytes 4 id ++ d in
+    omega (arith, length-field 21 (bytes 4 time ++ frame), length-append (bytes 4 time) frame, length-bytes 4 time, length-append (bytes 4 id) d, length-bytes 4 id)
 
 -- An item is what its variant says.
 pub put-is : (self v : Item) (d room : List ℕ) (at : ℕ) {n : ℕ} {left : List ℕ} → self ≡ v

@@ -1,5 +1,5 @@
--- The log's items (docs/RULES.md, rule 11.1): a window, a question that is set, a frame, a question that is removed, a list that is
--- shown, each with its tag, its length and its value.
+-- The log's items (docs/RULES.md, rules 11.1 and 15.1): a window, a question that is set, a frame without a time and with one, a question that is
+-- removed, a list that is shown, each with its tag, its length and its value.
 use Prim.Native.Nat.{ℕ, _-_}
 use mathlib.Core.List.{List, [], _∷_, _++_}
 use mathlib.Core.Bool.{Bool, cond, _&&_}
@@ -9,7 +9,7 @@ use lib.IntN.{ℤ, pos, negsuc}
 use Rattle.wire.specs.Bytes.{number, bytes, part, field}
 use Rattle.items.specs.declared.Setting.{Setting}
 use Rattle.items.specs.declared.Item.{Item}
-use Rattle.items.specs.declared.Item.the-variants.{Window, Set, Frame, Remove, Show, Unknown}
+use Rattle.items.specs.declared.Item.the-variants.{Window, Set, Frame, Remove, Show, Timed, Unknown}
 
 -- A number with a sign in two bytes: what they stand for, and the other way.
 unfoldable pub signed16 : ℕ → ℤ
@@ -32,15 +32,17 @@ tagOf (Set s) = 17
 tagOf (Frame id) = 18
 tagOf (Remove slot) = 19
 tagOf (Show slot) = 20
+tagOf (Timed time id) = 21
 tagOf Unknown = 0
 
--- Its value. A frame's data bytes stand beside the item; in the log they follow the identifier (rule 10.2).
+-- Its value. A frame's data bytes stand beside the item; in the log they follow the identifier (rule 10.2), and a time stands before that (rule 15.1).
 abbrev pub valueOf : Item → List ℕ → List ℕ
 valueOf (Window n) ds = bytes 2 n
 valueOf (Set s) ds = settingBytes s
 valueOf (Frame id) ds = bytes 4 id ++ ds
 valueOf (Remove slot) ds = slot ∷ []
 valueOf (Show slot) ds = slot ∷ []
+valueOf (Timed time id) ds = bytes 4 time ++ (bytes 4 id ++ ds)
 valueOf Unknown ds = []
 
 -- Its bytes: a tagged field.
@@ -57,9 +59,15 @@ isItem tag v want size = eqb tag want && eqb (length v) size
 abbrev pub settingIn : List ℕ → Setting
 settingIn v = record { slot = getD v 0 0; k = getD v 1 0; loss = signed16 (number (part 2 2 v)); shake = signed16 (number (part 4 2 v)) }
 
--- The data bytes in a frame's value.
-abbrev pub dataIn : List ℕ → List ℕ
-dataIn v = part 4 8 v
+-- The data bytes in the value of an item: a frame's follow its identifier, and this the time if it has one. Other items have none.
+abbrev pub dataOf : Item → List ℕ → List ℕ
+dataOf (Window n) v = []
+dataOf (Set s) v = []
+dataOf (Frame id) v = part 4 8 v
+dataOf (Remove slot) v = []
+dataOf (Show slot) v = []
+dataOf (Timed time id) v = part 8 8 v
+dataOf Unknown v = []
 
 -- What an item of this tag and value says; any other tag, or another length, is unknown.
 unfoldable pub itemIn : ℕ → List ℕ → Item
@@ -69,4 +77,5 @@ itemIn tag v =
     (cond (isItem tag v 18 12) (Frame (number (part 0 4 v)))
     (cond (isItem tag v 19 1) (Remove (getD v 0 0))
     (cond (isItem tag v 20 1) (Show (getD v 0 0))
-    Unknown))))
+    (cond (isItem tag v 21 16) (Timed (number (part 0 4 v)) (number (part 4 4 v)))
+    Unknown)))))

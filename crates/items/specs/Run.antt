@@ -6,22 +6,12 @@ use Rattle.wire.specs.Bytes.{part, fieldAt}
 use Rattle.wire.specs.declared.Field.{Field}
 use Rattle.wire.specs.declared.Field.the-variants.{Whole, Cut}
 use Rattle.items.specs.declared.Item.{Item}
-use Rattle.items.specs.declared.Item.the-variants.{Window, Set, Frame, Remove, Show, Unknown}
-use Rattle.items.specs.Items.{itemBytes, dataIn, itemIn}
+use Rattle.items.specs.Items.{itemBytes, dataOf, itemIn}
 
 -- An item whole: what it says, and the data bytes of a frame; other items have none.
 pub record Meant : Type 0 where
   pub item : Item
   pub data-bytes : List ℕ
-
--- The data bytes that belong to an item with this value.
-abbrev pub dataOf : Item → List ℕ → List ℕ
-dataOf (Window n) v = []
-dataOf (Set s) v = []
-dataOf (Frame id) v = dataIn v
-dataOf (Remove slot) v = []
-dataOf (Show slot) v = []
-dataOf Unknown v = []
 
 -- What is meant by a tag and a value.
 abbrev pub meantBy : ℕ → List ℕ → Meant

@@ -3,11 +3,12 @@
 ghost use mathlib.Core.Path.{_≡_};
 ghost use mathlib.Core.Bool.{_&&_};
 ghost use mathlib.Core.List.{[], _∷_, _++_};
+ghost use Prim.Native.Nat.{_≤_};
 ghost use lib.Dec.{eqb};
 ghost use lib.ListN.{length};
 ghost use lib.Seq.{sets};
-ghost use Rattle.wire.specs.Bytes.{bytes, field};
-ghost use Rattle.items.specs.Items.{signed16, unsigned16, settingIn, settingBytes, dataIn, itemIn, itemBytes};
+ghost use Rattle.wire.specs.Bytes.{bytes, part, field};
+ghost use Rattle.items.specs.Items.{signed16, unsigned16, settingIn, settingBytes, dataOf, itemIn, itemBytes};
 use wire::Field;
 
 // A question that is to be set: its slot, its k and its weights.
@@ -18,14 +19,16 @@ pub struct Setting {
     pub shake: i16,
 }
 
-// An item by what it says: the size of the window, a question, a frame's identifier, a slot to empty, a slot to show. A
-// frame's data bytes stay where they are, behind the identifier. An unknown tag, or a length that isn't its tag's, is unknown.
+// An item by what it says: the size of the window, a question, a frame's identifier, a slot to empty, a slot to show, the time
+// and the identifier of a frame that has a time. A frame's data bytes stay where they are, behind the identifier. An unknown
+// tag, or a length that isn't its tag's, is unknown.
 pub enum Item {
     Window(u16),
     Set(Setting),
     Frame(u32),
     Remove(u8),
     Show(u8),
+    Timed(u32, u32),
     Unknown,
 }
 
@@ -41,6 +44,8 @@ impl Item {
 
     pub const SHOW: u8 = 20;
 
+    pub const TIMED: u8 = 21;
+
     // The lengths of their values.
     pub const WINDOW_SIZE: usize = 2;
 
@@ -52,14 +57,21 @@ impl Item {
 
     pub const SHOW_SIZE: usize = 1;
 
-    // The longest value of a known item.
-    pub const LONGEST: usize = 12;
+    pub const TIMED_SIZE: usize = 16;
 
-    // Where the data bytes stand in a frame's value.
+    // The longest value of a known item.
+    pub const LONGEST: usize = 16;
+
+    // Where the data bytes stand in a frame's value, behind its time if it has one.
     pub const DATA: usize = 4;
 
-    // The bytes of a frame's item: tag, length and value.
+    // The bytes of a time, which stands before the frame.
+    pub const TIME: usize = 4;
+
+    // The bytes of a frame's item, without a time and with one: tag, length and value.
     pub const FRAME_BYTES: usize = 15;
+
+    pub const TIMED_BYTES: usize = 19;
 
     // What an item of this tag and value says.
     pub fn read(tag: u8, value: &[u8]) -> Item
@@ -81,17 +93,21 @@ impl Item {
         if is_item(tag, size, Item::SHOW, Item::SHOW_SIZE) {
             return Item::Show(wire::byte(value, 0));
         }
+        if is_item(tag, size, Item::TIMED, Item::TIMED_SIZE) {
+            return Item::Timed(wire::read32(value, 0), wire::read32(value, Item::TIME));
+        }
         Item::Unknown
     }
 
-    // The data bytes in a frame's value.
-    pub fn data_in(value: &[u8]) -> &[u8]
-        ensures { λ r. ⌜ now r ≡ dataIn (now (value .entry)) ⌝ }
+    // The data bytes in the value of this item: a frame's, and none of any other.
+    pub fn data_in(self, value: &[u8]) -> &[u8]
+        ensures { λ r. ⌜ now r ≡ dataOf self (now (value .entry)) ⌝ }
     {
-        if value.len() < Item::DATA {
-            return &value[value.len()..];
+        match self {
+            Item::Frame(_) => eight_at(value, Item::DATA),
+            Item::Timed(_, _) => eight_at(value, Item::TIME + Item::DATA),
+            _ => wire::front(value, 0),
         }
-        wire::front(&value[Item::DATA..], Item::FRAME_SIZE - Item::DATA)
     }
 
     // Stores the item from `at` on, with `data` behind the identifier of a frame, and answers how many bytes it takes; what
@@ -110,7 +126,7 @@ impl Item {
                 Field::HEAD + Item::SET_SIZE
             }
             Item::Frame(id) => {
-                put_frame(room, at, id, data);
+                put_frame(room, at, Item::FRAME, wire::front(data, 0), id, data);
                 Field::HEAD + Item::DATA + data.len()
             }
             Item::Remove(slot) => {
@@ -120,6 +136,10 @@ impl Item {
             Item::Show(slot) => {
                 put_slot(room, at, Item::SHOW, slot);
                 Field::HEAD + Item::SHOW_SIZE
+            }
+            Item::Timed(time, id) => {
+                put_timed(room, at, time, id, data);
+                Field::HEAD + Item::TIME + Item::DATA + data.len()
             }
             Item::Unknown => {
                 wire::put_field(room, at, 0, wire::front(data, 0));
@@ -152,6 +172,16 @@ fn is_item(tag: u8, size: usize, want: u8, wanted: usize) -> bool
     ensures { λ r. ⌜ r ≡ (eqb tag want && eqb size wanted) ⌝ }
 {
     tag == want && size == wanted
+}
+
+// The eight bytes at a place, or those that there are.
+fn eight_at(value: &[u8], at: usize) -> &[u8]
+    ensures { λ r. ⌜ now r ≡ part at 8 (now (value .entry)) ⌝ }
+{
+    if value.len() < at {
+        return &value[value.len()..];
+    }
+    wire::front(&value[at..], Item::FRAME_SIZE - Item::DATA)
 }
 
 // The signed number that two bytes stand for, by the number that they stand for without a sign.
@@ -189,16 +219,29 @@ fn put_setting(room: &mut [u8], at: usize, s: Setting)
     wire::put_field(room, at, Item::SET, &value);
 }
 
-// Stores an item that is a frame.
-fn put_frame(room: &mut [u8], at: usize, id: u32, data: &[u8])
-    ensures { λ _. ⌜ now (room .exit) ≡ sets (now (room .entry)) at (field 18 (bytes 4 id ++ now («data» .entry))) ⌝ }
+// Stores an item that is a frame, with `first` before its identifier: the bytes of its time, or none.
+fn put_frame(room: &mut [u8], at: usize, tag: u8, first: &[u8], id: u32, data: &[u8])
+    requires { ⌜ length (now first) ≤ 4 ⌝ }
+    ensures { λ _. ⌜ now (room .exit) ≡ sets (now (room .entry)) at (field tag (now (first .entry) ++ (bytes 4 id ++ now («data» .entry)))) ⌝ }
 {
     if at < room.len() {
-        wire::put(room, at, Item::FRAME);
-        wire::put16(room, at + 1, ((Item::DATA + data.len()) % 65536) as u16);
-        wire::put32(room, at + Field::HEAD, id);
-        wire::put_all(room, at + Field::HEAD + Item::DATA, data);
+        let start = at + Field::HEAD;
+        let size = first.len() + Item::DATA + data.len();
+        wire::put(room, at, tag);
+        wire::put16(room, at + 1, (size % 65536) as u16);
+        wire::put_all(room, start, first);
+        wire::put32(room, start + first.len(), id);
+        wire::put_all(room, start + first.len() + Item::DATA, data);
     }
+}
+
+// Stores an item that is a frame with a time.
+fn put_timed(room: &mut [u8], at: usize, time: u32, id: u32, data: &[u8])
+    ensures { λ _. ⌜ now (room .exit) ≡ sets (now (room .entry)) at (field 21 (bytes 4 time ++ (bytes 4 id ++ now («data» .entry)))) ⌝ }
+{
+    let mut first = [0u8; Item::TIME];
+    wire::put32(&mut first, 0, time);
+    put_frame(room, at, Item::TIMED, &first, id, data);
 }
 
 // Stores an item that names a slot.

@@ -1,7 +1,7 @@
 -- What a frame does to a fit session, case by case: the tests of the definition, taken in their order.
 -- Assumes nothing.
 use mathlib.Core.Path.{_≡_, refl, sym, _∙_}
-use mathlib.Core.Bool.{Bool, true, false, cond, not, _||_, false≢true, or-true, and-false}
+use mathlib.Core.Bool.{Bool, true, false, not, _||_, false≢true, or-true, and-false}
 use mathlib.Core.Logic.{_⊎_, inl, inr}
 use Prim.Native.Nat.{ℕ, _≤_, _<_}
 use native.Mathlib.Omega.{arith}
@@ -11,10 +11,10 @@ use lib.Dec.{lit≤, ltb, eqb}
 use Rattle.wire.specs.Bytes.{number, part}
 use Rattle.joining.specs.declared.Session.{Session}
 use Rattle.joining.specs.declared.Answer.the-variants.{Kept}
-use Rattle.joining.specs.Frame.{Frame, senderOf, destinationOf, zeroBitsOf, frameRefusal, isAnnouncement, isPacket, foreign, malformed}
+use Rattle.joining.specs.Frame.{Frame, destinationOf, zeroBitsOf, frameRefusal, isAnnouncement, isPacket, foreign}
 use Rattle.joining.specs.Joining.{carries, fit, closed, opened, stored, advanced, finishes, refused, sizeIn, sound, announcementRefusal, announce, packet, take-frame}
 use Rattle.joining.specs.Run.{soloStep, isPassedOver, Announces, Numbered}
-use Rattle.joining.proofs.Frames.{sound-frame}
+use Rattle.joining.proofs.Frames.{sound-frame, frame-refusals}
 
 -- Refused 1 to 4; refused and closed; a packet with no open session; a good announcement; the next packet; the last one.
 pub data Case (s : Session) (f : Frame) : Type 0 where
@@ -38,16 +38,6 @@ other-format id = go (not (eqb (zeroBitsOf id) 0)) (isAnnouncement id) (isPacket
     go x true false h e = absurd (false≢true (sym e))
     go true false false h e = absurd (false≢true (sym h))
     go false false false h e = absurd (false≢true (sym h))
-
-frame-refusals : (f : Frame) → frameRefusal (f .identifier) (f .data-bytes) ≤ 3
-unfolding frameRefusal
-frame-refusals f = go (malformed (f .identifier) (f .data-bytes)) (foreign (f .identifier)) (ltb 253 (senderOf (f .identifier)))
-  where
-    go : (a b c : Bool) → cond a 1 (cond b 2 (cond c 3 0)) ≤ 3
-    go true b c = lit≤ tt
-    go false true c = lit≤ tt
-    go false false true = lit≤ tt
-    go false false false = lit≤ tt
 
 module _ (f : Frame) where
   abbrev fine : Bool
@@ -147,7 +137,7 @@ module _ (f : Frame) where
     by-frame false e =
         let n : ℕ = frameRefusal (f .identifier) (f .data-bytes) in
         let low : n ≡ 0 → ⊥ = eqb-false n 0 e in
-        let high : n ≤ 3 = frame-refusals f in
+        let high : n ≤ 3 = frame-refusals (f .identifier) (f .data-bytes) in
         passed n (omega arith) (omega arith) (silent e) (rw e)
 
 pub cases : (s : Session) (f : Frame) → fit s ≡ true → Case s f

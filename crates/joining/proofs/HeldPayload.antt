@@ -1,7 +1,7 @@
 -- The payload of a finished report stands in its session's bytes: opening set them all to 255, and no packet stores past the size, so the
 -- place of the note's tag tells where the payload ends.
 -- Assumes nothing.
-use mathlib.Core.Path.{_≡_, refl, sym, _∙_, ap}
+use mathlib.Core.Path.{_≡_, refl, sym, _∙_}
 use mathlib.Core.Bool.{true}
 use mathlib.Core.Logic.{⊎-elim}
 use mathlib.Core.List.{List, [], _∷_}
@@ -14,18 +14,17 @@ use Rattle.wire.specs.Bytes.{number, part, fieldAt, isField}
 use Rattle.wire.proofs.Numbers.{number-two}
 use Rattle.wire.proofs.Fields.{stands-facts}
 use Rattle.report.specs.declared.Report.{Report}
-use Rattle.report.specs.declared.Reading.{Reading}
 use Rattle.report.specs.declared.Reading.the-variants as reading
 use Rattle.report.specs.Payload.{readPayload}
 use Rattle.report.proofs.Places.{Shown, order-shows}
 use Rattle.report.proofs.Reader.{accepted, order-of}
 use Rattle.joining.specs.declared.Session.{Session}
-use Rattle.joining.specs.declared.Answer.the-variants.{Refused, Kept, Complete}
-use Rattle.joining.specs.declared.Taken.{Taken}
+use Rattle.joining.specs.declared.Answer.the-variants.{Complete}
 use Rattle.joining.specs.Frame.{Frame}
-use Rattle.joining.specs.Joining.{fit, place, stored, yields, sizeHeld, payloadHeld, freshSession}
+use Rattle.joining.specs.Joining.{fit, place, stored, sizeHeld, payloadHeld, freshSession}
 use Rattle.joining.specs.Run.{soloStep, soloSession, freshSessions, sessionOf, sessionsAfterAll, ownFrames}
 use Rattle.joining.proofs.Fitness.{Open, open-numbers, fit-other}
+use Rattle.joining.proofs.Answers.{refuses, keeps, accepts}
 use Rattle.joining.proofs.Cases.{Case, passed, shut, stray, good, next, last, cases}
 use Rattle.joining.proofs.Mixing.{mixing}
 use Rattle.joining.proofs.Reached.{step-fit, fresh-fit, fresh-of}
@@ -108,34 +107,24 @@ module _ (b : List ℕ) (size : ℕ) (long : length b ≡ 84) (within : size ≤
   size-found : Shown (take size b) → sizeHeld b ≡ size
   size-found s = ⊎-elim plain-found (λ w. noted-found (w .0) (w .2)) (s .rest)
 
-read-of : (a : Reading) (r : Report) → yields a ≡ Complete r → a ≡ reading.Accepted r
-read-of (reading.Accepted q) r e = cc
-read-of (reading.Refused n) r e = absurd (let z : _≡_ {A = ℕ} 0 1 = cc in omega arith)
-
 -- Where a frame completes a report, the session's bytes hold the payload that it was read from, so its note is that report's.
 pub held-payload : (s : Session) (f : Frame) (r : Report) → fit s ≡ true → Clean s → soloStep s f .answer ≡ Complete r
     → (payloadHeld (soloStep s f .session .bytes) ≡ take (s .size) (stored s (f .data-bytes))) × (readPayload (payloadHeld (soloStep s f .session .bytes)) ≡ reading.Accepted r)
 unfolding payloadHeld
 held-payload s f r fits c h = go (cases s f fits)
   where
-    refusal : {n : ℕ} → soloStep s f .answer ≡ Refused n → ⊥
-    refusal e = let z : _≡_ {A = ℕ} 0 1 = cc in omega arith
-
-    kept : soloStep s f .answer ≡ Kept → ⊥
-    kept e = let z : _≡_ {A = ℕ} 0 1 = cc in omega arith
-
     go : Case s f
         → (payloadHeld (soloStep s f .session .bytes) ≡ take (s .size) (stored s (f .data-bytes))) × (readPayload (payloadHeld (soloStep s f .session .bytes)) ≡ reading.Accepted r)
-    go (passed n l u p e) = absurd (refusal (ap (λ (t : Taken). t .answer) e))
-    go (shut n p e) = absurd (refusal (ap (λ (t : Taken). t .answer) e))
-    go (stray p z e) = absurd (refusal (ap (λ (t : Taken). t .answer) e))
-    go (good p k a e) = absurd (kept (ap (λ (t : Taken). t .answer) e))
-    go (next p o n l e) = absurd (kept (ap (λ (t : Taken). t .answer) e))
+    go (passed n l u p e) = absurd (refuses n (rw e at h))
+    go (shut n p e) = absurd (refuses n (rw e at h))
+    go (stray p z e) = absurd (refuses 8 (rw e at h))
+    go (good p k a e) = absurd (keeps (rw e at h))
+    go (next p o n l e) = absurd (keeps (rw e at h))
     go (last p o n l e) =
         let b = stored s (f .data-bytes) in
         let open-s = open-numbers s (sym (fit-other s o) ∙ fits) in
         let read : readPayload (take (s .size) b) ≡ reading.Accepted r =
-        read-of (readPayload (take (s .size) b)) r (sym (ap (λ (t : Taken). t .answer) e) ∙ h) in
+        accepts r (readPayload (take (s .size) b)) (rw e at h) in
         let shown = order-shows (take (s .size) b) (order-of (take (s .size) b) (accepted (take (s .size) b) read .0)) in
         let long : length b ≡ 84 = length-sets (s .bytes) (place s) (take (s .size - place s) (drop 1 (f .data-bytes))) ∙ c .long in
         let size : sizeHeld b ≡ s .size =

@@ -13,17 +13,16 @@ use lib.Dec.{ltb, eqb}
 use Rattle.wire.specs.Bytes.{part}
 use Rattle.report.specs.Payload.{readPayload, reportIn}
 use Rattle.report.specs.declared.Report.{Report}
-use Rattle.report.specs.declared.Reading.{Reading}
-use Rattle.report.specs.declared.Reading.the-variants as reading
 use Rattle.report.proofs.Reader.{accepted}
 use Rattle.joining.specs.declared.Session.{Session}
 use Rattle.joining.specs.declared.Answer.{Answer}
-use Rattle.joining.specs.declared.Answer.the-variants.{Refused, Kept, Complete}
+use Rattle.joining.specs.declared.Answer.the-variants.{Refused, Complete}
 use Rattle.joining.specs.Frame.{Frame, senderOf, frameRefusal}
-use Rattle.joining.specs.Joining.{packets, freshSession, isClosed, fit, opened, place, stored, advanced, yields}
+use Rattle.joining.specs.Joining.{packets, freshSession, isClosed, fit, opened, place, stored, advanced}
 use Rattle.joining.specs.Run.{freshSessions, sessionOf, sessionsAfter, answerTo, sessionsAfterAll, answersToAll, soloStep, soloSession, ownFrames, OfSender, isPassedOver, heard, Announces, Numbered, InSequence, joined, Sent}
 use Rattle.joining.proofs.Fitness.{Open}
 use Rattle.joining.proofs.Frames.{sound-frame}
+use Rattle.joining.proofs.Answers.{refuses, keeps, accepts}
 use Rattle.joining.proofs.Mixing.{mixing, own-answer}
 use Rattle.joining.proofs.Cases.{Case, passed, shut, stray, good, next, last, cases}
 use Rattle.joining.proofs.Reached.{fit-open, step-fit, solo-fit, fresh-of}
@@ -187,16 +186,6 @@ solo-traced s (f ∷ fs) h fits t =
 complete : (s : Session) (own : List Frame) (f : Frame) (r : Report) → fit s ≡ true → Traced s (heard own) → soloStep s f .answer ≡ Complete r → Sent own f r
 complete s own f r fits t done = go (cases s f fits)
   where
-    refuses : (n : ℕ) → Refused n ≡ Complete r → ⊥
-    refuses n e = let z : _≡_ {A = ℕ} 0 1 = cc in omega arith
-
-    keeps : Kept ≡ Complete r → ⊥
-    keeps e = let z : _≡_ {A = ℕ} 0 1 = cc in omega arith
-
-    accepts : (x : Reading) → yields x ≡ Complete r → x ≡ reading.Accepted r
-    accepts (reading.Accepted q) e = cc
-    accepts (reading.Refused n) e = absurd (refuses n e)
-
     go : Case s f → Sent own f r
     go (passed n l u p e) = absurd (refuses n (rw e at done))
     go (shut n p e) = absurd (refuses n (rw e at done))
@@ -215,7 +204,7 @@ complete s own f r fits t done = go (cases s f fits)
           announces = w .announces;
           sequence = in-order s (heard own) f up w n;
           count = all-packets s (heard own) f up w n m;
-          reads = ap readPayload (sym (ended s (heard own) f up w n m)) ∙ accepts (readPayload (take (s .size) (stored s (f .data-bytes)))) (rw e at done);
+          reads = ap readPayload (sym (ended s (heard own) f up w n m)) ∙ accepts r (readPayload (take (s .size) (stored s (f .data-bytes)))) (rw e at done);
         }
 
 -- One sender's frames fs at a closed session, and then f: where f yields a report, the announcement and all packets that it was read from are among them.
@@ -256,7 +245,7 @@ known-sender ss f r = go (ltb (senderOf (f .identifier)) 254) refl
         → cond b (soloStep (sessionOf (senderOf (f .identifier)) ss) f .answer) (Refused (frameRefusal (f .identifier) (f .data-bytes))) ≡ Complete r
         → senderOf (f .identifier) < 254
     go true e h = ltb-true _ _ e
-    go false e h = absurd (let z : _≡_ {A = ℕ} 0 1 = cc in omega arith)
+    go false e h = absurd (refuses _ h)
 
 fresh-closed : isClosed freshSession ≡ true
 unfolding isClosed

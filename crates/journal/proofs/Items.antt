@@ -7,14 +7,14 @@ use borrow.Author.Tests.{ne-eqb}
 use lib.ListN.{length}
 use Rattle.items.specs.declared.Item.{Item}
 use Rattle.items.specs.declared.Item.the-variants.{Unknown}
-use Rattle.items.specs.Items.{settingIn, dataIn, itemIn}
-use Rattle.items.proofs.Reading.{set-read, frame-read, remove-read, show-read}
+use Rattle.items.specs.Items.{settingIn, dataOf, itemIn}
+use Rattle.items.proofs.Reading.{set-read, frame-read, remove-read, show-read, timed-read}
 use Rattle.board.proofs.Refusals.{zero-is}
 use Rattle.journal.specs.declared.Log.{Log}
-use Rattle.journal.specs.Log.{withItem, refused, unless, early, itemRefusal, setItem, removeItem, showItem, frameIn, frameItem, byItem, itemDone}
+use Rattle.journal.specs.Log.{withItem, refused, unless, early, itemRefusal, setItem, removeItem, showItem, frameIn, timedIn, frameItem, byItem, itemDone}
 
 -- An item that isn't refused before its call.
-pub done-by : (log : Log) (tag : ℕ) (v : List ℕ) {i : Item} → itemIn tag v ≡ i → itemRefusal (withItem log) i ≡ 0 → itemDone log tag v ≡ byItem (withItem log) i (dataIn v)
+pub done-by : (log : Log) (tag : ℕ) (v : List ℕ) {i : Item} → itemIn tag v ≡ i → itemRefusal (withItem log) i ≡ 0 → itemDone log tag v ≡ byItem (withItem log) i (dataOf i v)
 unfolding itemDone unless
 done-by log tag v e passes = rw e (zero-is _ _ passes)
 
@@ -33,6 +33,10 @@ module _ (log : Log) (there : log .board .window .counts .size ≡ 0 → ⊥) wh
   pub frame-done : (v : List ℕ) → length v ≡ 12 → itemDone log 18 v ≡ frameItem (withItem log) (frameIn v)
   unfolding itemRefusal byItem
   frame-done v e = done-by log 18 v (frame-read v e) in-place
+
+  pub timed-done : (v : List ℕ) → length v ≡ 16 → itemDone log 21 v ≡ frameItem (withItem log) (timedIn v)
+  unfolding itemRefusal byItem
+  timed-done v e = done-by log 21 v (timed-read v e) in-place
 
   pub remove-done : (slot : ℕ) → itemDone log 19 (slot ∷ []) ≡ removeItem (withItem log) slot
   unfolding itemRefusal byItem

@@ -7,30 +7,17 @@ use lib.ListN.{length, drop}
 use Rattle.wire.specs.Bytes.{part, fieldAt}
 use Rattle.wire.specs.declared.Field.{Field}
 use Rattle.wire.specs.declared.Field.the-variants.{Whole, Cut}
-use Rattle.items.specs.declared.Item.{Item}
-use Rattle.items.specs.declared.Item.the-variants.{Window, Set, Frame, Remove, Show, Unknown}
-use Rattle.items.specs.Items.{dataIn, itemIn}
 use Rattle.items.specs.Run as items
-use Rattle.items.specs.Run.{Meant, dataOf, meantBy, runBytes, itemsIn, readItems}
+use Rattle.items.specs.Run.{Meant, meantBy, runBytes, itemsIn, readItems}
 use Rattle.items.proofs.Runs.{AllFit, reads-back}
 use Rattle.journal.specs.declared.Log.{Log}
 use Rattle.journal.specs.Log as log
-use Rattle.journal.specs.Log.{Outcome, withItem, unless, itemRefusal, byItem, itemDone, consumed}
+use Rattle.journal.specs.Log.{Outcome, itemDone, consumed}
 use Rattle.journal.specs.Meaning.{meantDone, runDone}
-
--- Only a frame has data bytes.
-own-data : (l : Log) (i : Item) (v : List ℕ) → byItem l i (dataIn v) ≡ byItem l i (dataOf i v)
-unfolding byItem
-own-data l (Window n) v = refl
-own-data l (Set s) v = refl
-own-data l (Frame id) v = refl
-own-data l (Remove slot) v = refl
-own-data l (Show slot) v = refl
-own-data l Unknown v = refl
 
 done-as-meant : (l : Log) (tag : ℕ) (v : List ℕ) → itemDone l tag v ≡ meantDone l (meantBy tag v)
 unfolding itemDone
-done-as-meant l tag v = ap (unless (withItem l) (itemRefusal (withItem l) (itemIn tag v))) (own-data (withItem l) (itemIn tag v) v)
+done-as-meant l tag v = refl
 
 -- What whole items bring, as an outcome.
 abbrev brought : log.Consumed → Outcome

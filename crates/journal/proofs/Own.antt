@@ -1,8 +1,8 @@
--- What a log holds is its own: its board has no window yet, or was reached by the board's calls and is fit, and its sessions were reached by its frames, whose reports are those that
--- entered. Every item keeps that, and prints what such a state can print.
+-- What a log holds is its own: its board has no window yet, or was reached by the board's calls and is fit, and its sessions and last times were reached by its frames, whose reports are
+-- those that entered. Every item keeps that, and prints what such a state can print.
 -- Assumes nothing.
 use mathlib.Core.Path.{_≡_, refl, sym, ap, _∙_, subst}
-use mathlib.Core.Logic.{inl}
+use mathlib.Core.Logic.{_⊎_, inl, inr}
 use mathlib.Core.Bool.{Bool, true, false, cond, _&&_, false≢true}
 use mathlib.Core.List.{List, [], _∷_, _++_, append-nil}
 use Prim.Native.Nat.{ℕ, _≤_, _<_}
@@ -46,13 +46,12 @@ use Rattle.board.proofs.Demands.{reached-fit}
 use Rattle.board.proofs.Fit.{fit-set, fit-remove, fit-enter}
 use Rattle.board.proofs.Known.{set-known, remove-known, enter-known}
 use Rattle.report.specs.declared.Report.{Report}
-use Rattle.joining.specs.Frame.{Frame}
-use Rattle.joining.specs.Joining.{fit}
-use Rattle.joining.specs.Run.{freshSessions, sessionsAfter, answerTo, sessionsAfterAll}
-use Rattle.joining.specs.declared.Session.{Session}
 use Rattle.joining.specs.declared.Answer.{Answer}
 use Rattle.joining.specs.declared.Answer.the-variants.{Refused, Kept, Complete}
-use Rattle.joining.proofs.Driving.{sessions-more}
+use Rattle.times.specs.Run.{Timed, Stations, freshStations, stationsAfter, timedAnswer, timedAt, untimedAt, stationsAfterAll}
+use Rattle.times.proofs.Driving.{stations-more}
+use Rattle.times.proofs.Steps.{Named}
+use Rattle.times.proofs.Reached.{reached-named}
 use Rattle.text.specs.Text.{qLine}
 use Rattle.text.specs.Text as text
 use Rattle.text.proofs.Lengths.{listed-in-range}
@@ -60,35 +59,35 @@ use Rattle.items.specs.declared.Setting.{Setting}
 use Rattle.items.specs.declared.Item.{Item}
 use Rattle.items.specs.declared.Item.the-variants.{Window, Set, Remove, Show, Unknown}
 use Rattle.items.specs.declared.Item.the-variants as item
-use Rattle.items.specs.Items.{dataIn, itemIn}
+use Rattle.items.specs.Items.{dataOf, itemIn}
 use Rattle.journal.specs.declared.Log.{Log}
-use Rattle.journal.specs.Log.{Outcome, freshLog, withItem, nextItem, withBoard, withSessions, unless, early, itemRefusal, windowItem, settingRule, setItem, removeItem, showItem, sLines, enterItem, answerItem, frameItem, byItem, itemDone}
+use Rattle.journal.specs.Log.{Outcome, freshLog, withItem, nextItem, stationsOf, withBoard, withStations, unless, early, itemRefusal, windowItem, settingRule, setItem, removeItem, showItem, sLines, enterItem, answerItem, frameItem, byItem, itemDone}
 use Rattle.journal.specs.Reached.{framed, frameOf, enteredBy}
-use Rattle.journal.proofs.Printed.{Prints, nothing, refusal, search, searches, list}
-use Rattle.journal.proofs.Answers.{Fine, answer-fine, none-yet, answer, nothing-more, one-more, enter-refusal, enters-when}
+use Rattle.journal.proofs.Printed.{Code, Prints, nothing, refusal, search, searches, list}
+use Rattle.journal.proofs.Answers.{none-yet, answer, nothing-more, one-more, enter-refusal, enters-when}
 use Rattle.journal.proofs.Shown.{Small, slot-small, map-few}
 
 -- The board that frames lead to.
-pub data Boarded (fs : List Frame) (b : Board) : Type 0 where
+pub data Boarded (fs : List Timed) (b : Board) : Type 0 where
   none : fs ≡ [] → b ≡ freshBoard 0 .board → Boarded fs b
   window : {n : ℕ} {past : List Values} → board.Reached n past b → fitBoard b ≡ true → past ≡ enteredBy fs → Boarded fs b
 
-pub record Own (fs : List Frame) (log : Log) : Type 0 where
+pub record Own (fs : List Timed) (log : Log) : Type 0 where
   pub board-is : Boarded fs (log .board)
-  pub heard : log .sessions ≡ sessionsAfterAll freshSessions fs
+  pub heard : stationsOf log ≡ stationsAfterAll freshStations fs
 
 -- An item's outcome: the log stays its own, and the text is one of those that an item prints.
-pub record Does (fs : List Frame) (item : ℕ) (o : Outcome) : Type 0 where
+pub record Does (fs : List Timed) (item : ℕ) (o : Outcome) : Type 0 where
   pub own : Own fs (o .log)
   pub prints : Prints item (o .text)
 
 -- The two cases of a call.
-module _ {fs : List Frame} (log : Log) (n : ℕ) where
+module _ {fs : List Timed} (log : Log) (n : ℕ) where
   refuses : (done : Outcome) → Own fs log → n ≤ 23 → eqb n 0 ≡ false → Does fs (log .items) (unless log n done)
   unfolding unless
   refuses done own few t =
       let positive = eqb-false n 0 t in
-      subst (Does fs (log .items)) (sym (if-not _ _ t)) (record { own = own; prints = refusal n (omega arith) few refl })
+      subst (Does fs (log .items)) (sym (if-not _ _ t)) (record { own = own; prints = refusal n (inl (omega arith, few)) refl })
 
   does : {done : Outcome} → eqb n 0 ≡ true → Does fs (log .items) done → Does fs (log .items) (unless log n done)
   unfolding unless
@@ -108,7 +107,7 @@ pub fresh-empty : (n slot : ℕ) → slot < 32 → slotAt (freshBoard n .board) 
 unfolding freshBoard
 fresh-empty n slot h = getD-replicate 32 slot emptySlot noQuestion h
 
-window-does : {fs : List Frame} (log : Log) → Own fs log → fs ≡ [] → (n : ℕ) → Does fs (log .items) (windowItem log n)
+window-does : {fs : List Timed} (log : Log) → Own fs log → fs ≡ [] → (n : ℕ) → Does fs (log .items) (windowItem log n)
 unfolding windowItem
 window-does {fs} log own first n = go (tested (eqb (made .refusal) 0))
   where
@@ -163,7 +162,7 @@ module _ (b : Board) {n : ℕ} {past : List Values} (reached : board.Reached n p
   slots-small slot h = slot-small (b .window) (kept reached .since .fit) (slotAt b slot) (slot-fit slot h) (slot-of b (kept reached) slot h)
 
   -- Setting and removing enter nothing.
-  module _ (fs : List Frame) (same : past ≡ enteredBy fs) where
+  module _ (fs : List Timed) (same : past ≡ enteredBy fs) where
     set-board : (slot k : ℕ) (rule : Rule) → Boarded fs (setWork b slot k rule .board)
     set-board slot k rule = subst (λ (r : Placed). Boarded fs (r .board)) (set-known b fits slot k rule) (window (board.set reached slot k rule) (fit-set b (kept reached) fits slot k rule) same)
 
@@ -171,7 +170,7 @@ module _ (b : Board) {n : ℕ} {past : List Values} (reached : board.Reached n p
     remove-board slot = subst (λ (r : Removed). Boarded fs (r .board)) (remove-known b fits slot) (window (board.remove reached slot) (fit-remove b (kept reached) fits slot) same)
 
     -- A completed report enters as the frames' next one.
-    enter-board : (f : Frame) (r : Report) → answer fs f ≡ Complete r → inRange (r .values) ≡ true → Boarded (fs ++ f ∷ []) (enterWork b (r .values) .board)
+    enter-board : (f : Timed) (r : Report) → answer fs f ≡ Complete r → inRange (r .values) ≡ true → Boarded (fs ++ f ∷ []) (enterWork b (r .values) .board)
     enter-board f r e may =
         let v : Values = r .values in
         let known = enter-known b fits v in
@@ -184,7 +183,7 @@ module _ (b : Board) {n : ℕ} {past : List Values} (reached : board.Reached n p
         ∙ ap (λ (l : List Values). cond (ltb (length l) 1000000) (l ++ v ∷ []) l) same ∙ sym (one-more fs f r e)))
 
 -- The items of a log by what its board's calls leave.
-module _ (fs : List Frame) (log : Log) (heard : log .sessions ≡ sessionsAfterAll freshSessions fs) where
+module _ (fs : List Timed) (log : Log) (heard : stationsOf log ≡ stationsAfterAll freshStations fs) where
   abbrev b : Board
   b = log .board
 
@@ -269,22 +268,26 @@ module _ (fs : List Frame) (log : Log) (heard : log .sessions ≡ sessionsAfterA
 
 -- ---- a frame
 
+named : {n : ℕ} → ((1 ≤ n) × (n ≤ 10)) ⊎ (n ≡ 26) → Code n
+named (inl h) = inl (h .0, omega arith)
+named (inr e) = inr e
+
 -- What a frame's answer brings, to a log whose session has taken the frame.
-module _ (fs : List Frame) (f : Frame) (log : Log) (heard : log .sessions ≡ sessionsAfterAll freshSessions (fs ++ f ∷ [])) {n : ℕ} {past : List Values} (reached : board.Reached n past (log .board))
+module _ (fs : List Timed) (f : Timed) (log : Log) (heard : stationsOf log ≡ stationsAfterAll freshStations (fs ++ f ∷ [])) {n : ℕ} {past : List Values} (reached : board.Reached n past (log .board))
     (fits : fitBoard (log .board) ≡ true) (same : past ≡ enteredBy fs) where
-  answered-does : (a : Answer) → answer fs f ≡ a → Fine a → Does (fs ++ f ∷ []) (log .items) (answerItem log a)
+  answered-does : (a : Answer) → answer fs f ≡ a → Named a → Does (fs ++ f ∷ []) (log .items) (answerItem log a)
   answered-does (Refused m) e h =
-      record { own = record { board-is = window reached fits (same ∙ sym (nothing-more fs f (Refused m) e refl)); heard = heard }; prints = refusal m (h .0) (h .1) refl }
+      record { own = record { board-is = window reached fits (same ∙ sym (nothing-more fs f (Refused m) e refl)); heard = heard }; prints = refusal m (named h) refl }
   answered-does Kept e h = record { own = record { board-is = window reached fits (same ∙ sym (nothing-more fs f Kept e refl)); heard = heard }; prints = nothing refl }
   answered-does (Complete r) e h =
       enter-does (fs ++ f ∷ []) log heard (kept reached .many) (r .values) (enter-board (log .board) reached fits fs same f r e h)
 
-frame-does : (fs : List Frame) (log : Log) → log .sessions ≡ sessionsAfterAll freshSessions fs → {n : ℕ} {past : List Values} → board.Reached n past (log .board) → fitBoard (log .board) ≡ true
-    → past ≡ enteredBy fs → (f : Frame) → Does (fs ++ f ∷ []) (log .items) (frameItem log f)
+frame-does : (fs : List Timed) (log : Log) → stationsOf log ≡ stationsAfterAll freshStations fs → {n : ℕ} {past : List Values} → board.Reached n past (log .board) → fitBoard (log .board) ≡ true
+    → past ≡ enteredBy fs → (f : Timed) → Does (fs ++ f ∷ []) (log .items) (frameItem log f)
 unfolding frameItem answer
 frame-does fs log heard reached fits same f =
-    answered-does fs f (withSessions log (sessionsAfter (log .sessions) f)) (ap (λ (ss : List Session). sessionsAfter ss f) heard ∙ sym (sessions-more freshSessions fs f)) reached fits same
-    (answerTo (log .sessions) f) (ap (λ (ss : List Session). answerTo ss f) (sym heard)) (answer-fine fs (log .sessions) heard f)
+    answered-does fs f (withStations log (stationsAfter (stationsOf log) f)) (ap (λ (b : Stations). stationsAfter b f) heard ∙ sym (stations-more freshStations fs f)) reached fits same
+    (timedAnswer (stationsOf log) f) (ap (λ (b : Stations). timedAnswer b f) (sym heard)) (subst (λ (b : Stations). Named (timedAnswer b f)) (sym heard) (reached-named fs f))
 
 -- ---- an item
 
@@ -308,6 +311,7 @@ item-code log (Set s) = early-code log
 item-code log (item.Frame id) = early-code log
 item-code log (Remove slot) = early-code log
 item-code log (Show slot) = early-code log
+item-code log (item.Timed time id) = early-code log
 
 pub no-window : freshBoard 0 .board .window .counts .size ≡ 0
 unfolding freshBoard freshWindow
@@ -320,7 +324,7 @@ has-window b fits =
     let ranges = fit-facts (b .window) (and-both (fitWindow (b .window)) (allOf (slotFit (b .window)) (b .slots)) fits .0) .ranges in
     ne-eqb (b .window .counts .size) 0 (λ e. omega (arith, ranges .ring .positive))
 
-module _ (fs : List Frame) (log : Log) (own : Own fs log) where
+module _ (fs : List Timed) (log : Log) (own : Own fs log) where
   -- Where there is a window, the board is one that the board's calls lead to.
   standing : {P : Type 0} → early log ≡ 0
       → ((n : ℕ) (past : List Values) → board.Reached n past (log .board) → fitBoard (log .board) ≡ true → past ≡ enteredBy fs → P) → P
@@ -347,16 +351,17 @@ module _ (fs : List Frame) (log : Log) (own : Own fs log) where
   by-item-does Unknown ds passes = absurd (omega arith)
   by-item-does (Window n) ds passes = no-frame (window-does log own (not-yet (first-one _ passes)) n)
   by-item-does (Set s) ds passes = standing passes (λ n past r fits same. no-frame (set-does fs log (own .heard) s (set-board (log .board) r fits fs same (s .slot) (s .k) (settingRule s))))
-  by-item-does (item.Frame id) ds passes = standing passes (λ n past r fits same. frame-does fs log (own .heard) r fits same (record { identifier = id; data-bytes = ds }))
+  by-item-does (item.Frame id) ds passes = standing passes (λ n past r fits same. frame-does fs log (own .heard) r fits same (untimedAt id ds))
   by-item-does (Remove slot) ds passes = standing passes (λ n past r fits same. no-frame (remove-does fs log (own .heard) slot (remove-board (log .board) r fits fs same slot)))
   by-item-does (Show slot) ds passes = standing passes (λ n past r fits same. no-frame (show-does fs log (own .heard) slot (own .board-is) (slots-small (log .board) r fits)))
+  by-item-does (item.Timed time id) ds passes = standing passes (λ n past r fits same. frame-does fs log (own .heard) r fits same (timedAt time id ds))
 
 pub fresh-own : Own [] freshLog
-unfolding freshLog sessionsAfterAll
+unfolding freshLog stationsAfterAll
 fresh-own = record { board-is = none refl refl; heard = refl }
 
 -- Every item keeps what the log holds its own, and prints what an item can print.
-pub item-does : (fs : List Frame) (log : Log) → Own fs log → (tag : ℕ) (v : List ℕ) → Does (fs ++ frameOf log tag v) (nextItem (log .items)) (itemDone log tag v)
+pub item-does : (fs : List Timed) (log : Log) → Own fs log → (tag : ℕ) (v : List ℕ) → Does (fs ++ frameOf log tag v) (nextItem (log .items)) (itemDone log tag v)
 unfolding itemDone
 item-does fs log own tag v = go (tested (eqb code-of 0))
   where
@@ -369,11 +374,11 @@ item-does fs log own tag v = go (tested (eqb code-of 0))
     more : Own fs (withItem log)
     more = record { board-is = own .board-is; heard = own .heard }
 
-    A : List Frame → Type 0
+    A : List Timed → Type 0
     A gs = Does gs (nextItem (log .items)) (itemDone log tag v)
 
     go : Tested (eqb code-of 0) → A (fs ++ frameOf log tag v)
-    go (failed t) = subst A (sym (ap (λ x. fs ++ cond x (framed i (dataIn v)) []) t ∙ append-nil fs)) (refuses (withItem log) code-of _ more (item-code (withItem log) i) t)
+    go (failed t) = subst A (sym (ap (λ x. fs ++ cond x (framed i (dataOf i v)) []) t ∙ append-nil fs)) (refuses (withItem log) code-of _ more (item-code (withItem log) i) t)
     go (passed t) =
-        subst A (sym (ap (λ x. fs ++ cond x (framed i (dataIn v)) []) t))
-        (does (withItem log) code-of t (by-item-does fs (withItem log) more i (dataIn v) (eqb-true _ 0 t)))
+        subst A (sym (ap (λ x. fs ++ cond x (framed i (dataOf i v)) []) t))
+        (does (withItem log) code-of t (by-item-does fs (withItem log) more i (dataOf i v) (eqb-true _ 0 t)))

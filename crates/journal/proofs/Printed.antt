@@ -1,6 +1,7 @@
 -- What an item prints is at most `Waiting::MOST` bytes long and says no 24: it is one line, or a line for each of 32 slots, and every number in it is small.
 -- Assumes nothing.
 use mathlib.Core.Path.{_≡_, refl, sym, ap, ap₂, _∙_}
+use mathlib.Core.Logic.{_⊎_, inl, inr}
 use mathlib.Core.Bool.{Bool, true, false, cond}
 use mathlib.Core.List.{List, [], _∷_, _++_, append-assoc, tail}
 use Prim.Native.Nat.{ℕ, suc, _+_, _*_, _^_, _≤_, _<_}
@@ -11,10 +12,14 @@ use Rattle.text.proofs.Decimal.{Digits, decimal-digits, decimal-injective}
 use Rattle.text.proofs.Lengths.{InRange, sLine-longest, rLine-longest, qLine-longest}
 use Rattle.journal.specs.Log.{sLines}
 
+-- The refusals that an item can be answered where nothing is unfit.
+abbrev pub Code : ℕ → Type 0
+Code n = ((1 ≤ n) × (n ≤ 23)) ⊎ (n ≡ 26)
+
 -- Nothing, its refusal, the line of the search that it ran, those of the searches of all slots, or a list.
 pub data Prints (item : ℕ) (text : List ℕ) : Type 0 where
   nothing : text ≡ [] → Prints item text
-  refusal : (code : ℕ) → 1 ≤ code → code ≤ 23 → text ≡ rLine item code → Prints item text
+  refusal : (code : ℕ) → Code code → text ≡ rLine item code → Prints item text
   search : (slot steps : ℕ) → slot < 32 → steps ≤ 256 → text ≡ sLine item slot steps → Prints item text
   searches : (bs : List Bool) (ns : List ℕ) → length bs ≡ 32 → ((i : ℕ) → getD ns i 0 ≤ 256) → text ≡ sLines item 0 bs ns → Prints item text
   list : (slot : ℕ) (es : List Entry) → slot < 32 → length es ≤ 16 → InRange es → text ≡ qLine slot es → Prints item text
@@ -35,7 +40,8 @@ module _ (item : ℕ) (small : item < 2 ^ 64) where
 
   pub at-most : {text : List ℕ} → Prints item text → length text ≤ 1056
   at-most (nothing e) = rw e (omega arith)
-  at-most (refusal code l h e) = rw e (omega (arith, rLine-longest item code small (omega arith)))
+  at-most (refusal code (inl h) e) = rw e (omega (arith, rLine-longest item code small (omega arith)))
+  at-most (refusal code (inr h) e) = rw e (omega (arith, rLine-longest item code small (omega arith)))
   at-most (search slot steps h k e) = rw e (omega (arith, sLine-longest item slot steps small (omega arith) (omega arith)))
   at-most (searches bs ns h k e) = rw e (omega (arith, lines-longest 0 bs ns (omega arith) k))
   at-most (list slot es h n r e) = rw e (omega (arith, qLine-longest slot es (omega arith) n r))
@@ -93,7 +99,8 @@ never-24 {item} {text} p n e = go p
 
     go : Prints item text → ⊥
     go (nothing f) = omega (arith, byte f)
-    go (refusal code l h f) = omega (arith, h, r-code item n code 24 (sym f ∙ e))
+    go (refusal code (inl h) f) = omega (arith, r-code item n code 24 (sym f ∙ e))
+    go (refusal code (inr h) f) = omega (arith, r-code item n code 24 (sym f ∙ e))
     go (search slot steps h k f) = omega (arith, s-initial item slot steps, byte f)
     go (searches bs ns h k f) = lines-initial item 0 bs ns (byte f)
     go (list slot es h k r f) = omega (arith, q-initial slot es, byte f)

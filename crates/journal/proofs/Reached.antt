@@ -1,4 +1,4 @@
--- What is promised of every log that items lead to: its sessions are fit, and so is its board once there is a window, so that no call answers 24; its window holds what its frames
+-- What is promised of every log that items lead to: its sessions and last times are fit, and so is its board once there is a window, so that no call answers 24; its window holds what its frames
 -- brought, every question in use lists the best k of that; and no item prints more than `Waiting::MOST` bytes. Each is read off what the log keeps its own.
 -- Assumes nothing.
 use mathlib.Core.Path.{_≡_, refl, sym, ap, ap₂, _∙_, subst}
@@ -15,7 +15,7 @@ use lib.Seq.{drop-nil}
 use Rattle.values.specs.declared.Values.{Values}
 use Rattle.ranking.specs.Standing.{Held, top}
 use Rattle.ranking.specs.declared.Rule.{Rule}
-use Rattle.window.specs.Rows.{freshWindow, heldReports}
+use Rattle.window.specs.Rows.{reportLimit, freshWindow, heldReports}
 use Rattle.window.specs.History.{numbered, latest}
 use Rattle.window.proofs.Reports.{empty-holds}
 use Rattle.list.specs.Lines.{linesOf}
@@ -28,14 +28,18 @@ use Rattle.board.specs.declared.Board.{Board}
 use Rattle.board.proofs.Known.{set-known, remove-known, read-known, enter-known}
 use Rattle.board.proofs.Demands.{demand-2, reached-holds}
 use Rattle.board.proofs.Kept.{kept}
-use Rattle.joining.specs.Joining.{fit}
-use Rattle.joining.specs.Run.{freshSessions, sessionOf, sessionsAfterAll}
-use Rattle.joining.specs.declared.Session.{Session}
-use Rattle.joining.proofs.Reached.{reached-fit}
+use Rattle.joining.specs.Frame.{Frame}
+use Rattle.joining.specs.Run.{freshSessions, sessionsAfterAll, answersToAll}
+use Rattle.joining.specs.declared.Answer.{Answer}
+use Rattle.times.specs.Timed.{freshTimes}
+use Rattle.times.specs.Run.{Stations, stationOf, freshStations, stationsAfterAll, timedAnswers, untimed}
+use Rattle.times.proofs.Steps.{Fit}
+use Rattle.times.proofs.Reached.{reached-fit}
+use Rattle.times.proofs.Mixing.{untimed-run}
 use Rattle.text.specs.Text.{Entry, rLine, qLine, entriesOf}
 use Rattle.journal.specs.declared.Log.{Log}
-use Rattle.journal.specs.Log.{Outcome, nextItem, itemDone, showItem, unless}
-use Rattle.journal.specs.Reached.{Reached, fresh, item, framesOf, enteredBy, shownAs}
+use Rattle.journal.specs.Log.{Outcome, nextItem, stationsOf, itemDone, showItem, unless}
+use Rattle.journal.specs.Reached.{Reached, fresh, item, framesOf, completed, enteredBy, shownAs}
 use Rattle.journal.proofs.Printed.{at-most, never-24}
 use Rattle.journal.proofs.Answers.{none-yet}
 use Rattle.journal.proofs.Items.{show-done}
@@ -82,12 +86,29 @@ module _ {log : Log} (reached : Reached log) where
   pub no-24 : (tag : ℕ) (v : List ℕ) (n : ℕ) → itemDone log tag v .text ≡ rLine n 24 → ⊥
   no-24 tag v n e = never-24 (item-does (framesOf reached) log (own reached) tag v .prints) n e
 
-  -- The sessions are those that the log's frames lead to.
-  pub log-sessions : log .sessions ≡ sessionsAfterAll freshSessions (framesOf reached)
-  log-sessions = own reached .heard
+  -- The sessions and last times are those that the log's frames lead to.
+  pub log-stations : stationsOf log ≡ stationsAfterAll freshStations (framesOf reached)
+  log-stations = own reached .heard
 
-  pub session-fit : (k : ℕ) → k < 254 → fit (sessionOf k (log .sessions)) ≡ true
-  session-fit k h = ap (λ (ss : List Session). fit (sessionOf k ss)) log-sessions ∙ reached-fit (framesOf reached) k h
+  pub session-fit : (k : ℕ) → k < 254 → Fit (stationOf k (stationsOf log))
+  session-fit k h = subst (λ (b : Stations). Fit (stationOf k b)) (sym log-stations) (reached-fit (framesOf reached) k h)
+
+  -- A log whose frames have no times has the sessions that these lead to, no times, and the reports that they complete.
+  pub record Untimed (fs : List Frame) : Type 0 where
+    pub sessions : log .sessions ≡ sessionsAfterAll freshSessions fs
+    pub times : log .times ≡ freshTimes
+    pub entered : enteredBy (framesOf reached) ≡ take reportLimit (completed (answersToAll freshSessions fs))
+
+  pub untimed-log : (fs : List Frame) → framesOf reached ≡ untimed fs → Untimed fs
+  unfolding enteredBy
+  untimed-log fs e =
+      let run = untimed-run freshStations fs in
+      let left = log-stations ∙ ap (stationsAfterAll freshStations) e ∙ run .0 in
+      record {
+        sessions = ap (λ (b : Stations). b .sessions) left;
+        times = ap (λ (b : Stations). b .times) left;
+        entered = ap (λ (l : List Answer). take reportLimit (completed l)) (ap (timedAnswers freshStations) e ∙ run .1);
+      }
 
   -- There is no window yet, or the board is fit.
   pub board-fit : (log .board ≡ freshBoard 0 .board) ⊎ (fitBoard (log .board) ≡ true)

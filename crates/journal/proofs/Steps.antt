@@ -14,14 +14,14 @@ use Rattle.board.specs.declared.Entered.{Entered}
 use Rattle.board.proofs.Refusals.{zero-is}
 use Rattle.board.proofs.Demands.{Exactly, set-exact, enter-exact}
 use Rattle.report.specs.declared.Report.{Report}
-use Rattle.joining.specs.Run.{sessionsAfter, answerTo}
 use Rattle.joining.specs.declared.Answer.the-variants.{Complete}
+use Rattle.times.specs.Run.{Timed, stationsAfter, timedAnswer}
 use Rattle.text.specs.Text.{sLine}
 use Rattle.journal.specs.declared.Log.{Log}
-use Rattle.journal.specs.Log.{Outcome, nextItem, withItem, withBoard, withSessions, unless, ruleIn, setItem, sLines, enterItem, answerItem, frameIn, frameItem, itemDone}
+use Rattle.journal.specs.Log.{Outcome, nextItem, withItem, stationsOf, withBoard, withStations, unless, ruleIn, setItem, sLines, enterItem, answerItem, frameItem, itemDone}
 use Rattle.journal.specs.Reached.{Reached}
 use Rattle.journal.proofs.Answers.{enter-refusal}
-use Rattle.journal.proofs.Items.{set-done, frame-done}
+use Rattle.journal.proofs.Items.{set-done}
 use Rattle.journal.proofs.Reached.{log-board, same-answers}
 
 module _ {log : Log} (reached : Reached log) (there : log .board .window .counts .size ≡ 0 → ⊥) (v : List ℕ) where
@@ -55,28 +55,28 @@ module _ {log : Log} (reached : Reached log) (there : log .board .window .counts
 
   -- ---- entering
 
-  module _ (r : Report) (twelve : length v ≡ 12) (completes : answerTo (log .sessions) (frameIn v) ≡ Complete r) (taken : enterRefusal (b .window .counts) (r .values) ≡ 0) where
-    -- What the board's call answers to the report that a frame completes.
+  -- A frame, of tag 18 or 21 (`frame-done`, `timed-done`), that completes a report which enters.
+  module _ (tag : ℕ) (f : Timed) (is : itemDone log tag v ≡ frameItem (withItem log) f) (r : Report) (completes : timedAnswer (stationsOf log) f ≡ Complete r)
+      (taken : enterRefusal (b .window .counts) (r .values) ≡ 0) where
+    -- What the board's call answers to the report.
     abbrev entered : Entered
     entered = enterCall b (r .values)
 
     -- The frame prints the steps of each search that the entry ran.
-    pub enter-prints : itemDone log 18 v
+    pub enter-prints : itemDone log tag v
         ≡ record {
           text = sLines (nextItem (log .items)) 0 (entered .searched) (entered .steps);
-          log = withBoard (withSessions (withItem log) (sessionsAfter (log .sessions) (frameIn v))) (entered .board);
+          log = withBoard (withStations (withItem log) (stationsAfter (stationsOf log) f)) (entered .board);
         }
     unfolding frameItem enterItem unless
     enter-prints =
-        let next = withSessions (withItem log) (sessionsAfter (log .sessions) (frameIn v)) in
+        let next = withStations (withItem log) (stationsAfter (stationsOf log) f) in
         let done : Entered → Outcome = λ x. record { text = sLines (nextItem (log .items)) 0 (x .searched) (x .steps); log = withBoard next (x .board) } in
-        frame-done log there v twelve ∙ ap (answerItem next) completes
-        ∙ zero-is _ _ (enter-refusal b (r .values) ∙ taken)
-        ∙ sym (ap done (same-answers reached there .enter (r .values)))
+        is ∙ ap (answerItem next) completes ∙ zero-is _ _ (enter-refusal b (r .values) ∙ taken) ∙ sym (ap done (same-answers reached there .enter (r .values)))
 
     -- And each of these is exact, over the reports held after the entry.
     pub enter-steps : (i : ℕ) → i < 32 → getD (entered .searched) i false ≡ true
-        → Exactly (added (b .window) (r .values)) (slotAt b i .k) (slotAt b i .rule) (getD (entered .steps) i 0) (slotAt (itemDone log 18 v .log .board) i)
+        → Exactly (added (b .window) (r .values)) (slotAt b i .k) (slotAt b i .rule) (getD (entered .steps) i 0) (slotAt (itemDone log tag v .log .board) i)
     enter-steps i h s =
         let own = log-board reached there in
         subst (λ (o : Outcome). Exactly (added (b .window) (r .values)) (slotAt b i .k) (slotAt b i .rule) (getD (entered .steps) i 0) (slotAt (o .log .board) i)) (sym enter-prints)

@@ -1,4 +1,4 @@
--- The text that a whole log fixes, item by item (docs/RULES.md, section 11).
+-- The text that a whole log fixes, item by item (docs/RULES.md, sections 11 and 15).
 use Prim.Native.Nat.{ℕ, zero, suc, _+_, _-_, _^_, min}
 use mathlib.Core.Path.{_≡_}
 use mathlib.Core.Bool.{Bool, cond}
@@ -13,24 +13,24 @@ use Rattle.items.specs.declared.Setting.{Setting}
 use Rattle.items.specs.declared.Item.{Item}
 use Rattle.items.specs.declared.Item.the-variants.{Window, Set, Remove, Show, Unknown}
 use Rattle.items.specs.declared.Item.the-variants as item
-use Rattle.items.specs.Items.{settingIn, dataIn, itemIn}
+use Rattle.items.specs.Items.{settingIn, dataOf, itemIn}
 use Rattle.values.specs.declared.Values.{Values}
 use Rattle.ranking.specs.declared.Rule.{Rule}
 use Rattle.ranking.specs.declared.Weights.{Weights}
 use Rattle.ranking.specs.Cells.{ruleOf}
 use Rattle.board.specs.declared.Board.{Board}
 use Rattle.board.specs.Work.{freshBoard, setWork, removeWork, readWork, enterWork}
-use Rattle.joining.specs.Frame.{Frame}
-use Rattle.joining.specs.Run.{freshSessions, sessionsAfter, answerTo}
-use Rattle.joining.specs.declared.Session.{Session}
+use Rattle.joining.specs.Run.{freshSessions}
 use Rattle.joining.specs.declared.Answer.{Answer}
 use Rattle.joining.specs.declared.Answer.the-variants.{Refused, Kept, Complete}
+use Rattle.times.specs.Timed.{freshTimes}
+use Rattle.times.specs.Run.{Timed, Stations, stationsAfter, timedAnswer, timedAt, untimedAt}
 use Rattle.text.specs.Text.{sLine, rLine, qLine, entriesOf, behind}
 use Rattle.journal.specs.declared.Log.{Log}
 
--- No item yet, no window, fresh sessions.
+-- No item yet, no window, fresh sessions and no times.
 unfoldable pub freshLog : Log
-freshLog = record { items = 0; board = freshBoard 0 .board; sessions = freshSessions }
+freshLog = record { items = 0; board = freshBoard 0 .board; sessions = freshSessions; times = freshTimes }
 
 -- What an item prints, and the log that it leaves.
 pub record Outcome : Type 0 where
@@ -47,15 +47,19 @@ pub record Stores (done : Outcome) (room : List ℕ) (at : ℕ) (log : Log) (nex
 unfoldable pub nextItem : ℕ → ℕ
 nextItem items = min (items + 1) (2 ^ 64 - 1)
 
--- The log with one item more, with that board, with those sessions.
+-- All senders' sessions and last times.
+abbrev pub stationsOf : Log → Stations
+stationsOf log = record { sessions = log .sessions; times = log .times }
+
+-- The log with one item more, with that board, with those sessions and times.
 abbrev pub withItem : Log → Log
-withItem log = record { items = nextItem (log .items); board = log .board; sessions = log .sessions }
+withItem log = record { items = nextItem (log .items); board = log .board; sessions = log .sessions; times = log .times }
 
 abbrev pub withBoard : Log → Board → Log
-withBoard log b = record { items = log .items; board = b; sessions = log .sessions }
+withBoard log b = record { items = log .items; board = b; sessions = log .sessions; times = log .times }
 
-abbrev pub withSessions : Log → List Session → Log
-withSessions log ss = record { items = log .items; board = log .board; sessions = ss }
+abbrev pub withStations : Log → Stations → Log
+withStations log b = record { items = log .items; board = log .board; sessions = b .sessions; times = b .times }
 
 -- An item that prints nothing.
 abbrev pub noText : Log → Outcome
@@ -81,6 +85,7 @@ itemRefusal log (Set s) = early log
 itemRefusal log (item.Frame id) = early log
 itemRefusal log (Remove slot) = early log
 itemRefusal log (Show slot) = early log
+itemRefusal log (item.Timed time id) = early log
 
 -- Rule 11.1, tag 16: the window is made.
 unfoldable pub windowItem : Log → ℕ → Outcome
@@ -135,28 +140,32 @@ answerItem log (Refused n) = refused log n
 answerItem log Kept = noText log
 answerItem log (Complete r) = enterItem log (r .values)
 
--- A frame in an item's value (rule 10.2).
-abbrev pub frameIn : List ℕ → Frame
-frameIn v = record { identifier = number (part 0 4 v); data-bytes = dataIn v }
+-- The frame in the value of tag 18 (rule 10.2), and in that of tag 21, where its time stands before it (rule 15.1).
+abbrev pub frameIn : List ℕ → Timed
+frameIn v = untimedAt (number (part 0 4 v)) (part 4 8 v)
 
--- Tag 18: the frame's sender's session takes it.
-unfoldable pub frameItem : Log → Frame → Outcome
-frameItem log f = answerItem (withSessions log (sessionsAfter (log .sessions) f)) (answerTo (log .sessions) f)
+abbrev pub timedIn : List ℕ → Timed
+timedIn v = timedAt (number (part 0 4 v)) (number (part 4 4 v)) (part 8 8 v)
+
+-- Tags 18 and 21: the frame's sender's session takes it, by the time that it came at if it has one.
+unfoldable pub frameItem : Log → Timed → Outcome
+frameItem log f = answerItem (withStations log (stationsAfter (stationsOf log) f)) (timedAnswer (stationsOf log) f)
 
 -- What an item does, with the data bytes that a frame has beside it. An unknown one is refused before.
 unfoldable pub byItem : Log → Item → List ℕ → Outcome
 byItem log (Window n) ds = windowItem log n
 byItem log (Set s) ds = setItem log s
-byItem log (item.Frame id) ds = frameItem log (record { identifier = id; data-bytes = ds })
+byItem log (item.Frame id) ds = frameItem log (untimedAt id ds)
 byItem log (Remove slot) ds = removeItem log slot
 byItem log (Show slot) ds = showItem log slot
+byItem log (item.Timed time id) ds = frameItem log (timedAt time id ds)
 byItem log Unknown ds = noText log
 
 -- Rules 11.1 and 9.4: an item counts, also where it is skipped; 22, 23, then the refusals of its call. (21 is `ending`.)
 unfoldable pub itemDone : Log → ℕ → List ℕ → Outcome
 itemDone log tag v =
     let i = itemIn tag v in
-    unless (withItem log) (itemRefusal (withItem log) i) (byItem (withItem log) i (dataIn v))
+    unless (withItem log) (itemRefusal (withItem log) i) (byItem (withItem log) i (dataOf i v))
 
 -- Whole items one after the other: their text, the log that they leave, and the bytes behind the last of them.
 pub record Consumed : Type 0 where

@@ -2,28 +2,32 @@
 ghost use mathlib.Core.Path.{_≡_};
 ghost use mathlib.Core.Bool.{cond};
 ghost use mathlib.Core.List.{[]};
+ghost use Prim.Native.Nat.{_<_};
+ghost use lib.ListN.{set};
 ghost use lib.Seq.{sets};
-ghost use Rattle.joining.specs.Frame.{frameRefusal};
+ghost use Rattle.joining.specs.Run.{senders};
+ghost use Rattle.times.specs.Run.{withStation, timedAt, untimedAt};
 ghost use Rattle.text.specs.Text.{behind, sLine};
-ghost use Rattle.journal.specs.Log.{Stores, freshLog, nextItem, withItem, withBoard, withSessions, refused, itemRefusal, windowItem, weightsOf, settingRule, ruleIn, setItem, removeItem, showItem, sLines, enterItem, answerItem, frameItem, byItem, itemDone};
+ghost use Rattle.journal.specs.Log.{Stores, freshLog, nextItem, withItem, stationsOf, withBoard, withStations, refused, itemRefusal, windowItem, weightsOf, settingRule, ruleIn, setItem, removeItem, showItem, sLines, enterItem, answerItem, frameItem, byItem, itemDone};
 use board::Board;
 use bus::Bus;
 use items::Item;
 use items::Setting;
 use joining::Answer;
-use joining::Frame;
-use joining::Sender;
 use joining::Session;
 use ranking::Rule;
 use ranking::Weights;
 use slot::Gauge;
+use times::Station;
+use times::Times;
 use values::Values;
 
-// The items so far, the window with its questions, and each sender's session. A window of no rows is none yet.
+// The items so far, the window with its questions, and each sender's session and last time. A window of no rows is none yet.
 pub struct Log {
     pub items: u64,
     pub board: Board,
     pub sessions: [Session; Bus::SENDERS],
+    pub times: Times,
 }
 
 // The log that an item leaves, and the place behind the text that it printed.
@@ -40,7 +44,7 @@ impl Log {
 
     pub const OUT_OF_PLACE: u8 = 23;
 
-    // No item yet, no window, and every session fresh.
+    // No item yet, no window, every session fresh, and no times.
     pub fn fresh() -> Log
         ensures { λ r. ⌜ r ≡ freshLog ⌝ }
     {
@@ -48,10 +52,12 @@ impl Log {
         let board = made.board;
         let bus = Bus::fresh();
         let sessions = bus.sessions;
+        let times = Times::fresh();
         Log {
             items: 0,
             board,
             sessions,
+            times,
         }
     }
 
@@ -65,7 +71,7 @@ impl Log {
         if refusal != 0 {
             return log.refused(refusal, out, at);
         }
-        log.by_item(item, Item::data_in(value), out, at)
+        log.by_item(item, item.data_in(value), out, at)
     }
 
     fn with_item(self) -> Log
@@ -85,11 +91,28 @@ impl Log {
         log
     }
 
-    fn with_sessions(self, sessions: [Session; Bus::SENDERS]) -> Log
-        ensures { λ r. ⌜ r ≡ withSessions self sessions ⌝ }
+    // The log with another session of a sender; the times stay.
+    fn with_session(self, k: usize, session: Session) -> Log
+        requires { ⌜ k < senders ⌝ }
+        ensures { λ r. ⌜ r ≡ withStations self (record { sessions = set (self .sessions) k session; times = self .times }) ⌝ }
     {
         let mut log = self;
+        let mut sessions = self.sessions;
+        sessions[k] = session;
         log.sessions = sessions;
+        log
+    }
+
+    // The log with another session and last time of a sender.
+    fn with_station(self, sender: u8, station: Station) -> Log
+        requires { ⌜ sender < senders ⌝ }
+        ensures { λ r. ⌜ r ≡ withStations self (withStation (stationsOf self) sender station) ⌝ }
+    {
+        let session = station.session;
+        let times = self.times;
+        let kept = times.with(sender, station.last);
+        let mut log = self.with_session(sender as usize, session);
+        log.times = kept;
         log
     }
 
@@ -129,6 +152,7 @@ impl Log {
             Item::Frame(id) => self.frame_item(id, data, out, at),
             Item::Remove(slot) => self.remove_item(slot, out, at),
             Item::Show(slot) => self.show_item(slot, out, at),
+            Item::Timed(time, id) => self.timed_item(time, id, data, out, at),
             Item::Unknown => Done { log: self, at },
         }
     }
@@ -206,19 +230,37 @@ impl Log {
 
     // Hands a frame to its sender's session.
     fn frame_item(self, id: u32, data: &[u8], out: &mut [u8], at: usize) -> Done
-        ensures { λ r. ⌜ Stores (frameItem self (record { identifier = id; data-bytes = now («data» .entry) })) (now (out .entry)) at (r .log) (r .at) (now (out .exit)) ⌝ }
+        ensures { λ r. ⌜ Stores (frameItem self (untimedAt id (now («data» .entry)))) (now (out .entry)) at (r .log) (r .at) (now (out .exit)) ⌝ }
     {
         let k = (id % 256) as usize;
         if Bus::SENDERS <= k {
-            return self.refused(frame_refusal(id, data), out, at);
+            return self.refused(joining::frame_refusal(id, data), out, at);
         }
-        let mut sessions = self.sessions;
+        let sessions = self.sessions;
         let session = sessions[k];
         let taken = session.lend(id, data);
         let left = taken.session;
-        sessions[k] = left;
         let answer = taken.answer;
-        self.with_sessions(sessions).answer_item(answer, out, at)
+        self.with_session(k, left).answer_item(answer, out, at)
+    }
+
+    // Hands a frame that came at a time to its sender's session, beside its last time.
+    fn timed_item(self, time: u32, id: u32, data: &[u8], out: &mut [u8], at: usize) -> Done
+        ensures { λ r. ⌜ Stores (frameItem self (timedAt time id (now («data» .entry)))) (now (out .entry)) at (r .log) (r .at) (now (out .exit)) ⌝ }
+    {
+        let sender = (id % 256) as u8;
+        let k = sender as usize;
+        if Bus::SENDERS <= k {
+            return self.refused(joining::frame_refusal(id, data), out, at);
+        }
+        let sessions = self.sessions;
+        let session = sessions[k];
+        let times = self.times;
+        let last = times.of(sender);
+        let heard = Station { session, last }.frame(time, id, data);
+        let left = heard.station;
+        let answer = heard.answer;
+        self.with_station(sender, left).answer_item(answer, out, at)
     }
 
     // Prints a frame's refusal, or enters its report.
@@ -282,16 +324,6 @@ pub fn rule_in(value: &[u8]) -> Rule
     ensures { λ r. ⌜ r ≡ ruleIn (now (value .entry)) ⌝ }
 {
     setting_rule(Setting::read(value))
-}
-
-// What a frame that belongs to no session is refused for.
-fn frame_refusal(id: u32, data: &[u8]) -> u8
-    ensures { λ r. ⌜ r ≡ frameRefusal id (now («data» .entry)) ⌝ }
-{
-    match Frame::sender(id, data) {
-        Sender::Of(_) => 0,
-        Sender::Refused(n) => n,
-    }
 }
 
 // Prints a line for each question that was searched, slots rising.

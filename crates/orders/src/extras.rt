@@ -1,6 +1,6 @@
 // The words in brackets behind a line's numbers: in any order, each once.
 use ranges::Numbers;
-use ranges::is_bytes;
+use ranges::behind_bytes;
 
 // What the words in brackets say, and whether they are right. The next one is read at the word `at`.
 pub struct Extras {
@@ -12,10 +12,13 @@ pub struct Extras {
     // The room lent to the writer, in bytes; more than any report needs where nothing is said.
     pub lent: bool,
     pub room: u32,
+    // A time, in milliseconds.
+    pub timed: bool,
+    pub time: u32,
 }
 
 impl Extras {
-    // How many such words there are.
+    // How many such words `write` has.
     pub const WORDS: u8 = 2;
 
     pub fn none(at: u8) -> Extras {
@@ -26,9 +29,12 @@ impl Extras {
             note: 0,
             lent: false,
             room: 4294967295,
+            timed: false,
+            time: 0,
         }
     }
 
+    // Those of `write`.
     pub fn read(line: &[u8], from: u8) -> Extras {
         let mut extras = Extras::none(from);
         let mut i: u8 = 0;
@@ -37,6 +43,15 @@ impl Extras {
             i += 1;
         }
         extras.ended(line)
+    }
+
+    // The one of a frame and of a session that is made up: its time.
+    pub fn at_time(line: &[u8], from: u8) -> Extras {
+        let extras = Extras::none(from);
+        if !lines::same(lines::word(line, from), b"at") {
+            return extras.ended(line);
+        }
+        extras.with_time(line).ended(line)
     }
 
     // Whether nothing stands behind them.
@@ -72,7 +87,7 @@ impl Extras {
         let word = std::num::wrapping_add_u8(self.at, 1);
         self.noted = true;
         self.note = word;
-        self.at = behind_bytes(line, word);
+        self.at = behind_bytes(lines::word(line, word), word);
         self
     }
 
@@ -80,7 +95,7 @@ impl Extras {
         if self.lent {
             return self.wrong();
         }
-        let numbers = Numbers::read(line, std::num::wrapping_add_u8(self.at, 1), b"n");
+        let numbers = self.number(line);
         if !numbers.right {
             return self.wrong();
         }
@@ -90,12 +105,21 @@ impl Extras {
         self.at = numbers.at;
         self
     }
-}
 
-// The word behind some bytes that may be missing.
-fn behind_bytes(line: &[u8], word: u8) -> u8 {
-    if is_bytes(lines::word(line, word)) {
-        return std::num::wrapping_add_u8(word, 1);
+    fn with_time(mut self, line: &[u8]) -> Extras {
+        let numbers = self.number(line);
+        if !numbers.right {
+            return self.wrong();
+        }
+        let values = numbers.values;
+        self.timed = true;
+        self.time = values[0];
+        self.at = numbers.at;
+        self
     }
-    word
+
+    // The number behind the next one's name.
+    fn number(self, line: &[u8]) -> Numbers {
+        Numbers::read(line, std::num::wrapping_add_u8(self.at, 1), b"n")
+    }
 }

@@ -71,6 +71,7 @@ pub enum BusOrder {
     Frame {
         id: u32,
         word: u8,
+        extras: Extras,
     },
     Session(u8),
     Payload {
@@ -88,11 +89,16 @@ pub enum BusOrder {
         size: u8,
         count: u8,
         next: u8,
+        extras: Extras,
     },
     PokeByte {
         sender: u8,
         place: u8,
         value: u8,
+    },
+    PokeUntimed {
+        sender: u8,
+        time: u32,
     },
 }
 
@@ -136,14 +142,16 @@ fn numbers_of(form: Form, line: &[u8]) -> Numbers {
         Form::PokeLine => Numbers::read(line, 2, b"spnz"),
         Form::PokeSession => Numbers::read(line, 2, b"ubbb"),
         Form::PokeByte => Numbers::read(line, 2, b"uyb"),
+        Form::PokeUntimed => Numbers::read(line, 2, b"un"),
         _ => Numbers::read(line, 1, b""),
     }
 }
 
-// What stands behind the numbers: nothing, or of `write` the words in brackets.
+// What stands behind the numbers: nothing, or the words in brackets.
 fn extras_of(form: Form, line: &[u8], from: u8) -> Extras {
     match form {
         Form::Write => Extras::read(line, from),
+        Form::Frame | Form::PokeSession => Extras::at_time(line, from),
         _ => Extras::none(from).ended(line),
     }
 }
@@ -155,31 +163,51 @@ fn made(form: Form, numbers: Numbers, extras: Extras) -> Order {
         Form::Unknown | Form::UnknownPoke => Order::Wrong(form),
         Form::Help => Order::Help,
         Form::Window => Order::Window(short(n[0])),
-        Form::Frame => Order::Bus(BusOrder::Frame {
+        Form::Frame
+        | Form::Session
+        | Form::Payload
+        | Form::Write
+        | Form::PokeSession
+        | Form::PokeByte
+        | Form::PokeUntimed => Order::Bus(bus_order(form, numbers, extras)),
+        _ => Order::Board(board_order(form, numbers)),
+    }
+}
+
+// The same of a form that needs no window and makes none.
+fn bus_order(form: Form, numbers: Numbers, extras: Extras) -> BusOrder {
+    let n = numbers.values;
+    match form {
+        Form::Frame => BusOrder::Frame {
             id: n[0],
             word: byte(n[1]),
-        }),
-        Form::Session => Order::Bus(BusOrder::Session(byte(n[0]))),
-        Form::Payload => Order::Bus(BusOrder::Payload { word: byte(n[0]) }),
-        Form::Write => Order::Bus(BusOrder::Write {
+            extras,
+        },
+        Form::Payload => BusOrder::Payload { word: byte(n[0]) },
+        Form::Write => BusOrder::Write {
             sender: byte(n[0]),
             loss: short(n[1]),
             shake: short(n[2]),
             own: n[3],
             extras,
-        }),
-        Form::PokeSession => Order::Bus(BusOrder::PokeSession {
+        },
+        Form::PokeSession => BusOrder::PokeSession {
             sender: byte(n[0]),
             size: byte(n[1]),
             count: byte(n[2]),
             next: byte(n[3]),
-        }),
-        Form::PokeByte => Order::Bus(BusOrder::PokeByte {
+            extras,
+        },
+        Form::PokeByte => BusOrder::PokeByte {
             sender: byte(n[0]),
             place: byte(n[1]),
             value: byte(n[2]),
-        }),
-        _ => Order::Board(board_order(form, numbers)),
+        },
+        Form::PokeUntimed => BusOrder::PokeUntimed {
+            sender: byte(n[0]),
+            time: n[1],
+        },
+        _ => BusOrder::Session(byte(n[0])),
     }
 }
 

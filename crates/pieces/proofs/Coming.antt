@@ -9,7 +9,7 @@ use native.Mathlib.Omega.{arith}
 use borrow.Author.Tests.{le-leb, lt-leb}
 use lib.Dec.{ltb}
 use lib.ListN.{length, getD, take, drop, length-drop}
-use lib.Seq.{take-all, take-nil, take-suc, take-take, take-add, drop-drop, getD-take, getD-drop, ext-getD, length-take-le}
+use lib.Seq.{take-all, take-suc, take-take, take-add, getD-take, getD-drop, ext-getD, length-take-le}
 use Rattle.wire.specs.Bytes.{number, part}
 use Rattle.wire.proofs.Numbers.{number-two}
 use Rattle.wire.proofs.Fields.{length-part}
@@ -20,26 +20,10 @@ use Rattle.journal.specs.declared.Log.{Log}
 use Rattle.pieces.specs.declared.Waiting.{Waiting}
 use Rattle.journal.specs.Log.{Outcome, itemDone}
 use Rattle.stretch.specs.Coming.{hasRoom}
+use Rattle.stretch.proofs.Parts.{part-part}
 use Rattle.pieces.specs.Machine.{Came, nothing, withByte, isWhole, sizeIn, valueEnd, valueIn, bytesCame, frontCame}
 use Rattle.pieces.proofs.Waits.{Holds, holds-more, holds-size}
 use Rattle.pieces.proofs.Feeding.{Ran, step, run-more, run-append, came-whole, came-not}
-
--- A part of a part.
-pub drop-take : (a k : ℕ) (l : List ℕ) → drop a (take (a + k) l) ≡ take k (drop a l)
-drop-take zero k l =
-    let none : 0 + k ≡ k = omega arith in
-    ap (λ (j : ℕ). take j l) none
-drop-take (suc a) k [] = ap (drop (suc a)) (take-nil (suc a + k)) ∙ sym (take-nil k)
-drop-take (suc a) k (x ∷ l) =
-    let one : suc a + k ≡ suc (a + k) = omega arith in
-    ap (λ (j : ℕ). drop (suc a) (take j (x ∷ l))) one ∙ drop-take a k l
-
-pub part-part : (a n b m : ℕ) (l : List ℕ) → a + n ≤ m → part a n (part b m l) ≡ part (b + a) n l
-part-part a n b m l h =
-    let k = m - a in
-    let whole : a + k ≡ m = omega arith in
-    ap (λ (j : ℕ). take n (drop a (take j (drop b l)))) (sym whole) ∙ ap (take n) (drop-take a k (drop b l)) ∙ take-take n k (drop a (drop b l)) (omega arith)
-    ∙ ap (take n) (drop-drop a b l)
 
 -- What has come is no whole item, and waits.
 record Still (log : Log) (p : List ℕ) (c : Came) : Type 0 where
@@ -47,7 +31,7 @@ record Still (log : Log) (p : List ℕ) (c : Came) : Type 0 where
   same : c .log ≡ log
   holds : Holds (c .waiting) p
 
-module _ (log : Log) (w : Waiting) (bs : List ℕ) (room : length (w .bytes) ≡ 15) (none : w .have ≡ 0) (v : ℕ) (few : v ≤ 12) (all : length bs ≡ 3 + v) (size : number (part 1 2 bs) ≡ v) where
+module _ (log : Log) (w : Waiting) (bs : List ℕ) (room : length (w .bytes) ≡ 19) (none : w .have ≡ 0) (v : ℕ) (few : v ≤ 16) (all : length bs ≡ 3 + v) (size : number (part 1 2 bs) ≡ v) where
   -- The length in what has come is that of the item, once its head has come.
   size-so : (n : Waiting) (m : ℕ) → 3 ≤ m → m ≤ 3 + v → Holds n (take m bs) → sizeIn n ≡ v
   size-so n m three most h =
@@ -125,7 +109,7 @@ module _ (log : Log) (w : Waiting) (bs : List ℕ) (room : length (w .bytes) ≡
     last-value : valueIn last ≡ part 3 v bs
     unfolding valueIn valueEnd
     last-value =
-        rw (last-size, le-leb v 12 few)
+        rw (last-size, le-leb v 16 few)
         (ap (drop 3) last-bytes ∙ sym (take-all v (drop 3 bs) (omega (arith, length-drop 3 bs, all))))
 
     pub item-run : bytesCame log w bs ≡ record { text = itemDone log tag (part 3 v bs) .text; log = itemDone log tag (part 3 v bs) .log; waiting = nothing }
@@ -142,9 +126,9 @@ module _ (log : Log) (w : Waiting) (piece room : List ℕ) where
   later : (i j : ℕ) → frontCame log w piece (i + j) ≡ record { text = frontCame log w piece i .text ++ bytesCame (frontCame log w piece i .log) (frontCame log w piece i .waiting) (part i j piece) .text; log = bytesCame (frontCame log w piece i .log) (frontCame log w piece i .waiting) (part i j piece) .log; waiting = bytesCame (frontCame log w piece i .log) (frontCame log w piece i .waiting) (part i j piece) .waiting }
   later i j = ap (bytesCame log w) (take-add i j piece) ∙ run-append (take i piece) (part i j piece) log w
 
-  pub ran-item : {i : ℕ} {log₁ log₂ : Log} {w₁ w₂ : Waiting} {at next : ℕ} {left₁ left₂ : List ℕ} (tag v : ℕ) (text : List ℕ) → v ≤ 12 → length room < 2 ^ 64 → i + (3 + v) ≤ length piece
+  pub ran-item : {i : ℕ} {log₁ log₂ : Log} {w₁ w₂ : Waiting} {at next : ℕ} {left₁ left₂ : List ℕ} (tag v : ℕ) (text : List ℕ) → v ≤ 16 → length room < 2 ^ 64 → i + (3 + v) ≤ length piece
       → Ran log w piece room i log₁ w₁ at left₁ → hasRoom (length room) at ≡ true
-      → length (w₁ .bytes) ≡ 15 → w₁ .have ≡ 0 → getD piece i 0 ≡ tag → number (part (i + 1) 2 piece) ≡ v
+      → length (w₁ .bytes) ≡ 19 → w₁ .have ≡ 0 → getD piece i 0 ≡ tag → number (part (i + 1) 2 piece) ≡ v
       → itemDone log₁ tag (part (i + 3) v piece) ≡ record { text = text; log = log₂ } → w₂ ≡ nothing → Put left₁ at text next left₂
       → Ran log w piece room (i + (3 + v)) log₂ w₂ next left₂
   ran-item {i} {log₁} {log₂} {w₁} {w₂} tag v text few small h r has full none starts size e n p =

@@ -40,7 +40,7 @@ module _ (log₀ : Log) (w₀ : Waiting) (piece room : List ℕ) (small : length
   ran-at {w = w} e f g h r = subst (λ (x : ℕ × Log × ℕ × List ℕ). Ran log₀ w₀ piece room (x .0) (x .1) w (x .2) (x .3)) (λ j. (e j, f j, g j, h j)) r
 
   -- One item.
-  ran-one : (j : ℕ) {log : Log} {w : Waiting} {at : ℕ} {left : List ℕ} → Ran log₀ w₀ piece room (i + j) log w at left → length (w .bytes) ≡ 15 → w .have ≡ 0
+  ran-one : (j : ℕ) {log : Log} {w : Waiting} {at : ℕ} {left : List ℕ} → Ran log₀ w₀ piece room (i + j) log w at left → length (w .bytes) ≡ 19 → w .have ≡ 0
       → comes (log .board .window .counts .size) rest j && hasRoom (length room) at ≡ true
       → Ran log₀ w₀ piece room (i + (j + (3 + sizeAt rest j))) (itemAt log rest j .log) nothing (behind at (itemAt log rest j .text)) (sets left at (itemAt log rest j .text))
   ran-one j {log} {w} {at} {left} r full free t =
@@ -88,7 +88,7 @@ module _ (log₀ : Log) (w₀ : Waiting) (piece room : List ℕ) (small : length
       go (failed t) more = ran-none (did (suc n) (length room) at log rest j) j (did-none (length room) rest (suc n) at log j t) r
 
   -- The claim: what the stretch answers is what its bytes bring, and it takes one at least.
-  ran-stretch : {log : Log} {w : Waiting} {at : ℕ} {left : List ℕ} {r : Stretch} {left₁ : List ℕ} → Ran log₀ w₀ piece room i log w at left → length (w .bytes) ≡ 15 → w .have ≡ 0
+  ran-stretch : {log : Log} {w : Waiting} {at : ℕ} {left : List ℕ} {r : Stretch} {left₁ : List ℕ} → Ran log₀ w₀ piece room i log w at left → length (w .bytes) ≡ 19 → w .have ≡ 0
       → comes (log .board .window .counts .size) rest 0 ≡ true → hasRoom (length room) at ≡ true → Does log rest left at r left₁
       → Ran log₀ w₀ piece room (i + r .taken) (r .log) nothing (r .at) left₁ × (1 ≤ r .taken) × (i + r .taken ≤ length piece)
   ran-stretch {log} {w} {at} {left} {r} {left₁} s full free c has d = go (length rest) refl
@@ -110,7 +110,7 @@ module _ (log₀ : Log) (w₀ : Waiting) (piece room : List ℕ) (small : length
           (ran-at (ap (λ (k : ℕ). i + k) (sym (d .taken))) (sym (d .leaves)) (sym (d .place)) (sym (d .stored)) whole, omega (arith, within .0, taken), omega (arith, within .1, taken, length-drop i piece))
 
   -- The same of what the code holds.
-  pub stretch-fed : {log : Log} {w w₁ : Waiting} {at : ℕ} {left tail : List ℕ} {r : Stretch} {left₁ : List ℕ} {b : Bool} → Ran log₀ w₀ piece room i log w at left → length (w .bytes) ≡ 15
+  pub stretch-fed : {log : Log} {w w₁ : Waiting} {at : ℕ} {left tail : List ℕ} {r : Stretch} {left₁ : List ℕ} {b : Bool} → Ran log₀ w₀ piece room i log w at left → length (w .bytes) ≡ 19
       → b ≡ (eqb (w .have) 0 && comes (log .board .window .counts .size) tail 0) → b ≡ true → hasRoom (length room) at ≡ true → tail ≡ rest → Does log tail left at r left₁ → w₁ ≡ nothing
       → Ran log₀ w₀ piece room (i + r .taken) (r .log) w₁ (r .at) left₁ × (1 ≤ r .taken) × (i + r .taken ≤ length piece)
   stretch-fed {log} {w} {w₁} {at} {left} {tail} {r} {left₁} s full e t has f d n =

@@ -1,4 +1,4 @@
--- What waits stands for the bytes that came since the last whole item: the first 15 are the same, and all are counted.
+-- What waits stands for the bytes that came since the last whole item: the first 19 are the same, and all are counted.
 -- Assumes nothing.
 use mathlib.Core.Path.{_≡_, refl, sym, ap, ap₂, _∙_}
 use mathlib.Core.Logic.{⊎-elim}
@@ -19,16 +19,16 @@ use Rattle.journal.proofs.Items.{unknown-done}
 use Rattle.pieces.specs.Machine.{nothing, withByte, sizeIn}
 
 pub record Holds (w : Waiting) (p : List ℕ) : Type 0 where
-  pub room : length (w .bytes) ≡ 15
+  pub room : length (w .bytes) ≡ 19
   pub counts : w .have ≡ length p
-  pub front : (i : ℕ) → i < 15 → i < length p → getD (w .bytes) i 0 ≡ getD p i 0
+  pub front : (i : ℕ) → i < 19 → i < length p → getD (w .bytes) i 0 ≡ getD p i 0
   pub short : length p ≤ 65538
 
 pub holds-nothing : Holds nothing []
 holds-nothing = record { room = refl; counts = refl; front = λ i h k. absurd (omega arith); short = omega arith }
 
 module _ (w : Waiting) (p : List ℕ) (b : ℕ) (h : Holds w p) where
-  front-more : (i : ℕ) → i < 15 → i < length (p ++ b ∷ []) → getD (set (w .bytes) (w .have) b) i 0 ≡ getD (p ++ b ∷ []) i 0
+  front-more : (i : ℕ) → i < 19 → i < length (p ++ b ∷ []) → getD (set (w .bytes) (w .have) b) i 0 ≡ getD (p ++ b ∷ []) i 0
   front-more i few inside =
       ⊎-elim
       (λ less.
@@ -56,6 +56,6 @@ holds-size w p h three =
     number-two (w .bytes) 1 ∙ ap₂ (λ (x y : ℕ). x + 256 * y) (h .front 1 (omega arith) (omega arith)) (h .front 2 (omega arith) (omega arith))
     ∙ sym (number-two p 1)
 
--- Of an item that is too long the value makes no difference: no item is known that has none, or one of more than 12 bytes.
-pub too-long : (log : Log) (tag : ℕ) (v : List ℕ) → 12 < length v → itemDone log tag v ≡ itemDone log tag []
+-- Of an item that is too long the value makes no difference: no item is known that has none, or one of more than 16 bytes.
+pub too-long : (log : Log) (tag : ℕ) (v : List ℕ) → 16 < length v → itemDone log tag v ≡ itemDone log tag []
 too-long log tag v h = unknown-done log tag v (long-unknown tag v h) ∙ sym (unknown-done log tag [] (empty-unknown tag))

@@ -58,10 +58,10 @@ module _ (log : Log) (n : Waiting) (q : List ℕ) (h : Holds n q) (exact : lengt
   tag-same : getD (n .bytes) 0 0 ≡ getD q 0 0
   tag-same = h .front 0 (omega arith) (omega arith)
 
-  value-same : size q ≤ 12 → valueIn n ≡ part 3 (size q) q
+  value-same : size q ≤ 16 → valueIn n ≡ part 3 (size q) q
   unfolding valueIn valueEnd
   value-same few =
-      let end : valueEnd (sizeIn n) ≡ 3 + size q = ap valueEnd sized ∙ if-so _ _ (le-leb (size q) 12 few) in
+      let end : valueEnd (sizeIn n) ≡ 3 + size q = ap valueEnd sized ∙ if-so _ _ (le-leb (size q) 16 few) in
       let room = h .room in
       let left : length (drop 3 (take (3 + size q) (n .bytes))) ≡ size q = simp (length-drop, length-take) (omega arith) in
       let right : length (part 3 (size q) q) ≡ size q = length-part q 3 (size q) (omega arith) in
@@ -71,10 +71,10 @@ module _ (log : Log) (n : Waiting) (q : List ℕ) (h : Holds n q) (exact : lengt
       getD-drop 3 (take (3 + size q) (n .bytes)) i 0 ∙ getD-take (3 + size q) (n .bytes) (3 + i) 0 (omega arith) ∙ h .front (3 + i) (omega arith) (omega arith)
       ∙ sym (getD-take (size q) (drop 3 q) i 0 (omega arith) ∙ getD-drop 3 q i 0))
 
-  value-none : 12 < size q → valueIn n ≡ []
+  value-none : 16 < size q → valueIn n ≡ []
   unfolding valueIn valueEnd
   value-none many =
-      let end : valueEnd (sizeIn n) ≡ 3 = ap valueEnd sized ∙ if-not _ _ (lt-leb (size q) 12 many) in
+      let end : valueEnd (sizeIn n) ≡ 3 = ap valueEnd sized ∙ if-not _ _ (lt-leb (size q) 16 many) in
       ap (λ (e : ℕ). drop 3 (take e (n .bytes))) end ∙ drop-of-length-le (take 3 (n .bytes)) {i = 3} (simp length-take (omega arith))
 
   -- It is done as the field that stands there.
@@ -85,7 +85,7 @@ module _ (log : Log) (n : Waiting) (q : List ℕ) (h : Holds n q) (exact : lengt
       ap₂ (itemDone log) tag-same (value-none many)
       ∙ sym (too-long log (getD q 0 0) (part 3 (size q) q) (omega (arith, length-part q 3 (size q) (omega arith)))))
       (λ few. ap₂ (itemDone log) tag-same (value-same few))
-      (below-or 12 (size q) (ltb 12 (size q)) refl)
+      (below-or 16 (size q) (ltb 16 (size q)) refl)
 
 -- ---- one byte more
 

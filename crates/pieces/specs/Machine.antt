@@ -14,15 +14,15 @@ use Rattle.pieces.specs.declared.Fed.{Fed}
 use Rattle.journal.specs.Log.{nextItem, itemDone}
 use Rattle.stretch.specs.Coming.{hasRoom}
 
--- What is kept of an item: its first 15 bytes.
+-- What is kept of an item: its first 19 bytes.
 abbrev pub keptBytes : ℕ
-keptBytes = 15
+keptBytes = 19
 
 -- Nothing has come of the next item.
 abbrev pub nothing : Waiting
 nothing = record { bytes = replicate keptBytes 0; have = 0 }
 
--- One byte more; those past the 15th are counted only.
+-- One byte more; those past the 19th are counted only.
 unfoldable pub withByte : Waiting → ℕ → Waiting
 withByte w b = record { bytes = set (w .bytes) (w .have) b; have = min (w .have + 1) 65538 }
 
@@ -36,7 +36,7 @@ isWhole w = leb (3 + sizeIn w) (w .have)
 
 -- Where a value of that size ends; at its start where it is too long for every known item.
 unfoldable pub valueEnd : ℕ → ℕ
-valueEnd size = cond (leb size 12) (3 + size) 3
+valueEnd size = cond (leb size 16) (3 + size) 3
 
 -- Its value; none where it is too long, as its length is wrong either way.
 unfoldable pub valueIn : Waiting → List ℕ

@@ -14,7 +14,7 @@ use journal::Done;
 use journal::Log;
 use wire::Field;
 
-// What has come of an item that is not whole yet: its first 15 bytes, and how many there were. No longer item is known.
+// What has come of an item that is not whole yet: its first 19 bytes, and how many there were. No longer item is known.
 pub struct Waiting {
     pub bytes: [u8; Waiting::KEPT],
     pub have: u32,
@@ -33,7 +33,7 @@ impl Waiting {
     pub const LONGEST: u32 = 65538;
 
     // What is kept of an item: the head, and the longest value of a known one.
-    pub const KEPT: usize = 15;
+    pub const KEPT: usize = 19;
 
     // Nothing waits.
     pub fn nothing() -> Waiting

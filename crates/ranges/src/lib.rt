@@ -16,7 +16,7 @@ impl Numbers {
     //   u  0 to 253, a sender      r  0 to 1023, a row      p  0 to 15, a line    y  0 to 83, a byte's place
     //   w  -32768 to 32767         z  -2147483648 to 2147483647
     //   x  1 to 8 hexadecimal digits
-    //   d  bytes in hexadecimal digits, or no word: the number is that of the word
+    //   d  bytes in hexadecimal digits, which may be missing: the number is that of the word, where `bytes` reads them
     pub fn read(line: &[u8], from: u8, letters: &[u8]) -> Numbers {
         let values = [0u32; Numbers::MOST];
         let mut numbers = Numbers {
@@ -35,7 +35,8 @@ impl Numbers {
     // With the number of the next word in its place.
     fn with(self, line: &[u8], letter: u8, place: usize) -> Numbers {
         let at = self.at;
-        let number = number(lines::word(line, at), letter, at);
+        let word = lines::word(line, at);
+        let number = number(word, letter, at);
         let mut numbers = self;
         if place < Numbers::MOST {
             numbers.values[place] = number.value;
@@ -43,9 +44,25 @@ impl Numbers {
         if !number.known {
             numbers.right = false;
         }
-        numbers.at = std::num::wrapping_add_u8(at, 1);
+        numbers.at = behind(word, letter, at);
         numbers
     }
+}
+
+// The word behind the one `at`, which a number was read from; it is the same where bytes are missing.
+fn behind(word: &[u8], letter: u8, at: u8) -> u8 {
+    if letter == b'd' {
+        return behind_bytes(word, at);
+    }
+    std::num::wrapping_add_u8(at, 1)
+}
+
+// The word behind the one `at`, or that one, where it isn't bytes.
+pub fn behind_bytes(word: &[u8], at: u8) -> u8 {
+    if is_bytes(word) {
+        return std::num::wrapping_add_u8(at, 1);
+    }
+    at
 }
 
 fn unknown() -> Number {
@@ -69,7 +86,10 @@ fn number(word: &[u8], letter: u8, at: u8) -> Number {
         b'w' => Number::short(word),
         b'z' => long(word),
         b'x' => identifier(word),
-        _ => word_of_bytes(word, at),
+        _ => Number {
+            known: true,
+            value: at as u32,
+        },
     }
 }
 
@@ -97,14 +117,6 @@ fn identifier(word: &[u8]) -> Number {
         return unknown();
     }
     Number::read(word, 16, 4294967295)
-}
-
-// The number of a word that is bytes, or is missing.
-fn word_of_bytes(word: &[u8], at: u8) -> Number {
-    Number {
-        known: is_bytes(word),
-        value: at as u32,
-    }
 }
 
 // Whether a text is bytes of two hexadecimal digits each; no text is no bytes.

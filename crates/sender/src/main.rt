@@ -4,6 +4,7 @@ use commands::Answer;
 use commands::Command;
 use commands::Fault;
 use commands::Kind;
+use commands::Time;
 use input::Input;
 use input::Next;
 use libc::STDERR_FILENO;
@@ -15,6 +16,7 @@ fn main() {
     let mut input = Input::fresh();
     let mut line = [0u8; Input::LONGEST];
     let mut space = io::buffer();
+    let mut time = Time::Untimed;
     let mut turns = u64::MAX;
     while turns > 0 {
         turns -= 1;
@@ -24,9 +26,12 @@ fn main() {
             break;
         };
         input = found;
-        if !sent(found, &line) {
+        let sent = send(found, &line, time);
+        if !sent.fine {
             break;
         }
+        let behind = sent.time;
+        time = behind;
     }
 }
 
@@ -37,21 +42,37 @@ fn stopped(next: Next) {
     }
 }
 
-// Writes a line's items, or what is wrong with it. False where its items could not be written.
-fn sent(found: Input, line: &[u8]) -> bool {
+// Whether a line's items could be written, and the time of the frames behind it.
+struct Sent {
+    fine: bool,
+    time: Time,
+}
+
+// Writes a line's items, its frames at this time, or what is wrong with it.
+fn send(found: Input, line: &[u8], time: Time) -> Sent {
     if found.is_cut() {
-        return true;
+        return Sent { fine: true, time };
     }
     let number = found.number;
     if !found.fits() {
         wrong(number);
         say(b"longer than 512 bytes\n");
-        return true;
+        return Sent { fine: true, time };
     }
     let mut room = [0u8; Command::LARGEST];
-    let answer = commands::write(wire::front(line, found.size), &mut room);
+    let outcome = commands::write(wire::front(line, found.size), time, &mut room);
+    let answer = outcome.answer;
+    let behind = outcome.time;
+    Sent {
+        fine: answered(number, answer, &room),
+        time: behind,
+    }
+}
+
+// Writes the items that stand in `room`, or what is wrong with the line. False where the items could not be written.
+fn answered(number: u64, answer: Answer, room: &[u8]) -> bool {
     match answer {
-        Answer::Items(n) => written(wire::front(&room, n)),
+        Answer::Items(n) => written(wire::front(room, n)),
         Answer::Wrong(fault) => {
             wrong(number);
             faulty(fault);
@@ -109,9 +130,11 @@ fn faulty(fault: Fault) {
         Kind::Show => slot(word, b"show SLOT\n"),
         Kind::Report => report(word, b"report"),
         Kind::Noted => report(word, b"noted"),
+        Kind::Time => time(word),
+        Kind::Untimed => untimed(),
         Kind::Nothing => say(b"\n"),
         Kind::Unknown => say(
-            b"the first word is none of window, question, remove, show, report, noted\n",
+            b"the first word is none of window, question, remove, show, report, noted, time, untimed\n",
         ),
     }
 }
@@ -161,4 +184,19 @@ fn report(word: u8, name: &[u8]) {
     expected();
     say(name);
     say(b" SENDER LOSS SHAKE NUMBER, and perhaps a note\n");
+}
+
+fn time(word: u8) {
+    match word {
+        1 => say(b"MS is missing or no number from 0 to 4294967295"),
+        _ => say(b"something stands behind MS"),
+    }
+    expected();
+    say(b"time MS\n");
+}
+
+fn untimed() {
+    say(b"something stands behind untimed");
+    expected();
+    say(b"untimed\n");
 }

@@ -126,9 +126,9 @@ module _ (log : Log) (window : sized (log .board .window .counts .size) ≡ true
 
   -- The claim, said of what the code holds.
   pub slot-here : {tag tag₁ item s : ℕ} {v v₁ : List ℕ} {q : Question} → Known tag₁ v₁ → getD v₁ 0 0 < 32 → tag ≡ tag₁ → item ≡ n → v ≡ v₁ → s ≡ getD v 0 0 → q ≡ served tag item v (slotAt b s) rows .question
-      → itemDone log tag₁ v₁ ≡ record { text = served tag item v (slotAt b s) rows .text; log = record { items = item; board = withSlot b s q; sessions = log .sessions } }
+      → itemDone log tag₁ v₁ ≡ record { text = served tag item v (slotAt b s) rows .text; log = record { items = item; board = withSlot b s q; sessions = log .sessions; times = log .times } }
   slot-here {tag} {tag₁} {item} {s} {v} {v₁} {q} k few e-tag e-item e-v e-s e-q =
       let at : s ≡ getD v₁ 0 0 = e-s ∙ ap (λ (l : List ℕ). getD l 0 0) e-v in
       slot-done tag₁ v₁ few k
-      ∙ sym (λ j. record { text = served (e-tag j) (e-item j) (e-v j) (slotAt b (at j)) rows .text; log = record { items = e-item j; board = withSlot b (at j) (served (e-tag j) (e-item j) (e-v j) (slotAt b (at j)) rows .question); sessions = log .sessions } })
-      ∙ (λ j. record { text = served tag item v (slotAt b s) rows .text; log = record { items = item; board = withSlot b s (sym e-q j); sessions = log .sessions } })
+      ∙ sym (λ j. record { text = served (e-tag j) (e-item j) (e-v j) (slotAt b (at j)) rows .text; log = record { items = e-item j; board = withSlot b (at j) (served (e-tag j) (e-item j) (e-v j) (slotAt b (at j)) rows .question); sessions = log .sessions; times = log .times } })
+      ∙ (λ j. record { text = served tag item v (slotAt b s) rows .text; log = record { items = item; board = withSlot b s (sym e-q j); sessions = log .sessions; times = log .times } })

@@ -1,7 +1,8 @@
--- A frame, done where the log stands: it changes one session, and a report that enters its row and the slots that have a turn.
+-- A frame, done where the log stands: it changes one session and its time, and a report that enters its row and the slots that have a turn.
 -- Assumes nothing.
 use mathlib.Core.Path.{_≡_, refl, sym, ap, subst, _∙_}
 use mathlib.Core.Bool.{true, false, cond, _||_}
+use mathlib.Core.Logic.{_⊎_, inl, inr}
 use mathlib.Core.List.{List, [], _++_, map}
 use Prim.Native.Nat.{ℕ, _+_, _-_, _≤_, _<_}
 use native.Mathlib.Nat.{mod-lt}
@@ -30,16 +31,15 @@ use Rattle.slot.proofs.Gauges.{idle-untouched}
 use Rattle.slot.proofs.Turns.{turn-still, rows-alone}
 use Rattle.board.specs.Work.{outgoing, turned, enterRefusal, enterWork, arrival}
 use Rattle.board.proofs.Refusals.{enterable}
-use Rattle.joining.specs.Run.{sessionsAfter, answerTo}
+use Rattle.times.specs.Run.{Timed, Stations, stationsAfter, timedAnswer}
 use Rattle.joining.specs.declared.Answer.{Answer}
 use Rattle.joining.specs.declared.Answer.the-variants.{Refused, Kept, Complete}
-use Rattle.joining.specs.declared.Session.{Session}
 use Rattle.text.specs.Text.{rLine}
 use Rattle.journal.specs.declared.Log.{Log}
-use Rattle.journal.specs.Log.{nextItem, withBoard, refused, unless, sLines, enterItem, answerItem, frameIn, frameItem, itemDone}
+use Rattle.journal.specs.Log.{nextItem, stationsOf, withItem, withBoard, refused, unless, sLines, enterItem, answerItem, frameItem, itemDone}
 use Rattle.journal.proofs.Items as items
 use Rattle.stretch.specs.declared.Brought.{Brought}
-use Rattle.stretch.specs.Inner.{brought}
+use Rattle.stretch.specs.Inner.{brought, frameSize, frameOf}
 use Rattle.serving.proofs.Serving.{some-rows}
 use Rattle.stretch.proofs.Turns.{Turning, searchLines}
 
@@ -144,19 +144,32 @@ row-fits w window {p} q =
     let row = ap (λ (r : Place). r .row) (q ∙ if-so _ _ window) in
     omega (arith, row, mod-lt (w .counts .entered + 1 - 1) (range .0), range .1)
 
-module _ (log : Log) (window : sized (log .board .window .counts .size) ≡ true) (v : List ℕ) {item : ℕ} {left : List Session} {b : Brought} (long : length v ≡ 12) (e-item : item ≡ nextItem (log .items))
-    (e-left : left ≡ sessionsAfter (log .sessions) (frameIn v)) (e : b ≡ gives log (answerTo (log .sessions) (frameIn v))) where
+-- An item of either tag is its frame's.
+pub frame-is : (log : Log) → sized (log .board .window .counts .size) ≡ true → {tag : ℕ} (v : List ℕ) → (tag ≡ 18) ⊎ (tag ≡ 21) → length v ≡ frameSize tag
+    → itemDone log tag v ≡ frameItem (withItem log) (frameOf tag v)
+unfolding frameSize frameOf
+frame-is log window {tag} v which = go which
+  where
+    P : ℕ → Type 0
+    P n = length v ≡ frameSize n → itemDone log n v ≡ frameItem (withItem log) (frameOf n v)
+
+    go : (tag ≡ 18) ⊎ (tag ≡ 21) → P tag
+    go (inl e) = subst P (sym e) (λ long. items.frame-done log (some-rows log window) v long)
+    go (inr e) = subst P (sym e) (λ long. items.timed-done log (some-rows log window) v long)
+
+module _ (log : Log) (window : sized (log .board .window .counts .size) ≡ true) (tag : ℕ) (v : List ℕ) (f : Timed) {item : ℕ} {left : Stations} {b : Brought} (done : itemDone log tag v ≡ frameItem (withItem log) f) (e-item : item ≡ nextItem (log .items))
+    (e-left : left ≡ stationsAfter (stationsOf log) f) (e : b ≡ gives log (timedAnswer (stationsOf log) f)) where
   abbrev after : Log
-  after = record { items = item; board = log .board; sessions = left }
+  after = record { items = item; board = log .board; sessions = left .sessions; times = left .times }
 
   abbrev answer : Answer
-  answer = answerTo (log .sessions) (frameIn v)
+  answer = timedAnswer (stationsOf log) f
 
-  frame-done : itemDone log 18 v ≡ answerItem after answer
+  frame-done : itemDone log tag v ≡ answerItem after answer
   unfolding frameItem
-  frame-done = items.frame-done log (some-rows log window) v long ∙ sym (λ j. answerItem (record { items = e-item j; board = log .board; sessions = e-left j }) answer)
+  frame-done = done ∙ sym (λ j. answerItem (record { items = e-item j; board = log .board; sessions = e-left j .sessions; times = e-left j .times }) answer)
 
-  pub frame-none : b .number ≡ 0 → itemDone log 18 v ≡ record { text = cond (b .refused) (rLine item (b .code)) []; log = after }
+  pub frame-none : b .number ≡ 0 → itemDone log tag v ≡ record { text = cond (b .refused) (rLine item (b .code)) []; log = after }
   frame-none z =
       frame-done ∙ brought-none after answer (sym (ap (λ (g : Brought). g .number) e) ∙ z)
       ∙ sym (ap (λ (g : Brought). record { text = cond (g .refused) (rLine item (g .code)) []; log = after }) e)
@@ -179,9 +192,9 @@ module _ (log : Log) (window : sized (log .board .window .counts .size) ≡ true
 
     pub frame-enters : {new : Window} {slots : List Question} {n at₀ at : ℕ} {out₀ out : List ℕ} → new ≡ added (log .board .window) (b .values)
         → length (log .board .slots) ≤ n → Turning (turn b new) item (log .board .slots) out₀ at₀ n slots at out
-        → itemDone log 18 v ≡ record { text = cond (b .refused) (rLine item (b .code)) [] ++ searchLines (turn b new) item (log .board .slots) out₀ at₀ n; log = record { items = item; board = record { window = new; slots = slots }; sessions = left } }
+        → itemDone log tag v ≡ record { text = cond (b .refused) (rLine item (b .code)) [] ++ searchLines (turn b new) item (log .board .slots) out₀ at₀ n; log = record { items = item; board = record { window = new; slots = slots }; sessions = left .sessions; times = left .times } }
     frame-enters {new} {slots} {n} {at₀} {at} {out₀} {out} grown all t =
         frame-done
         ∙ subst (λ (g : Brought). (g .number ≡ 0 → ⊥) → new ≡ added (log .board .window) (g .values) → Turning (turn g new) item (log .board .slots) out₀ at₀ n slots at out
-        → answerItem after answer ≡ record { text = cond (g .refused) (rLine item (g .code)) [] ++ searchLines (turn g new) item (log .board .slots) out₀ at₀ n; log = record { items = item; board = record { window = new; slots = slots }; sessions = left } })
+        → answerItem after answer ≡ record { text = cond (g .refused) (rLine item (g .code)) [] ++ searchLines (turn g new) item (log .board .slots) out₀ at₀ n; log = record { items = item; board = record { window = new; slots = slots }; sessions = left .sessions; times = left .times } })
         (sym e) (λ m g u. entered-done after answer m g all u) positive grown t

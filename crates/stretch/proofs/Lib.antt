@@ -1,8 +1,10 @@
 -- Laws that the crates above cite.
+pub mod Parts
 pub mod Coming
 pub mod Going
 pub mod Turns
 pub mod Frames
+pub mod Times
 pub mod Gauging
 pub mod Rowing
 pub mod Stands

@@ -20,9 +20,13 @@ itemComes bytes i tag size = leb (i + (3 + size)) (length bytes) && eqb (getD by
 unfoldable pub slotComes : List ℕ → ℕ → Bool
 slotComes bytes i = (itemComes bytes i 20 1 || itemComes bytes i 19 1 || itemComes bytes i 17 6) && ltb (getD bytes (i + 3) 0) slotCount
 
+-- A frame without a time (rule 11.1), or with one (rule 15.1).
+unfoldable pub frameComes : List ℕ → ℕ → Bool
+frameComes bytes i = itemComes bytes i 18 12 || itemComes bytes i 21 16
+
 -- There is a window, and a frame or an item for a slot comes: such an item changes one session, one row or one slot.
 unfoldable pub comes : ℕ → List ℕ → ℕ → Bool
-comes rows bytes i = sized rows && (itemComes bytes i 18 12 || slotComes bytes i)
+comes rows bytes i = sized rows && (frameComes bytes i || slotComes bytes i)
 
 -- A room of that length has space from `at` on for the most that one item prints: 32 S lines of 33 bytes.
 unfoldable pub hasRoom : ℕ → ℕ → Bool

@@ -1,22 +1,22 @@
-// A stretch of a log's whole items, done where the log stands: frames, and items for a slot that there is. The window, the slots and
-// the sessions are locals of one function for the whole stretch, so that a frame changes them in place and copies none of them.
+// A stretch of a log's whole items, done where the log stands: frames, and items for a slot that there is. The window, the slots, the
+// sessions and their last times are locals of one function for the whole stretch, so that a frame changes them in place and copies none of them.
 ghost use mathlib.Core.Path.{_≡_};
 ghost use mathlib.Core.Bool.{true, cond, _&&_};
 ghost use mathlib.Core.List.{[]};
 ghost use Prim.Native.Nat.{_+_, _≤_, _<_, min};
 ghost use lib.ListN.{length};
 ghost use lib.Seq.{sets};
-ghost use Rattle.wire.specs.Bytes.{part};
+ghost use Rattle.wire.specs.Bytes.{number, part};
 ghost use Rattle.text.specs.Text.{behind, rLine};
-ghost use Rattle.bus.specs.Room.{roomBytes, sessionsIn, roomOf};
-ghost use Rattle.joining.specs.Run.{sessionsAfter, answerTo};
+ghost use Rattle.bus.specs.Room.{roomBytes};
+ghost use Rattle.times.specs.Run.{stationsIn, Meets};
 ghost use Rattle.values.specs.Range.{low};
 ghost use Rattle.slot.specs.Turn.{turn};
 ghost use Rattle.window.specs.Rows.{rowCount, standing};
 ghost use Rattle.question.specs.Lines.{rowsOf};
 ghost use Rattle.journal.specs.Log.{frameIn};
-ghost use Rattle.stretch.specs.Coming.{sizeAt, itemComes, slotComes, comes, hasRoom};
-ghost use Rattle.stretch.specs.Inner.{rowsUsed, Stored, brought, windowOf, Runs};
+ghost use Rattle.stretch.specs.Coming.{sizeAt, itemComes, frameComes, slotComes, comes, hasRoom};
+ghost use Rattle.stretch.specs.Inner.{rowsUsed, Stored, brought, windowOf, isFrame, frameSize, frameOf, putBack, timesBy, Begins, HearsAt, logIn, Runs};
 ghost use Rattle.stretch.specs.Doing.{Does};
 use board::Arrival;
 use board::Board;
@@ -27,6 +27,9 @@ use journal::Log;
 use question::Question;
 use slot::Gauge;
 use slot::Turned;
+use times::Last;
+use times::Met;
+use times::Times;
 use values::Values;
 use window::Counts;
 use window::Place;
@@ -50,6 +53,16 @@ struct Brought {
     values: Values,
 }
 
+// The place of a frame, 3 bytes before its identifier, and what its time refuses before it is taken, 0 for nothing. Beside it, of the last
+// frame that had a time, its place and what its sender's last time was before: that is put back if the frame is refused.
+struct Begun {
+    place: usize,
+    refusal: u8,
+    timed: usize,
+    known: bool,
+    at: u32,
+}
+
 // Where `run` starts and ends: the items' count and the board, how many bytes were taken, and the place behind the text.
 struct Standing {
     items: u64,
@@ -70,6 +83,9 @@ pub fn take(log: Log, bytes: &[u8], out: &mut [u8], at: usize) -> Stretch
 {
     let board = log.board;
     let sessions = log.sessions;
+    let times = log.times;
+    let mut known = times.known;
+    let mut lasts = times.at;
     let mut bus = [0u8; Bus::ROOM];
     Bus::fill(&mut bus, sessions);
     let from = Standing {
@@ -78,7 +94,7 @@ pub fn take(log: Log, bytes: &[u8], out: &mut [u8], at: usize) -> Stretch
         taken: 0,
         at,
     };
-    let run = run(from, &mut bus, bytes, out);
+    let run = run(from, &mut bus, &mut known, &mut lasts, bytes, out);
     let left = run.board;
     let standing = Bus::read(&bus);
     Stretch {
@@ -86,6 +102,7 @@ pub fn take(log: Log, bytes: &[u8], out: &mut [u8], at: usize) -> Stretch
             items: run.items,
             board: left,
             sessions: standing,
+            times: Times { known, at: lasts },
         },
         taken: run.taken,
         at: run.at,
@@ -111,9 +128,16 @@ pub fn has_room(room: usize, at: usize) -> bool
 
 // The same with the sessions in bytes. The window and the slots are locals here, and their rows are lent, so that a frame
 // changes them where they stand; beside each slot stands its gauge.
-fn run(from: Standing, bus: &mut [u8; Bus::ROOM], bytes: &[u8], out: &mut [u8]) -> Standing
+fn run(
+    from: Standing,
+    bus: &mut [u8; Bus::ROOM],
+    known: &mut [bool; Bus::SENDERS],
+    lasts: &mut [u32; Bus::SENDERS],
+    bytes: &[u8],
+    out: &mut [u8],
+) -> Standing
     requires { ⌜ length (now bus) ≡ roomBytes ⌝ }
-    ensures { λ r. ⌜ Runs from (now (bus .entry)) (now (bytes .entry)) (now (out .entry)) r (now (bus .exit)) (now (out .exit)) ⌝ }
+    ensures { λ r. ⌜ Runs from (logIn from (now (bus .entry)) (now (known .entry)) (now (lasts .entry))) (now (bytes .entry)) (now (out .entry)) r (logIn r (now (bus .exit)) (now (known .exit)) (now (lasts .exit))) (now (out .exit)) ⌝ }
 {
     let mut items = from.items;
     let mut at = from.at;
@@ -128,10 +152,17 @@ fn run(from: Standing, bus: &mut [u8; Bus::ROOM], bytes: &[u8], out: &mut [u8]) 
     let mut gauges = Gauge::of_slots(slots);
     let mut used = Gauge::in_use(slots);
     let mut i: usize = 0;
+    let mut begun = Begun {
+        place: 0,
+        refusal: 0,
+        timed: bytes.len(),
+        known: false,
+        at: 0,
+    };
     while goes_on(counts.size, bytes, i, out.len(), at) {
         items = journal::next_item(items);
-        let tag = wire::byte(bytes, i);
-        if tag != Item::FRAME {
+        let tag = bytes[i];
+        if !is_frame(tag) {
             let value = value_at(bytes, i);
             let s = wire::byte(value, 0) as usize;
             let held = slots[s];
@@ -144,7 +175,14 @@ fn run(from: Standing, bus: &mut [u8; Bus::ROOM], bytes: &[u8], out: &mut [u8]) 
             i += Field::HEAD + value.len();
             continue;
         }
-        let brought = hear(bus, bytes, i, counts);
+        begun = begin(bus, known, lasts, tag, bytes, i, begun);
+        i = begun.place;
+        if begun.refusal != 0 {
+            at = serving::put_refusal(out, at, items, true, begun.refusal);
+            i += Item::FRAME_BYTES;
+            continue;
+        }
+        let brought = hear(bus, known, lasts, begun, bytes, counts);
         at = serving::put_refusal(out, at, items, brought.refused, brought.code);
         i += Item::FRAME_BYTES;
         if brought.number == 0 {
@@ -221,15 +259,26 @@ fn comes_at(rows: u16, bytes: &[u8], i: usize) -> bool
     if Window::LARGEST < rows {
         return false;
     }
-    if item_comes(bytes, i, Item::FRAME, Item::FRAME_SIZE) {
+    if frame_comes(bytes, i) {
         return true;
     }
     slot_comes(bytes, i)
 }
 
+// Whether a frame comes at a place, without a time or with one.
+fn frame_comes(bytes: &[u8], i: usize) -> bool
+    requires { ⌜ i ≤ length (now bytes) ⌝ }
+    ensures { λ r. ⌜ r ≡ frameComes (now (bytes .entry)) i ⌝ }
+{
+    if item_comes(bytes, i, Item::FRAME, Item::FRAME_SIZE) {
+        return true;
+    }
+    item_comes(bytes, i, Item::TIMED, Item::TIMED_SIZE)
+}
+
 // Whether a whole item of that tag and length stands at a place.
 fn item_comes(bytes: &[u8], i: usize, tag: u8, size: usize) -> bool
-    requires { ⌜ (i ≤ length (now bytes)) × (size ≤ 12) ⌝ }
+    requires { ⌜ (i ≤ length (now bytes)) × (size ≤ 16) ⌝ }
     ensures { λ r. ⌜ r ≡ itemComes (now (bytes .entry)) i tag size ⌝ }
 {
     if bytes.len() - i < Field::HEAD + size {
@@ -323,24 +372,111 @@ fn turn_of<'a>(
     slot::turn(held, number, values, gone, losses, shakes, numbers, rows)
 }
 
-// Hands the frame at a place to its sender's session: what that brings to a window of these counts.
-fn hear(room: &mut [u8; Bus::ROOM], bytes: &[u8], i: usize, counts: Counts) -> Brought
-    requires { ⌜ i + 15 ≤ length (now bytes) ⌝ }
-    ensures { λ r. ⌜ r ≡ brought (answerTo (sessionsIn (now (room .entry))) (frameIn (part (i + 3) 12 (now (bytes .entry))))) counts ⌝ }
-    ensures { λ _. ⌜ now (room .exit) ≡ roomOf (sessionsAfter (sessionsIn (now (room .entry))) (frameIn (part (i + 3) 12 (now (bytes .entry))))) ⌝ }
+// Whether a tag is a frame's.
+fn is_frame(tag: u8) -> bool
+    ensures { λ r. ⌜ r ≡ isFrame tag ⌝ }
 {
-    let value = &bytes[i + Field::HEAD..i + Item::FRAME_BYTES];
-    let id = wire::read32(value, 0);
-    let answer = Bus::take(room, id, &value[Item::DATA..Item::FRAME_SIZE]);
-    brings(answer, counts)
+    tag == Item::FRAME || tag == Item::TIMED
 }
 
-// What an answer brings to a window of these counts.
-fn brings(answer: Answer, counts: Counts) -> Brought
+// Begins with the frame at a place: a time in it is met.
+fn begin(
+    room: &mut [u8; Bus::ROOM],
+    known: &mut [bool; Bus::SENDERS],
+    lasts: &mut [u32; Bus::SENDERS],
+    tag: u8,
+    bytes: &[u8],
+    i: usize,
+    last: Begun,
+) -> Begun
+    requires { ⌜ (i + (3 + frameSize tag) ≤ length (now bytes)) × (length (now room) ≡ roomBytes) × (last .timed ≡ i → ⊥) ⌝ }
+    ensures { λ r. ⌜ Begins (stationsIn (now (room .entry)) (now (known .entry)) (now (lasts .entry))) (frameOf tag (part (i + 3) (frameSize tag) (now (bytes .entry)))) (i + (3 + frameSize tag)) last r (now (room .exit)) (now (known .exit)) (now (lasts .exit)) ⌝ }
+{
+    if tag != Item::TIMED {
+        return Begun {
+            place: i,
+            refusal: 0,
+            timed: last.timed,
+            known: last.known,
+            at: last.at,
+        };
+    }
+    let met = meet(
+        room,
+        known,
+        lasts,
+        &bytes[i + Field::HEAD..i + Item::TIMED_BYTES],
+    );
+    let found = met.last;
+    let place = i + Item::TIME;
+    Begun {
+        place,
+        refusal: met.refusal,
+        timed: place,
+        known: found.known,
+        at: found.at,
+    }
+}
+
+// Meets the time in the value of an item that has one.
+fn meet(
+    room: &mut [u8; Bus::ROOM],
+    known: &mut [bool; Bus::SENDERS],
+    lasts: &mut [u32; Bus::SENDERS],
+    value: &[u8],
+) -> Met
+    requires { ⌜ length (now value) ≡ 16 ⌝ }
+    ensures { λ r. ⌜ Meets (stationsIn (now (room .entry)) (now (known .entry)) (now (lasts .entry))) (number (part 0 4 (now (value .entry)))) (number (part 4 4 (now (value .entry)))) (part 8 8 (now (value .entry))) r (now (room .exit)) (now (known .exit)) (now (lasts .exit)) ⌝ }
+{
+    let time = wire::read32(value, 0);
+    let id = wire::read32(value, Item::TIME);
+    Times::meet(
+        room,
+        known,
+        lasts,
+        time,
+        id,
+        &value[Item::TIME + Item::DATA..Item::TIMED_SIZE],
+    )
+}
+
+// Hands the frame that ends an item to its sender's session: what that brings to a window of these counts.
+fn hear(
+    room: &mut [u8; Bus::ROOM],
+    known: &mut [bool; Bus::SENDERS],
+    lasts: &mut [u32; Bus::SENDERS],
+    begun: Begun,
+    bytes: &[u8],
+    counts: Counts,
+) -> Brought
+    requires { ⌜ begun .place + 15 ≤ length (now bytes) ⌝ }
+    ensures { λ r. ⌜ HearsAt (stationsIn (now (room .entry)) (now (known .entry)) (now (lasts .entry))) begun (frameIn (part (begun .place + 3) 12 (now (bytes .entry))) .frame) counts r (now (room .exit)) (now (known .exit)) (now (lasts .exit)) ⌝ }
+{
+    let place = begun.place;
+    let value = &bytes[place + Field::HEAD..place + Item::FRAME_BYTES];
+    let id = wire::read32(value, 0);
+    let answer = Bus::take(room, id, &value[Item::DATA..Item::FRAME_SIZE]);
+    brings(known, lasts, begun, id, answer, counts)
+}
+
+// What an answer brings to a window of these counts; the last time of a refused frame's sender is put back.
+fn brings(
+    known: &mut [bool; Bus::SENDERS],
+    lasts: &mut [u32; Bus::SENDERS],
+    begun: Begun,
+    id: u32,
+    answer: Answer,
+    counts: Counts,
+) -> Brought
     ensures { λ r. ⌜ r ≡ brought answer counts ⌝ }
+    ensures { λ _. ⌜ now (known .exit) ≡ timesBy begun answer id (record { known = now (known .entry); at = now (lasts .entry) }) .known ⌝ }
+    ensures { λ _. ⌜ now (lasts .exit) ≡ timesBy begun answer id (record { known = now (known .entry); at = now (lasts .entry) }) .at ⌝ }
 {
     match answer {
-        Answer::Refused(n) => not_brought(true, n),
+        Answer::Refused(n) => {
+            put_back(known, lasts, begun, id);
+            not_brought(true, n)
+        }
         Answer::Kept => not_brought(false, 0),
         Answer::Complete(r) => {
             let values = r.values;
@@ -353,6 +489,25 @@ fn brings(answer: Answer, counts: Counts) -> Brought
                 values,
             }
         }
+    }
+}
+
+// Puts back what its sender's last time was, if the frame had a time.
+fn put_back(
+    known: &mut [bool; Bus::SENDERS],
+    lasts: &mut [u32; Bus::SENDERS],
+    begun: Begun,
+    id: u32,
+)
+    ensures { λ _. ⌜ now (known .exit) ≡ putBack begun id (record { known = now (known .entry); at = now (lasts .entry) }) .known ⌝ }
+    ensures { λ _. ⌜ now (lasts .exit) ≡ putBack begun id (record { known = now (known .entry); at = now (lasts .entry) }) .at ⌝ }
+{
+    if begun.timed == begun.place {
+        let last = Last {
+            known: begun.known,
+            at: begun.at,
+        };
+        Times::put(known, lasts, (id % 256) as u8, last);
     }
 }
 

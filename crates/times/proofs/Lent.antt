@@ -1,11 +1,11 @@
--- A frame with a time in lent bytes does what it does to its sender's session and last time: each way that the code takes is one of the definition's.
+-- A frame with a time in lent bytes does what it does to its sender's session and last time: what its time settles before and what the session does then are the definition.
 -- Assumes nothing.
-use mathlib.Core.Path.{_≡_, refl, sym, _∙_, ap}
-use mathlib.Core.Bool.{Bool, true, false, cond, not, _&&_, and-false}
+use mathlib.Core.Path.{_≡_, refl, sym, _∙_, ap, ap₂}
+use mathlib.Core.Bool.{Bool, true, false, cond, not, _&&_}
 use mathlib.Core.Option.{Option, none, some}
 use mathlib.Core.List.{List}
 use Prim.Native.Nat.{ℕ, _≤_, _<_}
-use borrow.Author.Tests.{lt-ltb, le-ltb, ltb-true, eqb-true, eqb-false}
+use borrow.Author.Tests.{lt-ltb, ltb-true}
 use lib.Dec.{ltb, eqb}
 use lib.ListN.{length, set}
 use lib.Seq.{set-getD, set-set, getD-set-same}
@@ -14,35 +14,30 @@ use Rattle.joining.specs.declared.Session.{Session}
 use Rattle.joining.specs.declared.Answer.{Answer}
 use Rattle.joining.specs.declared.Answer.the-variants.{Refused}
 use Rattle.joining.specs.Frame.{Frame, senderOf, frameRefusal}
-use Rattle.joining.specs.Joining.{fit, closed, take-frame}
+use Rattle.joining.specs.Joining.{fit, take-frame}
 use Rattle.joining.specs.Run.{nobody, sessionOf, sessionsAfter, answerTo}
 use Rattle.bus.specs.Room.{sessionsIn, roomOf}
 use Rattle.bus.proofs.Places.{room-of-sessions}
 use Rattle.bus.proofs.Rooms.{step-long, sessions-many, set-room, session-long}
 use Rattle.times.specs.declared.Times.{Times}
-use Rattle.times.specs.declared.Came.{Came}
-use Rattle.times.specs.declared.Came.the-variants.{InTime, Late, Before, Unfit}
-use Rattle.times.specs.Timed.{Last, fitLast, isBefore, isLate, metAt, Station, Outcome, turned, lastAfter, kept-at, timed-frame, lastOf, withLast}
-use Rattle.times.specs.Run.{Timed, sender, frameAt, stationStep, Stations, stationOf, withStation, stationsAfter, timedAnswer, stationsIn, timedAt}
-use Rattle.times.proofs.Steps.{Fit, foreign-stays, in-time, unfit-stays, turned-back, settled}
-use Rattle.times.specs.Inner.{cameAt}
+use Rattle.times.specs.declared.Last.{Last}
+use Rattle.times.specs.declared.Station.{Station}
+use Rattle.times.specs.declared.Heard.{Heard}
+use Rattle.times.specs.Timed.{fitLast, isBefore, isLate, metAt, isKept, lastAfter, kept-at, timed-frame, passes, stops, meets, lastOf, withLast, putLast}
+use Rattle.times.specs.Run.{Timed, sender, frameAt, stationStep, Stations, stationOf, withStation, stationsAfter, timedAnswer, stationsIn, timedAt, Takes, stationsMet, Meets}
+use Rattle.times.proofs.Steps.{stops-turned, stops-so, meets-settled}
+use Rattle.times.proofs.Mixing.{plain-after, plain-answer}
 
--- What each way to come says of the tests.
-abbrev Tests : Came → Last → ℕ → Type 0
-Tests InTime l t = (fitLast l ≡ true) × (isBefore l t ≡ false) × (isLate l t ≡ false)
-Tests Late l t = (fitLast l ≡ true) × (isBefore l t ≡ false) × (isLate l t ≡ true)
-Tests Before l t = (fitLast l ≡ true) × (isBefore l t ≡ true)
-Tests Unfit l t = fitLast l ≡ false
+-- Bytes that are a room are those of the sessions in them, also where one is put in its own place.
+pub unchanged : (room : List ℕ) (k : ℕ) → length room ≡ 22098 → {x : Session} → x ≡ sessionOf k (sessionsIn room) → room ≡ roomOf (set (sessionsIn room) k x)
+unchanged room k long e = sym (ap (λ (y : Session). roomOf (set (sessionsIn room) k y)) e ∙ ap roomOf (set-getD (sessionsIn room) k nobody) ∙ room-of-sessions 254 room long)
 
-tests : (l : Last) (t : ℕ) {c : Came} → c ≡ cameAt l t → Tests c l t
-unfolding cameAt
-tests l t e = rw e (go (fitLast l) (isBefore l t) (isLate l t) refl refl refl)
-  where
-    go : (x y z : Bool) → fitLast l ≡ x → isBefore l t ≡ y → isLate l t ≡ z → Tests (cond (not x) Unfit (cond y Before (cond z Late InTime))) l t
-    go false y z a b c = a
-    go true true z a b c = (a, b)
-    go true false true a b c = (a, b, c)
-    go true false false a b c = (a, b, c)
+-- A closing keeps the payload's bytes.
+met-long : (s : Station) (t id : ℕ) (d : List ℕ) → length (s .session .bytes) ≡ 84 → length (meets s t id d .session .bytes) ≡ 84
+met-long s t id d long =
+    either (λ (o : Station). length (o .session .bytes) ≡ 84) (passes (s .last) t)
+    (λ e. either (λ (x : Session). length (x .bytes) ≡ 84) (isLate (s .last) t) (λ e. either (λ (x : Session). length (x .bytes) ≡ 84) (eqb (frameRefusal id d) 0 && fit (s .session)) (λ e. long) (λ e. long)) (λ e. long))
+    (λ e. long)
 
 module _ (room : List ℕ) (known : List Bool) (at : List ℕ) (t id : ℕ) (d : List ℕ) where
   abbrev lent : Stations
@@ -60,67 +55,26 @@ module _ (room : List ℕ) (known : List Bool) (at : List ℕ) (t id : ℕ) (d :
   abbrev own : Station
   own = stationOf (senderOf id) lent
 
-  -- An answer, and what is left in what was lent, are those of the definition.
-  abbrev pub Does : Answer → List ℕ → List Bool → List ℕ → Type 0
-  Does r q ks ts =
-      (r ≡ timedAnswer lent timed)
-      × ((q ≡ roomOf (stationsAfter lent timed .sessions))
-      × ((ks ≡ stationsAfter lent timed .times .known)
-      × (ts ≡ stationsAfter lent timed .times .at)))
-
-  -- Where a frame changes nothing.
-  same : length room ≡ 22098 → stationsAfter lent timed ≡ lent → {r : Answer} → r ≡ timedAnswer lent timed → Does r room known at
-  same long e a =
-      (a, (sym (ap (λ (c : Stations). roomOf (c .sessions)) e ∙ room-of-sessions 254 room long), (sym (ap (λ (c : Stations). c .times .known) e), sym (ap (λ (c : Stations). c .times .at) e))))
-
-  put-back : withStation lent (senderOf id) own ≡ lent
-  put-back =
-      let sessions = set-getD (sessionsIn room) (senderOf id) nobody in
-      let knowns = set-getD known (senderOf id) false in
-      let ats = set-getD at (senderOf id) 0 in
-      λ i. record { sessions = sessions i; times = record { known = knowns i; at = ats i } }
-
-  -- A refusal that changes nothing, of a sender that has a session, ...
-  stays : length room ≡ 22098 → (n : ℕ) → senderOf id < 254 → stationStep own timed ≡ turned n own → Does (Refused n) room known at
-  stays long n h e =
-      same long (rw (lt-ltb (senderOf id) 254 h) (ap (λ (o : Outcome). withStation lent (senderOf id) (o .station)) e ∙ put-back))
-      (rw (lt-ltb (senderOf id) 254 h) (ap (λ (o : Outcome). o .answer) (sym e)))
-
-  -- ... refusals 1 to 3 among them.
-  pub unheard : length room ≡ 22098 → senderOf id < 254 → {n : ℕ} → n ≡ frameRefusal id d → (n ≡ 0 → ⊥) → Does (Refused n) room known at
-  unheard long h e given = rw e (stays long (frameRefusal id d) h (foreign-stays own timed (λ z. given (e ∙ z))))
-
-  -- A sender that has no session.
-  pub no-session : length room ≡ 22098 → 254 ≤ senderOf id → {n : ℕ} → n ≡ frameRefusal id d → Does (Refused n) room known at
-  no-session long h e = same long (rw (le-ltb (senderOf id) 254 h)) (ap Refused e ∙ rw (le-ltb (senderOf id) 254 h))
-
-  module _ (long : length room ≡ 22098) (h : senderOf id < 254) where
-    -- What the last time refuses: 1 to 3 and an unfit session's 24 come first.
-    turns : (code : ℕ) → (frameRefusal id d ≡ 0 → fit (own .session) ≡ true → stationStep own timed ≡ turned code own)
-        → {r : Answer} → r ≡ Refused (cond (eqb (frameRefusal id d) 0) (cond (fit (own .session)) code 24) (frameRefusal id d)) → Does r room known at
-    turns code step a = rw a (go (eqb (frameRefusal id d) 0) (fit (own .session)) refl refl)
+  -- What `Times::meet` does for a sender that has a session: the last time refuses nothing, and is set, ...
+  module _ (h : senderOf id < 254) {n : ℕ} {q : List ℕ} (e : n ≡ stops own t id d) (f : q ≡ roomOf (set (sessionsIn room) (senderOf id) (meets own t id d .session))) where
+    pub met-passes : n ≡ 0 → Meets lent t id d (record { refusal = n; last = own .last }) q (set known (senderOf id) true) (set at (senderOf id) t)
+    met-passes z = go (passes (own .last) t) refl
       where
-        go : (x y : Bool) → eqb (frameRefusal id d) 0 ≡ x → fit (own .session) ≡ y → Does (Refused (cond x (cond y code 24) (frameRefusal id d))) room known at
-        go true true e f = stays long code h (step (eqb-true _ _ e) f)
-        go true false e f = stays long 24 h (unfit-stays own t frame (eqb-true _ _ e) (rw f))
-        go false y e f = stays long (frameRefusal id d) h (foreign-stays own timed (eqb-false _ _ e))
+        go : (b : Bool) → passes (own .last) t ≡ b → Meets lent t id d (record { refusal = n; last = own .last }) q (set known (senderOf id) true) (set at (senderOf id) t)
+        go false p = absurd (stops-so own t id d p (sym e ∙ z))
+        go true p =
+            let has = lt-ltb (senderOf id) 254 h in
+            record { refuses = e ∙ rw has; found = rw has; sessions = f ∙ rw has; knows = rw (has, p); times = rw (has, p) }
 
-    -- A time before the last one, ...
-    pub turned-back-there : Before ≡ cameAt (lastOf (senderOf id) times) t
-        → {r : Answer} → r ≡ Refused (cond (eqb (frameRefusal id d) 0) (cond (fit (own .session)) 26 24) (frameRefusal id d)) → Does r room known at
-    turned-back-there w =
-        let x = tests (lastOf (senderOf id) times) t w in
-        turns 26 (λ e f. turned-back own (record { session = f; last = x .0 }) t frame e (x .1))
-
-    -- ... and a last time that is unfit.
-    pub unfit-there : Unfit ≡ cameAt (lastOf (senderOf id) times) t
-        → {r : Answer} → r ≡ Refused (cond (eqb (frameRefusal id d) 0) (cond (fit (own .session)) 24 24) (frameRefusal id d)) → Does r room known at
-    unfit-there w =
-        turns 24 (λ e f. unfit-stays own t frame e (ap (λ (b : Bool). fit (own .session) && b) (tests _ t w) ∙ and-false (fit (own .session))))
-
-    -- One too late at a session that is unfit.
-    pub unfit-session : frameRefusal id d ≡ 0 → {b : Bool} → b ≡ fit (sessionOf (senderOf id) (sessionsIn room)) → b ≡ false → Does (Refused 24) room known at
-    unfit-session e f g = stays long 24 h (unfit-stays own t frame e (rw (sym f ∙ g)))
+    -- ... or it refuses the frame, and stays.
+    pub met-stops : (n ≡ 0 → ⊥) → Meets lent t id d (record { refusal = n; last = own .last }) q known at
+    met-stops given = go (passes (own .last) t) refl
+      where
+        go : (b : Bool) → passes (own .last) t ≡ b → Meets lent t id d (record { refusal = n; last = own .last }) q known at
+        go true p = absurd (given (e ∙ rw p))
+        go false p =
+            let has = lt-ltb (senderOf id) 254 h in
+            record { refuses = e ∙ rw has; found = rw has; sessions = f ∙ rw has; knows = rw (has, p) (sym (set-getD known (senderOf id) false)); times = rw (has, p) (sym (set-getD at (senderOf id) 0)) }
 
   -- The untimed rules, at sessions ss that are the lent ones but perhaps for the sender's own, x.
   module _ (h : senderOf id < 254) (ss : List Session) (x : Session) (there : sessionOf (senderOf id) ss ≡ x)
@@ -130,7 +84,7 @@ module _ (room : List ℕ) (known : List Bool) (at : List ℕ) (t id : ℕ) (d :
     answers = rw (lt-ltb (senderOf id) 254 h) (ap (λ (y : Session). take-frame y id d .answer) there)
 
     answers-timed : timedAnswer lent timed ≡ take-frame x id d .answer
-    answers-timed = rw (lt-ltb (senderOf id) 254 h) (ap (λ (o : Outcome). o .answer) e)
+    answers-timed = rw (lt-ltb (senderOf id) 254 h) (ap (λ (o : Heard). o .answer) e)
 
     leaves : sessionsAfter ss frame ≡ set (sessionsIn room) (senderOf id) (take-frame x id d .session)
     leaves =
@@ -138,47 +92,80 @@ module _ (room : List ℕ) (known : List Bool) (at : List ℕ) (t id : ℕ) (d :
         (others (take-frame (sessionOf (senderOf id) ss) id d .session) ∙ ap (λ (y : Session). set (sessionsIn room) (senderOf id) (take-frame y id d .session)) there)
 
     leaves-timed : stationsAfter lent timed ≡ withStation lent (senderOf id) (kept-at t (own .last) (take-frame x id d) .station)
-    leaves-timed = rw (lt-ltb (senderOf id) 254 h) (ap (λ (o : Outcome). withStation lent (senderOf id) (o .station)) e)
+    leaves-timed = rw (lt-ltb (senderOf id) 254 h) (ap (λ (o : Heard). withStation lent (senderOf id) (o .station)) e)
 
     settles : {r : Answer} {q : List ℕ} {ks : List Bool} {ts : List ℕ} → r ≡ answerTo ss frame → q ≡ roomOf (sessionsAfter ss frame)
         → ks ≡ withLast times (senderOf id) (lastAfter r t (lastOf (senderOf id) times)) .known
-        → ts ≡ withLast times (senderOf id) (lastAfter r t (lastOf (senderOf id) times)) .at → Does r q ks ts
+        → ts ≡ withLast times (senderOf id) (lastAfter r t (lastOf (senderOf id) times)) .at → Takes lent timed r q ks ts
     settles a b c f =
-        let same-answer = a ∙ answers in (
-          same-answer ∙ sym answers-timed,
-          (
-            b ∙ ap roomOf leaves ∙ sym (ap (λ (y : Stations). roomOf (y .sessions)) leaves-timed),
-            (
-              c ∙ ap (λ (y : Answer). withLast times (senderOf id) (lastAfter y t (lastOf (senderOf id) times)) .known) same-answer ∙ sym (ap (λ (y : Stations). y .times .known) leaves-timed),
-              f ∙ ap (λ (y : Answer). withLast times (senderOf id) (lastAfter y t (lastOf (senderOf id) times)) .at) same-answer ∙ sym (ap (λ (y : Stations). y .times .at) leaves-timed),
-            ),
-          ),
-        )
+        let same-answer = a ∙ answers in
+        record {
+          answers = same-answer ∙ sym answers-timed;
+          sessions = b ∙ ap roomOf leaves ∙ sym (ap (λ (y : Stations). roomOf (y .sessions)) leaves-timed);
+          knows =
+              c ∙ ap (λ (y : Answer). withLast times (senderOf id) (lastAfter y t (lastOf (senderOf id) times)) .known) same-answer ∙ sym (ap (λ (y : Stations). y .times .known) leaves-timed);
+          times =
+              f ∙ ap (λ (y : Answer). withLast times (senderOf id) (lastAfter y t (lastOf (senderOf id) times)) .at) same-answer ∙ sym (ap (λ (y : Stations). y .times .at) leaves-timed);
+        }
 
-  module _ (h : senderOf id < 254) {r : Answer} {q : List ℕ} {ks : List Bool} {ts : List ℕ}
-      (c : ks ≡ withLast times (senderOf id) (lastAfter r t (lastOf (senderOf id) times)) .known)
-      (f : ts ≡ withLast times (senderOf id) (lastAfter r t (lastOf (senderOf id) times)) .at) where
-    -- In time: the lent sessions as they are, ...
-    pub straight : InTime ≡ cameAt (lastOf (senderOf id) times) t → r ≡ answerTo (sessionsIn room) frame → q ≡ roomOf (sessionsAfter (sessionsIn room) frame) → Does r q ks ts
-    straight w a b =
-        let x = tests (lastOf (senderOf id) times) t w in
-        settles h (sessionsIn room) (own .session) refl (λ y. refl) (in-time own (x .0) t frame (x .1) (x .2)) a b c f
+  -- What `Times::meet` found and left, in bytes that are a room.
+  module _ (long : length room ≡ 22098) {n : ℕ} {l : Last} {q : List ℕ} {ks : List Bool} {ts : List ℕ} (m : Meets lent t id d (record { refusal = n; last = l }) q ks ts) where
+    -- The last time refuses the frame.
+    pub met-refused : (n ≡ 0 → ⊥) → Takes lent timed (Refused n) q ks ts
+    met-refused given = go (ltb (senderOf id) 254) (passes (own .last) t) refl refl
+      where
+        go : (x y : Bool) → ltb (senderOf id) 254 ≡ x → passes (own .last) t ≡ y → Takes lent timed (Refused n) q ks ts
+        go false y e f = absurd (given (m .refuses ∙ rw e))
+        go true true e f = absurd (given (m .refuses ∙ rw (e, f)))
+        go true false e f =
+            let step = sym (stops-turned own t frame f) in
+            let met : stationsMet lent t id d ≡ stationsAfter lent timed = rw (e, f) (ap (λ (o : Heard). withStation lent (senderOf id) (o .station)) step) in
+            record {
+              answers = ap Refused (m .refuses) ∙ rw e (ap (λ (o : Heard). o .answer) step);
+              sessions = m .sessions ∙ ap (λ (c : Stations). roomOf (c .sessions)) met;
+              knows = m .knows ∙ ap (λ (c : Stations). c .times .known) met;
+              times = m .times ∙ ap (λ (c : Stations). c .times .at) met;
+            }
 
-    -- ... and too late: those that the closing left.
-    pub late : length room ≡ 22098 → frameRefusal id d ≡ 0 → Late ≡ cameAt (lastOf (senderOf id) times) t → {b : Bool} → b ≡ fit (sessionOf (senderOf id) (sessionsIn room)) → b ≡ true
-        → {mid : List ℕ} → mid ≡ roomOf (set (sessionsIn room) (senderOf id) (closed (sessionOf (senderOf id) (sessionsIn room))))
-        → r ≡ answerTo (sessionsIn mid) frame → q ≡ roomOf (sessionsAfter (sessionsIn mid) frame) → Does r q ks ts
-    late long e w g u {mid} m a b =
-        let x = tests (lastOf (senderOf id) times) t w in
-        let shut = closed (own .session) in
-        let ss : sessionsIn mid ≡ set (sessionsIn room) (senderOf id) shut =
-        ap sessionsIn m ∙ set-room room (senderOf id) shut long (session-long room (senderOf id) long h) .1 in
-        let ok : Fit own = record { session = sym g ∙ u; last = x .0 } in
-        settles h (sessionsIn mid) shut
-        (ap (sessionOf (senderOf id)) ss ∙ getD-set-same (sessionsIn room) (senderOf id) shut nobody (rw (sessions-many 254 room) h))
-        (λ y. ap (λ (l : List Session). set l (senderOf id) y) ss ∙ set-set (sessionsIn room) (senderOf id) shut y)
-        (settled own ok t frame e (x .1) ∙ rw (x .2))
-        a b c f
+    abbrev left : Times
+    left = record { known = ks; at = ts }
+
+    -- It refuses none, and the untimed rules take the frame: where they refuse it, the last time is put back.
+    pub met-taken : n ≡ 0 → {r : Answer} {q₁ : List ℕ} {ks₁ : List Bool} {ts₁ : List ℕ} → r ≡ answerTo (sessionsIn q) frame → q₁ ≡ roomOf (sessionsAfter (sessionsIn q) frame)
+        → ks₁ ≡ cond (isKept r) left (putLast left (senderOf id) l) .known → ts₁ ≡ cond (isKept r) left (putLast left (senderOf id) l) .at → Takes lent timed r q₁ ks₁ ts₁
+    met-taken z {r} {q₁} {ks₁} {ts₁} a b c f = go (ltb (senderOf id) 254) (passes (own .last) t) refl refl
+      where
+        known-so : ltb (senderOf id) 254 ≡ true → l ≡ own .last → (y : Bool) → isKept r ≡ y → ks ≡ set known (senderOf id) true
+            → cond (isKept r) left (putLast left (senderOf id) l) .known ≡ set known (senderOf id) (lastAfter r t (own .last) .known)
+        known-so has was true k e = rw k e
+        known-so has was false k e = rw (k, has, e, was) (set-set known (senderOf id) true (own .last .known))
+
+        time-so : ltb (senderOf id) 254 ≡ true → l ≡ own .last → (y : Bool) → isKept r ≡ y → ts ≡ set at (senderOf id) t
+            → cond (isKept r) left (putLast left (senderOf id) l) .at ≡ set at (senderOf id) (lastAfter r t (own .last) .at)
+        time-so has was true k e = rw k e
+        time-so has was false k e = rw (k, has, e, was) (set-set at (senderOf id) t (own .last .at))
+
+        go : (x y : Bool) → ltb (senderOf id) 254 ≡ x → passes (own .last) t ≡ y → Takes lent timed r q₁ ks₁ ts₁
+        go false y e g =
+            let same : q ≡ room = m .sessions ∙ rw e (room-of-sessions 254 room long) in
+            let refused : r ≡ Refused (frameRefusal id d) = a ∙ rw e in
+            record {
+              answers = refused ∙ rw e;
+              sessions = b ∙ rw e (ap (λ (x : List ℕ). roomOf (sessionsIn x)) same);
+              knows = c ∙ rw (refused, e) (m .knows ∙ rw e);
+              times = f ∙ rw (refused, e) (m .times ∙ rw e);
+            }
+        go true false e g = absurd (stops-so own t id d g (sym (m .refuses ∙ rw e) ∙ z))
+        go true true e g =
+            let h = ltb-true (senderOf id) 254 e in
+            let x = meets own t id d .session in
+            let ss : sessionsIn q ≡ set (sessionsIn room) (senderOf id) x =
+            ap sessionsIn (m .sessions ∙ rw e) ∙ set-room room (senderOf id) x long (met-long own t id d (session-long room (senderOf id) long h)) .1 in
+            settles h (sessionsIn q) x
+            (ap (sessionOf (senderOf id)) ss ∙ getD-set-same (sessionsIn room) (senderOf id) x nobody (rw (sessions-many 254 room) h))
+            (λ y. ap (λ (l : List Session). set l (senderOf id) y) ss ∙ set-set (sessionsIn room) (senderOf id) x y)
+            (meets-settled own t frame g)
+            a b (c ∙ known-so e (m .found ∙ rw e) (isKept r) refl (m .knows ∙ rw (e, g))) (f ∙ time-so e (m .found ∙ rw e) (isKept r) refl (m .times ∙ rw (e, g)))
 
 -- A frame keeps the payload's length, whatever the session and the last time are.
 station-long : (s : Station) (f : Timed) → length (s .session .bytes) ≡ 84 → length (stationStep s f .station .session .bytes) ≡ 84
@@ -191,9 +178,9 @@ station-long s f long = go (f .time)
     go : (o : Option ℕ) → length (frameAt o s (f .frame) .station .session .bytes) ≡ 84
     go none = step-long (s .session) (f .frame) long
     go (some t) =
-        either (λ (o : Outcome). length (o .station .session .bytes) ≡ 84) (not (eqb (frameRefusal (f .frame .identifier) (f .frame .data-bytes)) 0)) (λ e. long)
-        (λ e. either (λ (o : Outcome). length (o .station .session .bytes) ≡ 84) (not (fit (s .session) && fitLast (s .last))) (λ e. long)
-        (λ e. either (λ (o : Outcome). length (o .station .session .bytes) ≡ 84) (isBefore (s .last) t) (λ e. long) (λ e. step-long (metAt (s .session) (s .last) t) (f .frame) (met (s .last) t))))
+        either (λ (o : Heard). length (o .station .session .bytes) ≡ 84) (not (eqb (frameRefusal (f .frame .identifier) (f .frame .data-bytes)) 0)) (λ e. long)
+        (λ e. either (λ (o : Heard). length (o .station .session .bytes) ≡ 84) (not (fit (s .session) && fitLast (s .last))) (λ e. long)
+        (λ e. either (λ (o : Heard). length (o .station .session .bytes) ≡ 84) (isBefore (s .last) t) (λ e. long) (λ e. step-long (metAt (s .session) (s .last) t) (f .frame) (met (s .last) t))))
 
 -- What `Times::take` leaves is a room again, and it holds those sessions.
 pub next-room : (room : List ℕ) (ts : Times) (f : Timed) → length room ≡ 22098
@@ -213,3 +200,17 @@ next-room room ts f long = go (ltb (sender f) 254) refl
     go : (t : Bool) → ltb (sender f) 254 ≡ t → Holds (cond t (withStation b (sender f) s) b)
     go true e = set-room room (sender f) (s .session) long (station-long (stationOf (sender f) b) f (session-long room (sender f) long (ltb-true _ _ e)))
     go false e = (ap length (room-of-sessions 254 room long) ∙ long, ap sessionsIn (room-of-sessions 254 room long))
+
+-- What `Bus::take` leaves is what a frame without a time leaves, and the times stay.
+pub untimed-takes : (room : List ℕ) (known : List Bool) (at : List ℕ) (f : Frame) {answer : Answer} {left : List ℕ}
+    → answer ≡ answerTo (sessionsIn room) f → left ≡ roomOf (sessionsAfter (sessionsIn room) f)
+    → Takes (stationsIn room known at) (record { frame = f; time = none }) answer left known at
+untimed-takes room known at f a e =
+    let b = stationsIn room known at in
+    let after = plain-after b f in
+    record {
+      answers = a ∙ sym (plain-answer b f);
+      sessions = e ∙ sym (ap (λ (c : Stations). roomOf (c .sessions)) after);
+      knows = sym (ap (λ (c : Stations). c .times .known) after);
+      times = sym (ap (λ (c : Stations). c .times .at) after);
+    }

@@ -1,6 +1,7 @@
 -- Laws that the crates above cite.
 pub mod Steps
 pub mod Mixing
+pub mod Driving
 pub mod Reached
 pub mod MadeUp
 pub mod RoundTrip

@@ -12,19 +12,20 @@ use lib.Dec.{ltb, eqb}
 use lib.ListN.{length, getD, take}
 use Rattle.report.specs.Payload.{readPayload}
 use Rattle.report.specs.declared.Report.{Report}
-use Rattle.report.specs.declared.Reading.{Reading}
-use Rattle.report.specs.declared.Reading.the-variants as reading
 use Rattle.joining.specs.declared.Session.{Session}
 use Rattle.joining.specs.declared.Answer.{Answer}
 use Rattle.joining.specs.declared.Answer.the-variants.{Refused, Kept, Complete}
 use Rattle.joining.specs.declared.Taken.{Taken}
 use Rattle.joining.specs.Frame.{Frame, frameRefusal}
-use Rattle.joining.specs.Joining.{packets, fit, closed, opened, advanced, yields, stored}
+use Rattle.joining.specs.Joining.{fit, closed, opened, advanced, stored}
 use Rattle.joining.specs.Run.{soloStep, Announces, Numbered, InSequence, joined}
+use Rattle.joining.proofs.Answers.{refuses, keeps, accepts}
 use Rattle.joining.proofs.Cases.{Case, passed, shut, stray, good, next, last, cases}
 use Rattle.joining.proofs.Reached.{fit-open}
 use Rattle.joining.proofs.MadeUp.{Opening, starts, goes-on, in-order, all-packets, ended}
-use Rattle.times.specs.Timed.{Last, timeOf, Station}
+use Rattle.times.specs.declared.Last.{Last}
+use Rattle.times.specs.declared.Station.{Station}
+use Rattle.times.specs.Timed.{timeOf}
 use Rattle.times.specs.Run.{Timed, sender, stationStep, stationAfterAll, Stations, stationOf, freshStation, freshStations, stationsAfter, timedAnswer, stationsAfterAll, timedAnswers, framesOf, ownTimed, passedOver, heardAt, timeIn, timesOf, Spaced, SentTimed, FromSender}
 use Rattle.times.proofs.Steps.{Fit, lastBy, NearBy, Way, away, straight, late, ways, closed-fit, step-stays-fit}
 use Rattle.times.proofs.Mixing.{mixing, own-answer}
@@ -80,18 +81,6 @@ length-frames (f ∷ fs) = ap suc (length-frames fs)
 refused-by : (o : Option ℕ) (n : ℕ) (l : Last) → lastBy o (Refused n) l ≡ l
 refused-by none n l = refl
 refused-by (some t) n l = refl
-
--- ---- answers that are no report
-
-refuses : {r : Report} (n : ℕ) → Refused n ≡ Complete r → ⊥
-refuses n e = let z : _≡_ {A = ℕ} 0 1 = cc in omega arith
-
-keeps : {r : Report} → Kept ≡ Complete r → ⊥
-keeps e = let z : _≡_ {A = ℕ} 0 1 = cc in omega arith
-
-accepts : (r : Report) (y : Reading) → yields y ≡ Complete r → y ≡ reading.Accepted r
-accepts r (reading.Accepted q) e = cc
-accepts r (reading.Refused n) e = absurd (refuses n e)
 
 -- ---- what an open session holds
 
@@ -284,7 +273,7 @@ known-sender b f r = go (ltb (sender f) 254) refl
     go : (t : Bool) → ltb (sender f) 254 ≡ t
         → cond t (stationStep (stationOf (sender f) b) f .answer) (Refused (frameRefusal (f .frame .identifier) (f .frame .data-bytes))) ≡ Complete r → sender f < 254
     go true e h = ltb-true _ _ e
-    go false e h = absurd (let z : _≡_ {A = ℕ} 0 1 = cc in omega arith)
+    go false e h = absurd (refuses _ h)
 
 -- The whole bus, all sessions fresh and no times: where f yields a report after the frames fs of whatever senders, with times or without, then f's own sender sent the
 -- announcement and, since then, exactly the packets that the report was read from, in sequence and in time.

@@ -13,7 +13,7 @@ use lib.Dec.{ltb, eqb}
 use Rattle.joining.specs.declared.Answer.{Answer}
 use Rattle.joining.specs.Frame.{Frame}
 use Rattle.joining.specs.Run.{nobody, sessionsAfter, answerTo, sessionsAfterAll, answersToAll, ownAnswers}
-use Rattle.times.specs.Timed.{Station}
+use Rattle.times.specs.declared.Station.{Station}
 use Rattle.times.specs.Run.{Timed, sender, stationStep, stationAfterAll, stationAnswers, Stations, stationOf, withStation, stationsAfter, timedAnswer, stationsAfterAll, timedAnswers, framesOf, untimed, ownTimed}
 
 -- A session and a last time for each sender.

@@ -1,22 +1,25 @@
 -- What frames with and without times lead to from fresh sessions and no times is fit, station by station; so no frame is ever refused 24.
 -- Assumes nothing.
 use mathlib.Core.Path.{_≡_, refl, subst}
-use mathlib.Core.Bool.{Bool, true, false, cond}
+use mathlib.Core.Bool.{true, false}
 use mathlib.Core.Logic.{inl, inr}
 use mathlib.Core.List.{List, [], _∷_}
-use Prim.Native.Nat.{ℕ, _≤_, _<_}
+use Prim.Native.Nat.{ℕ, _<_}
 use native.Mathlib.Omega.{arith}
-use borrow.Author.Tests.{ltb-true, ltb-false, lt-ltb}
+use borrow.Author.Tests.{ltb-true, ltb-false}
 use lib.Dec.{ltb}
 use lib.ListN.{length-replicate, getD-replicate}
-use Rattle.laws.proofs.Tests.{clash, either}
-use Rattle.joining.specs.declared.Answer.the-variants.{Refused}
-use Rattle.joining.specs.Frame.{senderOf, malformed, foreign, frameRefusal}
-use Rattle.joining.specs.Joining.{freshSession, fit}
+use Rattle.laws.proofs.Tests.{either}
+use Rattle.values.specs.Range.{inRange}
+use Rattle.report.specs.declared.Report.{Report}
+use Rattle.joining.specs.declared.Answer.the-variants.{Refused, Complete}
+use Rattle.joining.specs.Joining.{freshSession}
+use Rattle.joining.proofs.Frames.{frame-refusals, unheard-refused}
 use Rattle.joining.proofs.Reached.{fresh-fit, fresh-of}
-use Rattle.times.specs.Timed.{fitLast, Station}
+use Rattle.times.specs.declared.Station.{Station}
+use Rattle.times.specs.Timed.{fitLast}
 use Rattle.times.specs.Run.{Timed, sender, stationStep, stationAfterAll, stationOf, freshStation, freshStations, timedAnswer, stationsAfterAll, ownTimed}
-use Rattle.times.proofs.Steps.{Fit, step-stays-fit, Named, step-named, frame-refusals}
+use Rattle.times.proofs.Steps.{Fit, step-stays-fit, Named, step-named}
 use Rattle.times.proofs.Mixing.{Whole, mixing}
 
 pub fresh-whole : Whole freshStations
@@ -43,16 +46,6 @@ run-fit s (f ∷ fs) ok = run-fit (stationStep s f .station) fs (step-stays-fit 
 pub reached-fit : (fs : List Timed) (k : ℕ) → k < 254 → Fit (stationOf k (stationsAfterAll freshStations fs))
 reached-fit fs k h = rw (mixing k h freshStations fs fresh-whole .0, fresh-station k h) (run-fit freshStation (ownTimed k fs) fresh-is-fit)
 
-unheard-refused : (id : ℕ) (d : List ℕ) → 254 ≤ senderOf id → 1 ≤ frameRefusal id d
-unfolding frameRefusal
-unheard-refused id d h = go (malformed id d) (foreign id) (ltb 253 (senderOf id)) (lt-ltb 253 (senderOf id) h)
-  where
-    go : (x y z : Bool) → z ≡ true → 1 ≤ cond x 1 (cond y 2 (cond z 3 0))
-    go true y z e = omega arith
-    go false true z e = omega arith
-    go false false true e = omega arith
-    go false false false e = clash {b = false} e refl
-
 -- So what a frame is refused there is 1 to 10 or 26 ...
 pub reached-named : (fs : List Timed) (f : Timed) → Named (timedAnswer (stationsAfterAll freshStations fs) f)
 reached-named fs f =
@@ -63,7 +56,11 @@ reached-named fs f =
     let high = frame-refusals (f .frame .identifier) (f .frame .data-bytes) in
     inl (low, omega arith))
 
--- ... and never 24.
+-- ... a report has permitted values, ...
+pub reached-complete : (fs : List Timed) (f : Timed) (r : Report) → timedAnswer (stationsAfterAll freshStations fs) f ≡ Complete r → inRange (r .values) ≡ true
+reached-complete fs f r e = subst Named e (reached-named fs f)
+
+-- ... and 24 never comes.
 pub never-unfit : (fs : List Timed) (f : Timed) → timedAnswer (stationsAfterAll freshStations fs) f ≡ Refused 24 → ⊥
 never-unfit fs f e = go (subst Named e (reached-named fs f))
   where

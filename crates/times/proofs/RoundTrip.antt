@@ -14,14 +14,17 @@ use Rattle.report.specs.Payload.{payload, size}
 use Rattle.report.proofs.RoundTrip.{Permitted}
 use Rattle.joining.specs.declared.Session.{Session}
 use Rattle.joining.specs.declared.Answer.{Answer}
-use Rattle.joining.specs.declared.Answer.the-variants.{Refused, Kept, Complete}
+use Rattle.joining.specs.declared.Answer.the-variants.{Kept, Complete}
 use Rattle.joining.specs.Frame.{Frame, frameRefusal}
 use Rattle.joining.specs.Joining.{packets, fit, take-frame, payloadHeld}
 use Rattle.joining.specs.Run.{soloStep, soloSession, soloAnswers, ownAnswers}
 use Rattle.joining.proofs.Reached.{step-fit}
 use Rattle.bench.specs.Bench.{frames}
 use Rattle.bench.proofs.RoundTrip as bench
-use Rattle.times.specs.Timed.{Last, timeOf, metAt, Station, Outcome, lastAfter}
+use Rattle.times.specs.declared.Last.{Last}
+use Rattle.times.specs.declared.Station.{Station}
+use Rattle.times.specs.declared.Heard.{Heard}
+use Rattle.times.specs.Timed.{timeOf, metAt, isKept, lastAfter}
 use Rattle.times.specs.Run.{Timed, frameAt, stationAfterAll, stationAnswers, Stations, stationOf, stationsAfterAll, timedAnswers, framesOf, ownTimed, timeIn, timesOf, Spaced, lastIn, TimelyFrom, Timely}
 use Rattle.times.proofs.Steps.{Fit, Near, not-before, not-late, met-fit, after-fit, in-time, settled, lastBy, taken-by, by-fit}
 use Rattle.times.proofs.Mixing.{Whole, mixing}
@@ -42,33 +45,26 @@ behind-last l t ts = go (l .known)
     go false h = h
 
 -- Answers that refuse nothing.
-abbrev Takes : Answer → Type 0
-Takes (Refused n) = ⊥
-Takes Kept = Unit
-Takes (Complete r) = Unit
+abbrev AllKept : List Answer → Type 0
+AllKept [] = Unit
+AllKept (a ∷ all) = (isKept a ≡ true) × AllKept all
 
-abbrev AllTaken : List Answer → Type 0
-AllTaken [] = Unit
-AllTaken (a ∷ all) = Takes a × AllTaken all
-
-takes-time : (a : Answer) (t : ℕ) (l : Last) → Takes a → lastAfter a t l ≡ timeOf t
-takes-time (Refused n) t l h = absurd h
-takes-time Kept t l h = refl
-takes-time (Complete r) t l h = refl
+kept-time : (a : Answer) (t : ℕ) (l : Last) → isKept a ≡ true → lastAfter a t l ≡ timeOf t
+kept-time a t l h = rw h
 
 -- A frame that comes in time, and what is left of the times.
-smooth-step : (o : Option ℕ) (s : Station) (g : Frame) (ts : List ℕ) → Fit s → Takes (soloStep (s .session) g .answer) → Spaced (lastIn (s .last) ++ (timeIn o ++ ts))
+smooth-step : (o : Option ℕ) (s : Station) (g : Frame) (ts : List ℕ) → Fit s → isKept (soloStep (s .session) g .answer) ≡ true → Spaced (lastIn (s .last) ++ (timeIn o ++ ts))
     → (frameAt o s g ≡ taken-by o (s .last) (soloStep (s .session) g))
     × Spaced (lastIn (lastBy o (soloStep (s .session) g .answer) (s .last)) ++ ts)
 smooth-step none s g ts ok k h = (refl, h)
 smooth-step (some t) s g ts ok k h =
     let n = near-first (s .last) t ts h in (
       in-time s (ok .last) t g (not-before (s .last) t (λ e. n e .0)) (not-late (s .last) t (λ e. n e .1)),
-      rw (takes-time (soloStep (s .session) g .answer) t (s .last) k) (behind-last (s .last) t ts h),
+      rw (kept-time (soloStep (s .session) g .answer) t (s .last) k) (behind-last (s .last) t ts h),
     )
 
 -- Frames that come in time and aren't refused are taken as without their times.
-smooth : (s : Station) (fs : List Timed) → Fit s → AllTaken (soloAnswers (s .session) (framesOf fs)) → Spaced (lastIn (s .last) ++ timesOf fs)
+smooth : (s : Station) (fs : List Timed) → Fit s → AllKept (soloAnswers (s .session) (framesOf fs)) → Spaced (lastIn (s .last) ++ timesOf fs)
     → (stationAnswers s fs ≡ soloAnswers (s .session) (framesOf fs)) × (stationAfterAll s fs .session ≡ soloSession (s .session) (framesOf fs))
 unfolding stationAnswers stationAfterAll soloAnswers soloSession framesOf timesOf
 smooth s [] ok k h = (refl, refl)
@@ -77,18 +73,18 @@ smooth s (f ∷ fs) ok k h =
     let step = smooth-step (f .time) s (f .frame) (timesOf fs) ok (k .0) h in
     let then : Station = record { session = u .session; last = lastBy (f .time) (u .answer) (s .last) } in
     let rest = smooth then fs (record { session = step-fit (s .session) (f .frame) (ok .session); last = by-fit (f .time) (u .answer) (s .last) (ok .last) }) (k .1) (step .1) in (
-      ap (λ (x : Outcome). x .answer ∷ stationAnswers (x .station) fs) (step .0) ∙ ap (λ (l : List Answer). u .answer ∷ l) (rest .0),
-      ap (λ (x : Outcome). stationAfterAll (x .station) fs .session) (step .0) ∙ rest .1,
+      ap (λ (x : Heard). x .answer ∷ stationAnswers (x .station) fs) (step .0) ∙ ap (λ (l : List Answer). u .answer ∷ l) (rest .0),
+      ap (λ (x : Heard). stationAfterAll (x .station) fs .session) (step .0) ∙ rest .1,
     )
 
 -- A frame that isn't refused isn't refused 1 to 3.
-taken-frame : (s : Session) (g : Frame) → Takes (soloStep s g .answer) → frameRefusal (g .identifier) (g .data-bytes) ≡ 0
+kept-frame : (s : Session) (g : Frame) → isKept (soloStep s g .answer) ≡ true → frameRefusal (g .identifier) (g .data-bytes) ≡ 0
 unfolding take-frame
-taken-frame s g k = go (eqb (frameRefusal (g .identifier) (g .data-bytes)) 0) refl
+kept-frame s g k = go (eqb (frameRefusal (g .identifier) (g .data-bytes)) 0) refl
   where
     go : (b : Bool) → eqb (frameRefusal (g .identifier) (g .data-bytes)) 0 ≡ b → frameRefusal (g .identifier) (g .data-bytes) ≡ 0
     go true e = eqb-true _ _ e
-    go false e = absurd (rw e at k)
+    go false e = absurd (false≢true (rw e at k))
 
 -- Frames that any fit session takes, the first perhaps after a long time: some fit session takes them so without their times.
 record TakenAs (s : Station) (fs : List Timed) : Type 0 where
@@ -97,7 +93,7 @@ record TakenAs (s : Station) (fs : List Timed) : Type 0 where
   answers : stationAnswers s fs ≡ soloAnswers by (framesOf fs)
   session : stationAfterAll s fs .session ≡ soloSession by (framesOf fs)
 
-module _ (s : Station) (ok : Fit s) (g : Frame) (fs : List Timed) (takes : (x : Session) → fit x ≡ true → AllTaken (soloAnswers x (g ∷ framesOf fs))) where
+module _ (s : Station) (ok : Fit s) (g : Frame) (fs : List Timed) (takes : (x : Session) → fit x ≡ true → AllKept (soloAnswers x (g ∷ framesOf fs))) where
   opened-at : (o : Option ℕ) → TimelyFrom o (s .last) fs → TakenAs s (record { frame = g; time = o } ∷ fs)
   unfolding stationAnswers stationAfterAll soloAnswers soloSession framesOf timesOf
   opened-at none h =
@@ -108,19 +104,19 @@ module _ (s : Station) (ok : Fit s) (g : Frame) (fs : List Timed) (takes : (x : 
       let fits = met-fit (s .session) (s .last) t (ok .session) in
       let k = takes x fits in
       let u = soloStep x g in
-      let e = settled s ok t g (taken-frame x g (k .0)) (not-before (s .last) t (h .0)) in
+      let e = settled s ok t g (kept-frame x g (k .0)) (not-before (s .last) t (h .0)) in
       let then : Station = record { session = u .session; last = lastAfter (u .answer) t (s .last) } in
-      let rest = smooth then fs (record { session = step-fit x g fits; last = after-fit (u .answer) t (s .last) (ok .last) }) (k .1) (rw (takes-time (u .answer) t (s .last) (k .0)) (h .1)) in
+      let rest = smooth then fs (record { session = step-fit x g fits; last = after-fit (u .answer) t (s .last) (ok .last) }) (k .1) (rw (kept-time (u .answer) t (s .last) (k .0)) (h .1)) in
       record {
         by = x;
         ready = fits;
-        answers = ap (λ (y : Outcome). y .answer ∷ stationAnswers (y .station) fs) e ∙ ap (λ (l : List Answer). u .answer ∷ l) (rest .0);
-        session = ap (λ (y : Outcome). stationAfterAll (y .station) fs .session) e ∙ rest .1;
+        answers = ap (λ (y : Heard). y .answer ∷ stationAnswers (y .station) fs) e ∙ ap (λ (l : List Answer). u .answer ∷ l) (rest .0);
+        session = ap (λ (y : Heard). stationAfterAll (y .station) fs .session) e ∙ rest .1;
       }
 
-kept-all : (n : ℕ) (r : Report) → AllTaken (replicate n Kept ++ (Complete r ∷ []))
-kept-all zero r = (tt, tt)
-kept-all (suc n) r = (tt, kept-all n r)
+kept-all : (n : ℕ) (r : Report) → AllKept (replicate n Kept ++ (Complete r ∷ []))
+kept-all zero r = (refl, tt)
+kept-all (suc n) r = (refl, kept-all n r)
 
 -- The round trip with times: what the sender writes for a report that may be sent, in time, is kept frame by frame by any fit session with any fit last time, and its
 -- last packet yields that report.
@@ -131,7 +127,7 @@ module _ (sender : ℕ) (known : sender ≤ 253) (r : Report) (note : Option (Li
       record { by = s .session; ready = ready .session; answers = refl; session = refl }
   taken-as (f ∷ fs) these timely =
       opened-at s ready (f .frame) fs
-      (λ x fits. subst AllTaken (sym (ap (soloAnswers x) these ∙ bench.same-report sender known r note may x fits)) (kept-all (packets (size note)) r))
+      (λ x fits. subst AllKept (sym (ap (soloAnswers x) these ∙ bench.same-report sender known r note may x fits)) (kept-all (packets (size note)) r))
       (f .time) timely
 
   module _ (fs : List Timed) (these : framesOf fs ≡ frames sender (payload r note)) (timely : Timely (s .last) fs) where

@@ -8,22 +8,31 @@ use mathlib.Core.List.{List}
 use Prim.Native.Nat.{ℕ, _+_, _-_, _≤_}
 use native.Mathlib.Omega.{arith}
 use borrow.Author.Tests.{le-ltb, ltb-false, ne-eqb, eqb-false, eqb-true}
-use lib.Dec.{lit≤, ltb, eqb}
+use lib.Dec.{ltb, eqb}
 use lib.ListN.{getD, take}
-use Rattle.laws.proofs.Tests.{if-not, either}
+use Rattle.laws.proofs.Tests.{if-not, either, clash}
+use Rattle.values.specs.Range.{inRange}
 use Rattle.report.specs.Payload.{isPayload, readPayload}
 use Rattle.report.specs.declared.Reading.{Reading}
+use Rattle.report.proofs.Reader.{range-of}
 use Rattle.joining.specs.declared.Session.{Session}
 use Rattle.joining.specs.declared.Answer.{Answer}
 use Rattle.joining.specs.declared.Answer.the-variants.{Refused, Kept, Complete}
 use Rattle.joining.specs.declared.Taken.{Taken}
-use Rattle.joining.specs.Frame.{Frame, senderOf, malformed, foreign, frameRefusal, isAnnouncement}
+use Rattle.joining.specs.Frame.{Frame, frameRefusal, isAnnouncement}
 use Rattle.joining.specs.Joining.{fit, isClosed, closed, stored, yields, refused, announcementRefusal, announce, packet, take-frame}
 use Rattle.joining.specs.Run.{soloStep}
+use Rattle.joining.proofs.Frames.{frame-refusals}
 use Rattle.joining.proofs.Steps.{announcement-refusals}
 use Rattle.joining.proofs.Reached.{step-fit}
-use Rattle.times.specs.Timed.{Last, fitLast, isBefore, isLate, metAt, Station, Outcome, turned, lastAfter, kept-at, timed-frame}
+use Rattle.times.specs.declared.Came.{Came}
+use Rattle.times.specs.declared.Came.the-variants.{InTime, Late, Before, Unfit}
+use Rattle.times.specs.declared.Last.{Last}
+use Rattle.times.specs.declared.Station.{Station}
+use Rattle.times.specs.declared.Heard.{Heard}
+use Rattle.times.specs.Timed.{fitLast, isBefore, isLate, metAt, turned, lastAfter, kept-at, timed-frame, passes, stops, meets}
 use Rattle.times.specs.Run.{Timed, frameAt, stationStep}
+use Rattle.times.specs.Inner.{cameAt}
 
 -- A session and a last time that are both fit.
 pub record Fit (s : Station) : Type 0 where
@@ -46,6 +55,23 @@ unfolding fitLast
 after-fit (Refused n) t l h = h
 after-fit Kept t l h = refl
 after-fit (Complete r) t l h = refl
+
+-- What each way to come says of the tests.
+abbrev pub Tests : Came → Last → ℕ → Type 0
+Tests InTime l t = (fitLast l ≡ true) × (isBefore l t ≡ false) × (isLate l t ≡ false)
+Tests Late l t = (fitLast l ≡ true) × (isBefore l t ≡ false) × (isLate l t ≡ true)
+Tests Before l t = (fitLast l ≡ true) × (isBefore l t ≡ true)
+Tests Unfit l t = fitLast l ≡ false
+
+pub tests : (l : Last) (t : ℕ) {c : Came} → c ≡ cameAt l t → Tests c l t
+unfolding cameAt
+tests l t e = rw e (go (fitLast l) (isBefore l t) (isLate l t) refl refl refl)
+  where
+    go : (x y z : Bool) → fitLast l ≡ x → isBefore l t ≡ y → isLate l t ≡ z → Tests (cond (not x) Unfit (cond y Before (cond z Late InTime))) l t
+    go false y z a b c = a
+    go true true z a b c = (a, b)
+    go true false true a b c = (a, b, c)
+    go true false false a b c = (a, b, c)
 
 -- Refusals 1 to 3 change nothing.
 pub foreign-stays : (s : Station) (f : Timed) → (frameRefusal (f .frame .identifier) (f .frame .data-bytes) ≡ 0 → ⊥)
@@ -85,6 +111,47 @@ module _ (s : Station) (ok : Fit s) (t : ℕ) (f : Frame) (e : frameRefusal (f .
   unfolding timed-frame
   settled h = rw (e, ok .session, ok .last, h)
 
+-- The same in parts: where the last time refuses the frame, ...
+pub stops-turned : (s : Station) (t : ℕ) (f : Frame) → passes (s .last) t ≡ false
+    → timed-frame s t (f .identifier) (f .data-bytes) ≡ turned (stops s t (f .identifier) (f .data-bytes)) s
+unfolding timed-frame
+stops-turned s t f h = go (eqb (frameRefusal (f .identifier) (f .data-bytes)) 0) (fit (s .session)) (fitLast (s .last)) (isBefore (s .last) t) refl refl refl refl
+  where
+    go : (b c x y : Bool) → eqb (frameRefusal (f .identifier) (f .data-bytes)) 0 ≡ b → fit (s .session) ≡ c → fitLast (s .last) ≡ x → isBefore (s .last) t ≡ y
+        → timed-frame s t (f .identifier) (f .data-bytes) ≡ turned (stops s t (f .identifier) (f .data-bytes)) s
+    go false c x y e i j k = rw (h, e)
+    go true false x y e i j k = rw (h, e, i)
+    go true true false y e i j k = rw (h, e, i, j)
+    go true true true true e i j k = rw (h, e, i, j, k)
+    go true true true false e i j k = clash (rw (j, k)) h
+
+-- ... which is a refusal, ...
+pub stops-so : (s : Station) (t id : ℕ) (d : List ℕ) → passes (s .last) t ≡ false → stops s t id d ≡ 0 → ⊥
+stops-so s t id d h z = go (eqb (frameRefusal id d) 0) (fit (s .session)) (fitLast (s .last)) refl refl refl
+  where
+    go : (b c x : Bool) → eqb (frameRefusal id d) 0 ≡ b → fit (s .session) ≡ c → fitLast (s .last) ≡ x → ⊥
+    go false c x e i j = eqb-false _ 0 e (rw (h, e) at z)
+    go true false x e i j = omega (arith, rw (h, e, i) at z)
+    go true true false e i j = omega (arith, rw (h, e, i, j) at z)
+    go true true true e i j = omega (arith, rw (h, e, i, j) at z)
+
+-- ... and where it doesn't.
+pub meets-settled : (s : Station) (t : ℕ) (f : Frame) → passes (s .last) t ≡ true
+    → timed-frame s t (f .identifier) (f .data-bytes) ≡ kept-at t (s .last) (soloStep (meets s t (f .identifier) (f .data-bytes) .session) f)
+unfolding timed-frame take-frame
+meets-settled s t f h = go (eqb (frameRefusal (f .identifier) (f .data-bytes)) 0) (fit (s .session)) (fitLast (s .last)) (isBefore (s .last) t) (isLate (s .last) t) refl refl refl refl refl
+  where
+    go : (b c x y z : Bool) → eqb (frameRefusal (f .identifier) (f .data-bytes)) 0 ≡ b → fit (s .session) ≡ c → fitLast (s .last) ≡ x → isBefore (s .last) t ≡ y → isLate (s .last) t ≡ z
+        → timed-frame s t (f .identifier) (f .data-bytes) ≡ kept-at t (s .last) (soloStep (meets s t (f .identifier) (f .data-bytes) .session) f)
+    go false c x y true e i j k l = rw (h, l, e)
+    go false c x y false e i j k l = rw (h, l, e)
+    go true false x y true e i j k l = rw (h, l, e, i) (rw i)
+    go true false x y false e i j k l = rw (h, l, e, i)
+    go true true true false true e i j k l = rw (h, l, e, i, j, k)
+    go true true true false false e i j k l = rw (h, l, e, i, j, k)
+    go true true true true z e i j k l = clash h (rw (j, k))
+    go true true false y z e i j k l = clash h (rw j)
+
 -- A time that is neither before the last one nor more than 750 ms after it.
 abbrev pub Near : Last → ℕ → Type 0
 Near l t = l .known ≡ true → (l .at ≤ t) × (t ≤ l .at + 750)
@@ -121,7 +188,7 @@ abbrev pub lastBy : Option ℕ → Answer → Last → Last
 lastBy none a l = l
 lastBy (some t) a l = lastAfter a t l
 
-abbrev pub taken-by : Option ℕ → Last → Taken → Outcome
+abbrev pub taken-by : Option ℕ → Last → Taken → Heard
 taken-by o l u = record { answer = u .answer; station = record { session = u .session; last = lastBy o (u .answer) l } }
 
 abbrev pub NearBy : Option ℕ → Last → Type 0
@@ -133,16 +200,6 @@ pub data Way (s : Station) (f : Timed) : Type 0 where
   away : (n : ℕ) → ((1 ≤ n) × (n ≤ 3)) ⊎ (n ≡ 26) → stationStep s f ≡ turned n s → Way s f
   straight : NearBy (f .time) (s .last) → stationStep s f ≡ taken-by (f .time) (s .last) (soloStep (s .session) (f .frame)) → Way s f
   late : stationStep s f ≡ taken-by (f .time) (s .last) (soloStep (closed (s .session)) (f .frame)) → Way s f
-
-pub frame-refusals : (id : ℕ) (d : List ℕ) → frameRefusal id d ≤ 3
-unfolding frameRefusal
-frame-refusals id d = go (malformed id d) (foreign id) (ltb 253 (senderOf id))
-  where
-    go : (a b c : Bool) → cond a 1 (cond b 2 (cond c 3 0)) ≤ 3
-    go true b c = lit≤ tt
-    go false true c = lit≤ tt
-    go false false true = lit≤ tt
-    go false false false = lit≤ tt
 
 module _ (s : Station) (ok : Fit s) (g : Frame) where
   abbrev code : ℕ
@@ -187,11 +244,11 @@ step-stays-fit s f ok = go (ways s f ok)
     go (straight w e) = rw e (record { session = step-fit (s .session) (f .frame) (ok .session); last = by-fit (f .time) _ (s .last) (ok .last) })
     go (late e) = rw e (record { session = step-fit (closed (s .session)) (f .frame) (closed-fit (s .session)); last = by-fit (f .time) _ (s .last) (ok .last) })
 
--- What a refusal can be where nothing is unfit.
+-- What an answer can say where nothing is unfit: refusals 1 to 10 or 26, and a report with permitted values.
 abbrev pub Named : Answer → Type 0
 Named (Refused n) = ((1 ≤ n) × (n ≤ 10)) ⊎ (n ≡ 26)
 Named Kept = Unit
-Named (Complete r) = Unit
+Named (Complete r) = inRange (r .values) ≡ true
 
 pub solo-named : (s : Session) → fit s ≡ true → (id : ℕ) (d : List ℕ) → Named (take-frame s id d .answer)
 unfolding take-frame announce packet readPayload
@@ -212,7 +269,7 @@ solo-named s fits id d = go (eqb (frameRefusal id d) 0) refl
         either A (not (eqb (getD d 0 0) (s .next))) (λ f. inl (omega arith, omega arith))
         (λ f.
         either A (ltb (s .next) (s .count)) (λ g. tt)
-        (λ g. either (λ (r : Reading). Named (yields r)) (isPayload (take (s .size) (stored s d))) (λ h. tt) (λ h. inl (omega arith, omega arith))))))
+        (λ g. either (λ (r : Reading). Named (yields r)) (isPayload (take (s .size) (stored s d))) (λ h. range-of (take (s .size) (stored s d)) h) (λ h. inl (omega arith, omega arith))))))
 
     go : (t : Bool) → eqb (frameRefusal id d) 0 ≡ t → A (cond (not t) (refused (frameRefusal id d) s) (cond (not (fit s)) (refused 24 s) (cond (isAnnouncement id) (announce s d) (packet s d))))
     go false e =

@@ -1,4 +1,4 @@
--- What a run of frames, each with a time or without, does to all sessions and last times (change 2026-04).
+-- What a run of frames, each with a time or without, does to all sessions and last times (docs/RULES.md, section 15).
 use Prim.Native.Nat.{ℕ, _+_, _≤_}
 use mathlib.Core.Path.{_≡_}
 use mathlib.Core.Bool.{Bool, true, false, cond, _||_}
@@ -15,9 +15,13 @@ use Rattle.joining.specs.declared.Answer.the-variants.{Refused, Kept, Complete}
 use Rattle.joining.specs.Frame.{Frame, senderOf, frameRefusal}
 use Rattle.joining.specs.Joining.{packets, freshSession}
 use Rattle.joining.specs.Run.{senders, freshSessions, sessionOf, Announces, InSequence, joined}
-use Rattle.bus.specs.Room.{sessionsIn}
+use Rattle.bus.specs.Room.{sessionsIn, roomOf}
+use Rattle.times.specs.declared.Last.{Last}
+use Rattle.times.specs.declared.Station.{Station}
+use Rattle.times.specs.declared.Heard.{Heard}
+use Rattle.times.specs.declared.Met.{Met}
 use Rattle.times.specs.declared.Times.{Times}
-use Rattle.times.specs.Timed.{Last, noTime, Station, Outcome, timed-frame, untimed-frame, lastOf, withLast, freshTimes}
+use Rattle.times.specs.Timed.{noTime, timed-frame, untimed-frame, stops, meets, lastOf, withLast, freshTimes}
 
 -- A frame with a time, or without.
 pub record Timed : Type 0 where
@@ -28,11 +32,11 @@ abbrev pub sender : Timed → ℕ
 sender f = senderOf (f .frame .identifier)
 
 -- A frame of a station's own sender, taken by it.
-abbrev pub frameAt : Option ℕ → Station → Frame → Outcome
+abbrev pub frameAt : Option ℕ → Station → Frame → Heard
 frameAt none s f = untimed-frame s (f .identifier) (f .data-bytes)
 frameAt (some t) s f = timed-frame s t (f .identifier) (f .data-bytes)
 
-abbrev pub stationStep : Station → Timed → Outcome
+abbrev pub stationStep : Station → Timed → Heard
 stationStep s f = frameAt (f .time) s (f .frame)
 
 -- One sender's frames and nothing else: what they leave, and the answers in order.
@@ -70,12 +74,33 @@ abbrev pub timedAnswer : Stations → Timed → Answer
 timedAnswer b f =
     cond (ltb (sender f) senders) (stationStep (stationOf (sender f) b) f .answer) (Refused (frameRefusal (f .frame .identifier) (f .frame .data-bytes)))
 
--- What stands in the bytes and numbers that a caller lends, and the frame that it hands in with a time.
+-- What stands in the bytes and numbers that a caller lends, and the frame that it hands in, with a time or without.
 abbrev pub stationsIn : List ℕ → List Bool → List ℕ → Stations
 stationsIn room known at = record { sessions = sessionsIn room; times = record { known = known; at = at } }
 
 abbrev pub timedAt : ℕ → ℕ → List ℕ → Timed
 timedAt t id d = record { frame = record { identifier = id; data-bytes = d }; time = some t }
+
+abbrev pub untimedAt : ℕ → List ℕ → Timed
+untimedAt id d = record { frame = record { identifier = id; data-bytes = d }; time = none }
+
+-- A frame is taken where the sessions and times stand that a caller lends: its answer, and what is left there.
+pub record Takes (b : Stations) (f : Timed) (answer : Answer) (room : List ℕ) (known : List Bool) (at : List ℕ) : Type 0 where
+  pub answers : answer ≡ timedAnswer b f
+  pub sessions : room ≡ roomOf (stationsAfter b f .sessions)
+  pub knows : known ≡ stationsAfter b f .times .known
+  pub times : at ≡ stationsAfter b f .times .at
+
+-- What a time settles before its frame is taken, where the sessions and times stand that a caller lends.
+abbrev pub stationsMet : Stations → ℕ → ℕ → List ℕ → Stations
+stationsMet b t id d = cond (ltb (senderOf id) senders) (withStation b (senderOf id) (meets (stationOf (senderOf id) b) t id d)) b
+
+pub record Meets (b : Stations) (t id : ℕ) (d : List ℕ) (r : Met) (room : List ℕ) (known : List Bool) (at : List ℕ) : Type 0 where
+  pub refuses : r .refusal ≡ cond (ltb (senderOf id) senders) (stops (stationOf (senderOf id) b) t id d) 0
+  pub found : r .last ≡ cond (ltb (senderOf id) senders) (lastOf (senderOf id) (b .times)) noTime
+  pub sessions : room ≡ roomOf (stationsMet b t id d .sessions)
+  pub knows : known ≡ stationsMet b t id d .times .known
+  pub times : at ≡ stationsMet b t id d .times .at
 
 -- A run of frames: what is there at its end, and the answers in order.
 unfoldable pub stationsAfterAll : Stations → List Timed → Stations

@@ -1,6 +1,7 @@
 //! The log program by the rules (docs/RULES.md, section 11): a log in, its text out.
 
-use crate::joining::{hear, Heard, Session};
+use crate::bus::Bus;
+use crate::joining::Heard;
 use crate::rules::{le, Question, Report, MOST_REPORTS};
 use crate::wrong::Wrong;
 use std::collections::VecDeque;
@@ -13,22 +14,13 @@ pub struct Cart {
     entered: u32,
     held: VecDeque<Report>,
     slots: Vec<Option<Question>>,
-    sessions: Vec<Session>,
+    bus: Bus,
     pub text: Vec<u8>,
 }
 
 impl Cart {
     pub fn new(wrong: Wrong) -> Cart {
-        Cart {
-            wrong,
-            item: 0,
-            size: None,
-            entered: 0,
-            held: VecDeque::new(),
-            slots: vec![None; 32],
-            sessions: vec![Session::fresh(); 256],
-            text: Vec::new(),
-        }
+        Cart { wrong, item: 0, size: None, entered: 0, held: VecDeque::new(), slots: vec![None; 32], bus: Bus::fresh(), text: Vec::new() }
     }
 
     fn line(&mut self, line: String) {
@@ -67,16 +59,17 @@ impl Cart {
         }
         self.item += 1;
         let second = tag == 16 && self.size.is_some() && self.wrong != Wrong::SecondWindow;
-        let early = tag != 16 && self.size.is_none() && !(tag == 18 && self.wrong == Wrong::FramesBeforeTheWindow);
+        let early = tag != 16 && self.size.is_none() && !([18, 21].contains(&tag) && self.wrong == Wrong::FramesBeforeTheWindow);
         if second || early {
             return self.refuse(23);
         }
         match tag {
             16 => self.window(le(value) as usize),
             17 => self.set(value[0] as usize, value[1] as usize, signed(&value[2..4]), signed(&value[4..6])),
-            18 => self.frame(le(&value[..4]), &value[4..]),
+            18 => self.frame(None, value),
             19 => self.remove(value[0] as usize),
-            _ => self.show(value[0] as usize),
+            20 => self.show(value[0] as usize),
+            _ => self.frame(Some(self.time(&value[..4])), &value[4..]),
         }
     }
 
@@ -146,8 +139,16 @@ impl Cart {
         self.line(line);
     }
 
-    fn frame(&mut self, identifier: u32, data: &[u8]) {
-        match hear(&mut self.sessions, identifier, data, self.wrong) {
+    fn time(&self, four: &[u8]) -> u32 {
+        if self.wrong == Wrong::TimeHighByteFirst {
+            le(four).swap_bytes()
+        } else {
+            le(four)
+        }
+    }
+
+    fn frame(&mut self, time: Option<u32>, frame: &[u8]) {
+        match self.bus.hear(time, le(&frame[..4]), &frame[4..], self.wrong) {
             Heard::Refused(code) => self.refuse(code),
             Heard::Kept => {}
             Heard::Report(r) => self.enter(r.loss, r.shake),
@@ -208,7 +209,7 @@ impl Cart {
 }
 
 fn known(tag: u8, length: usize) -> bool {
-    let lengths = [(16, 2), (17, 6), (18, 12), (19, 1), (20, 1)];
+    let lengths = [(16, 2), (17, 6), (18, 12), (19, 1), (20, 1), (21, 16)];
     lengths.contains(&(tag, length))
 }
 

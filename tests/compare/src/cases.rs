@@ -46,6 +46,8 @@ pub fn all() -> Vec<Case> {
     payload_refusals(&mut out);
     call_refusals(&mut out);
     item_refusals(&mut out);
+    times(&mut out);
+    other_frames_with_times(&mut out);
     out
 }
 
@@ -205,8 +207,16 @@ fn call_refusals(all: &mut Vec<Case>) {
 }
 
 fn item_refusals(all: &mut Vec<Case>) {
-    let kinds =
-        [set(0, 1, 1, 1), report(5, 1, 2)[0].clone(), remove(0), show(0), item(99, &[1, 2, 3]), item(17, &[0; 7]), item(99, &[0; 400])];
+    let kinds = [
+        set(0, 1, 1, 1),
+        report(5, 1, 2)[0].clone(),
+        at(7, &report(5, 1, 2)[0]),
+        remove(0),
+        show(0),
+        item(99, &[1, 2, 3]),
+        item(17, &[0; 7]),
+        item(99, &[0; 400]),
+    ];
     for whole in kinds.iter() {
         for n in 1..whole.len().min(20) {
             let name = format!("21: tag {}, {} of {} bytes", whole[0], n, whole.len());
@@ -217,20 +227,86 @@ fn item_refusals(all: &mut Vec<Case>) {
     for n in 1..5 {
         case(all, &format!("21: window, {} of 5 bytes", n), &[window(3)[..n].to_vec()], "R 1 21\n");
     }
-    for tag in [0, 1, 4, 15, 21, 255].iter() {
+    for tag in [0, 1, 4, 15, 22, 255].iter() {
         case(all, &format!("22: tag {}", tag), &[item(*tag, &[3, 0]), window(3)], "R 1 22\n");
     }
-    for (tag, right) in [(16, 2), (17, 6), (18, 12), (19, 1), (20, 1)].iter() {
-        for length in [0, 1, 2, 5, 6, 7, 11, 12, 13, 255, 256, 258, 4096, 65535].iter().filter(|l| *l != right) {
+    for (tag, right) in [(16, 2), (17, 6), (18, 12), (19, 1), (20, 1), (21, 16)].iter() {
+        for length in [0, 1, 2, 5, 6, 7, 11, 12, 13, 15, 16, 17, 255, 256, 258, 4096, 65535].iter().filter(|l| *l != right) {
             let name = format!("22: tag {}, length {}", tag, length);
             case(all, &name, &[item(*tag, &vec![0; *length]), window(3), window(3)], "R 1 22\nR 3 23\n");
         }
     }
-    for early in [set(40, 1, 1, 1), report(5, 1, 2)[0].clone(), remove(40), show(40)].iter() {
+    for early in [set(40, 1, 1, 1), report(5, 1, 2)[0].clone(), at(7, &report(5, 1, 2)[0]), remove(40), show(40)].iter() {
         case(all, &format!("23: tag {} with no window", early[0]), &[early.clone(), window(1)], "R 1 23\n");
     }
     case(all, "23: a second window, of any N", &[window(1), window(1), window(0), window(1025)], "R 2 23\nR 3 23\nR 4 23\n");
     let mut early = report(5, 1, 2);
     early.insert(1, window(2));
     case(all, "23: an announcement with no window opens nothing", &early, "R 1 23\nR 3 8\nR 4 8\nR 5 8\n");
+}
+
+/// The frames of a report of sender 5, each with a time or without one.
+fn sent(loss: u32, times: [Option<u32>; 4]) -> Vec<Item> {
+    report(5, loss, 0).iter().zip(times).map(|(frame, time)| time.map_or(frame.clone(), |t| at(t, frame))).collect()
+}
+
+/// These items between a question, which is item 2, and its list.
+fn listed(all: &mut Vec<Case>, name: &str, items: &[Item], text: &str) {
+    let mut log = vec![window(3), set(0, 2, 1, 0)];
+    log.extend_from_slice(items);
+    log.push(show(0));
+    case(all, name, &log, &format!("S 2 0 256\n{}", text));
+}
+
+const MOST: u32 = u32::MAX;
+
+/// Times of one sender's frames (docs/RULES.md, section 15).
+fn times(all: &mut Vec<Case>) {
+    let mut run = |name: &str, times: [u32; 4], text: &str| listed(all, name, &sent(9, times.map(Some)), text);
+    for (name, first) in [("0", 0), ("7", 7), ("2^32 - 1", MOST)] {
+        run(&format!("times that stand still at {}", name), [first; 4], "Q 0 1 1:9\n");
+    }
+    run("749 ms apart", [1, 750, 1499, 2248], "Q 0 1 1:9\n");
+    run("750 ms apart", [1, 751, 1501, 2251], "Q 0 1 1:9\n");
+    run("750 ms apart up to 2^32 - 1", [MOST - 2250, MOST - 1500, MOST - 750, MOST], "Q 0 1 1:9\n");
+    run("8: packet 1 after 751 ms, and the others then", [0, 751, 751, 0], "R 4 8\nR 5 8\nR 6 8\nQ 0 0\n");
+    run("8: the last packet after 751 ms", [0, 0, 700, 1451], "R 6 8\nQ 0 0\n");
+    run("8: from 0 to 2^32 - 1", [0, MOST, 0, 0], "R 4 8\nR 5 8\nR 6 8\nQ 0 0\n");
+    run("26: 1 ms before, then packet 2 is out of order", [5, 4, 5, 5], "R 4 26\nR 5 9\nR 6 8\nQ 0 0\n");
+    run("26: 0 after 2^32 - 1", [MOST, 0, 0, MOST], "R 4 26\nR 5 26\nR 6 9\nQ 0 0\n");
+    let mut some = |name: &str, times: [Option<u32>; 4], text: &str| listed(all, name, &sent(9, times), text);
+    some("no time yet: nothing is late", [None, Some(MOST), Some(MOST), None], "Q 0 1 1:9\n");
+    some("no time yet: nothing is before it", [None, None, Some(0), Some(0)], "Q 0 1 1:9\n");
+    some("tag 18 tests no time and sets none", [Some(0), None, Some(750), Some(1500)], "Q 0 1 1:9\n");
+    some("8: tag 18 doesn't make the next one timely", [Some(0), None, Some(751), None], "R 5 8\nR 6 8\nQ 0 0\n");
+}
+
+/// Frames with times behind and between others.
+fn other_frames_with_times(all: &mut Vec<Case>) {
+    let good = report(5, 9, 0);
+    let odd = frame(identifier(7, 236, 5), &[33, 0, 0, 0, 0, 0, 0, 0]);
+    let whole = |time: u32| sent(9, [Some(time); 4]);
+    let mut run = |name: &str, parts: &[&[Item]], text: &str| listed(all, name, &parts.concat(), text);
+    run("26 changes nothing", &[&[at(5, &good[0]), at(4, &good[1])], &whole(5)[1..]], "R 4 26\nQ 0 1 1:9\n");
+    run("a late announcement opens", &[&whole(0)[..2], &whole(751)], "Q 0 1 1:9\n");
+    run("8 and not 9: a late packet out of order", &[&[at(0, &good[0]), at(751, &good[2])]], "R 4 8\nQ 0 0\n");
+    run("9 sets no time", &[&[at(0, &good[0]), at(700, &good[2])], &whole(600)], "R 4 9\nQ 0 1 1:9\n");
+    run("8 sets no time", &[&[at(0, &good[0]), at(751, &good[1])], &whole(0)], "R 4 8\nQ 0 1 1:9\n");
+    let ten = [sent(4096, [Some(0), Some(0), Some(0), Some(700)]), whole(0)].concat();
+    run("10 sets no time", &[&ten], "R 6 10\nQ 0 1 1:9\n");
+    run("4 in time keeps the session", &[&[at(0, &good[0]), at(750, &odd)], &whole(750)[1..]], "R 4 4\nQ 0 1 1:9\n");
+    run(
+        "4 behind a closing leaves it closed",
+        &[&[at(0, &good[0]), at(751, &odd), at(0, &good[1])], &good[1..2]],
+        "R 4 4\nR 5 8\nR 6 8\nQ 0 0\n",
+    );
+    run("26 before 4 and 8", &[&[at(1, &good[0]), at(0, &odd), at(1, &good[2]), at(0, &good[1])]], "R 4 26\nR 5 9\nR 6 26\nQ 0 0\n");
+    let foreign = [at(1, &good[0]), at(0, &frame(1 << 29 | 5, &[0; 8])), at(0, &frame(5, &[0; 8])), at(0, &packet(254, 1, &[]))];
+    run("1, 2 and 3 before 26", &[&foreign], "R 4 1\nR 5 2\nR 6 3\nQ 0 0\n");
+    let reports = [sent(9, [Some(0), Some(0), Some(0), Some(700)]), vec![at(699, &good[0])], whole(700)].concat();
+    run("the last packet sets the time", &[&reports], "R 7 26\nQ 0 2 2:9 1:9\n");
+    run("an announcement of tag 18 sets no time", &[&[at(0, &good[0])], &good[..1], &whole(751)[1..2]], "R 5 8\nQ 0 0\n");
+    let other = report(9, 8, 0);
+    let two = [at(MOST, &good[0]), at(0, &other[0]), at(MOST, &good[1]), at(750, &other[1]), at(750, &other[2]), at(1500, &other[3])];
+    run("each sender has its own time", &[&two, &whole(MOST)[2..]], "Q 0 2 2:9 1:8\n");
 }

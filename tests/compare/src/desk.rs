@@ -1,7 +1,8 @@
 //! The desk (docs/DESK.md) by the rules: its state, and its answer to a line.
 
 use crate::board::{Board, Row};
-use crate::joining::{hear, payload, Brought, Heard, Session, BYTES};
+use crate::bus::{Bus, Last};
+use crate::joining::{payload, Brought, Heard, Session, BYTES};
 use crate::orders::{read, Order, FORMS};
 use crate::rules::Entry;
 use crate::wrong::Wrong;
@@ -10,7 +11,7 @@ use crate::wrong::Wrong;
 pub struct Desk {
     wrong: Wrong,
     pub board: Option<Board>,
-    pub sessions: Vec<Session>,
+    pub bus: Bus,
 }
 
 fn hex(bytes: &[u8]) -> String {
@@ -48,7 +49,7 @@ fn listed(word: &str, all: &[String]) -> String {
 
 impl Desk {
     pub fn new(wrong: Wrong) -> Desk {
-        Desk { wrong, board: None, sessions: vec![Session::fresh(); 256] }
+        Desk { wrong, board: None, bus: Bus::fresh() }
     }
 
     /// The answer to a line, with its line end; nothing where it has none.
@@ -57,7 +58,7 @@ impl Desk {
             Order::Nothing => return String::new(),
             Order::Wrong(text) => text,
             Order::Numbers(name, n) => self.numbers(name, &n),
-            Order::Frame(id, data) => match hear(&mut self.sessions, id, &data, self.wrong) {
+            Order::Frame(id, data, time) => match self.bus.hear(time, id, &data, self.wrong) {
                 Heard::Refused(code) => refused(code),
                 Heard::Kept => String::from("kept"),
                 Heard::Report(r) => report(&r),
@@ -76,17 +77,23 @@ impl Desk {
         match name {
             "window" => self.window(n[0]),
             "help" => FORMS.iter().map(|f| format!("{}{}", f.name, f.rest)).collect::<Vec<_>>().join("\n"),
-            "session" => {
-                let s = &self.sessions[at(0)];
-                format!("session {} {} {} {}", s.size, s.count, s.next, hex(&s.bytes[..BYTES]))
-            }
+            "session" => self.session(at(0)),
             "poke session" => {
-                let bytes = self.sessions[at(0)].bytes;
-                self.sessions[at(0)] = Session { size: at(1), count: at(2), next: at(3), bytes };
+                let bytes = self.bus.sessions[at(0)].bytes;
+                self.bus.sessions[at(0)] = Session { size: at(1), count: at(2), next: at(3), bytes };
+                match n.get(4) {
+                    Some(&ms) => self.bus.lasts[at(0)] = Last { known: true, at: ms as u32 },
+                    None if self.wrong == Wrong::PokeForgetsTheTime => self.bus.lasts[at(0)] = Last::NONE,
+                    None => {}
+                }
                 ok(Ok(()))
             }
             "poke byte" => {
-                self.sessions[at(0)].bytes[at(1)] = n[2] as u8;
+                self.bus.sessions[at(0)].bytes[at(1)] = n[2] as u8;
+                ok(Ok(()))
+            }
+            "poke untimed" => {
+                self.bus.lasts[at(0)] = Last { known: false, at: n[1] as u32 };
                 ok(Ok(()))
             }
             _ => match &mut self.board {
@@ -97,9 +104,17 @@ impl Desk {
         }
     }
 
+    fn session(&self, sender: usize) -> String {
+        let (s, last) = (&self.bus.sessions[sender], self.bus.lasts[sender]);
+        let time = if last.known { format!(" at {}", last.at) } else { String::new() };
+        format!("session {} {} {} {}{}", s.size, s.count, s.next, hex(&s.bytes[..BYTES]), time)
+    }
+
     fn window(&mut self, n: i64) -> String {
-        if self.wrong == Wrong::SessionsGoWithTheWindow {
-            self.sessions = vec![Session::fresh(); 256];
+        match self.wrong {
+            Wrong::SessionsGoWithTheWindow => self.bus.sessions = Bus::fresh().sessions,
+            Wrong::TimesGoWithTheWindow => self.bus.lasts = Bus::fresh().lasts,
+            _ => {}
         }
         if n < 1 || n > 1024 {
             if self.wrong == Wrong::RefusedWindowClears {

@@ -63,6 +63,13 @@ pub fn frame(identifier: u32, data: &[u8]) -> Item {
     item(18, &value)
 }
 
+/// A frame's item with a time.
+pub fn at(time: u32, frame: &Item) -> Item {
+    let mut value = time.to_le_bytes().to_vec();
+    value.extend_from_slice(&frame[3..]);
+    item(21, &value)
+}
+
 pub fn remove(slot: u8) -> Item {
     item(19, &[slot])
 }
@@ -490,7 +497,7 @@ fn damaged(rng: &mut Rng, mut items: Vec<Item>) -> Vec<Item> {
             }
             4 => {
                 // another length, with or without as many bytes
-                let length = rng.pick(&[0, 1, 2, 5, 6, 7, 11, 12, 13, 16, 300]);
+                let length = rng.pick(&[0, 1, 2, 5, 6, 7, 11, 12, 13, 15, 16, 17, 300]);
                 if rng.chance(70) {
                     items[at].resize(3 + length, 1);
                 }
@@ -524,10 +531,10 @@ fn damaged(rng: &mut Rng, mut items: Vec<Item>) -> Vec<Item> {
     items
 }
 
-/// The log of a seed, and the name of its kind.
-pub fn draw(seed: u64) -> (&'static str, Vec<u8>) {
+/// The log of a seed, its frames as `timed` leaves them, and the name of its kind.
+pub fn draw(seed: u64, timed: impl FnOnce(&mut [Item])) -> (&'static str, Vec<u8>) {
     let rng = &mut Rng(seed);
-    let (kind, items) = match rng.below(40) {
+    let (kind, mut items) = match rng.below(40) {
         0 => ("large", large(rng)),
         n if n < 10 => ("good", good(rng)),
         n if n < 20 => ("leaving", leaving(rng)),
@@ -535,6 +542,7 @@ pub fn draw(seed: u64) -> (&'static str, Vec<u8>) {
         n if n < 34 => ("bus", bus(rng)),
         _ => ("payloads", payloads(rng)),
     };
+    timed(&mut items);
     if kind != "large" && rng.chance(35) {
         return ("damaged", bytes(&damaged(rng, items)));
     }
@@ -576,6 +584,7 @@ pub fn words(item: &[u8]) -> String {
         (18, 12) => frame_words(le(&v[..4]), &v[4..]),
         (19, 1) => format!("remove slot {}", v[0]),
         (20, 1) => format!("show slot {}", v[0]),
+        (21, 16) => format!("at {}, {}", le(&v[..4]), frame_words(le(&v[4..8]), &v[8..])),
         (tag, length) => format!("tag {}, length {}: {}", tag, length, hex(v)),
     }
 }

@@ -1,7 +1,8 @@
-//! A log of 1,000,000 reports and one more: the last is refused 11, the text is the same, and the memory `cart` uses stays flat.
+//! A log of 1,000,000 reports and one more: the last is refused 11, the text is the same, and the memory `cart` uses stays flat. A third
+//! of the reports have times, and the last one too: its last packet is kept, so that a frame before it is refused 26.
 
 use crate::cart::Cart;
-use crate::logs::{report, set, show, window, Item};
+use crate::logs::{at, report, set, show, window, Item};
 use crate::rules::MOST_REPORTS;
 use crate::wrong::Wrong;
 use std::io::{Read, Write};
@@ -20,8 +21,15 @@ fn peak(process: u32) -> u64 {
 
 /// The items around report n: values rise slowly, so that each is listed; one in 5,000 stands out, and is searched for when it leaves.
 fn around(n: u32) -> Vec<Item> {
-    let slowly = n / 256;
-    let mut out = if n % 5000 == 0 { report(7, 4095, 4095) } else { report((n % 254) as u8, slowly, 4000 - slowly) };
+    let (sender, slowly) = ((n % 254) as u8, n / 256);
+    let mut out = if n % 5000 == 0 { report(7, 4095, 4095) } else { report(sender, slowly, 4000 - slowly) };
+    if n % 3 == 0 || n > MOST_REPORTS {
+        out = out.iter().map(|f| at(n, f)).collect();
+    }
+    if n > MOST_REPORTS {
+        out[3] = at(n + 1, &report(sender, slowly, 4000 - slowly)[3]);
+        out.push(at(n, &report(sender, 0, 0)[0]));
+    }
     if n % 100_000 == 0 || n > MOST_REPORTS {
         out.extend([show(0), show(5), show(31)]);
     }
@@ -69,6 +77,6 @@ pub fn run(mut command: Command) -> bool {
     println!("1,000,001 reports, {} bytes, {} searches: {:.1} s", length, searches, began.elapsed().as_secs_f64());
     println!("the text is {}, {} bytes; what it refuses: {:?}", if same { "the same" } else { "NOT the same" }, found.len(), refused);
     println!("most memory used after a hundredth of the log: {} kB, at its end: {} kB", first, last);
-    let eleven = refused.len() == 1 && refused[0].ends_with(" 11");
-    same && ended && eleven && first > 0 && last <= first + GROWTH
+    let last_two = refused.len() == 2 && refused[0].ends_with(" 11") && refused[1].ends_with(" 26");
+    same && ended && last_two && first > 0 && last <= first + GROWTH
 }

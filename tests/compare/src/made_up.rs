@@ -328,15 +328,16 @@ pub fn session(s: &mut Script, rng: &mut Rng) {
         let at = rng.below(3);
         numbers[at] = rng.pick(&[0, 0, 1, 2, 3, 12, 13, 17, 18, 19, 20, 84, 85, 255, (numbers[at] + 1) % 256]);
     }
-    s.say(format!("poke session {} {} {} {}", sender, numbers[0] % 256, numbers[1], numbers[2]));
+    let time = poked_time(s, sender);
+    s.say(format!("poke session {} {} {} {}{}", sender, numbers[0] % 256, numbers[1], numbers[2], time));
     poke_bytes(s, rng, sender, &p, 7 * next.max(1) - 7);
     let skip = if numbers[2] != 0 && rng.chance(85) { next.max(1) } else { 0 };
     for item in carry(sender, &p).iter().skip(skip) {
-        let line = session_frame(rng, item);
+        let line = session_frame(rng, item) + &s.at(sender.into());
         s.say(line);
         if rng.chance(3) {
             let odd = odd_announcement(rng, sender);
-            let line = frame_line(rng, &odd);
+            let line = frame_line(rng, &odd) + &s.at(sender.into());
             s.say(line);
         }
         if rng.chance(30) {
@@ -348,6 +349,18 @@ pub fn session(s: &mut Script, rng: &mut Rng) {
         s.say(format!("window {}", rng.pick(&[2, 0])));
         s.say(format!("session {}", sender));
     }
+}
+
+/// A last time for a session that is poked, or one where there is none.
+fn poked_time(s: &mut Script, sender: u8) -> String {
+    let edges = [0, 1, 749, 750, 751, u32::MAX - 750, u32::MAX];
+    if s.clocks.chance(10) {
+        let line = format!("poke untimed {} {}", sender, s.clocks.pick(&edges));
+        s.say(line);
+    } else if s.clocks.chance(60) {
+        return format!(" at {}", s.clocks.pick(&edges));
+    }
+    String::new()
 }
 
 /// The part of the payload that has come already, and bytes that nobody sent.

@@ -1,8 +1,10 @@
 //! Compares what `cart` and the desk print with what an independent implementation of the rules (docs/RULES.md) prints. See tests/compare/run.
 
 mod board;
+mod bus;
 mod cart;
 mod cases;
+mod clocks;
 mod desk;
 mod joining;
 mod logs;
@@ -54,10 +56,10 @@ fn run_cases(runner: &Runner) -> bool {
 /// Compares the logs of the seeds from `seed` on: so many, or as many as there is time for.
 fn run_seeds(runner: &Runner, most: u64, time: Duration, seed: u64) -> bool {
     let began = Instant::now();
-    let (mut n, mut bytes, mut items, mut lines) = (0, 0, 0, 0);
+    let (mut n, mut bytes, mut items, mut timed, mut lines) = (0, 0, 0, 0, 0);
     let mut kinds: Vec<(&str, u32)> = Vec::new();
     while n < most && began.elapsed() < time {
-        let (kind, log) = logs::draw(seed + n);
+        let (kind, log) = clocks::log(seed + n);
         let wanted = text(&log, Wrong::No);
         let piped = n % 4 == 0;
         let found = if piped { runner.pipe(&log, seed + n) } else { runner.file(&log) };
@@ -69,7 +71,9 @@ fn run_seeds(runner: &Runner, most: u64, time: Duration, seed: u64) -> bool {
         }
         n += 1;
         bytes += log.len();
-        items += logs::split(&log).len();
+        let split = logs::split(&log);
+        items += split.len();
+        timed += split.iter().filter(|i| i[0] == 21 && i.len() == 19).count();
         lines += wanted.iter().filter(|&&b| b == 10).count();
         match kinds.iter_mut().find(|k| k.0 == kind) {
             Some(k) => k.1 += 1,
@@ -78,11 +82,12 @@ fn run_seeds(runner: &Runner, most: u64, time: Duration, seed: u64) -> bool {
     }
     let kinds: Vec<String> = kinds.iter().map(|k| format!("{} {}", k.1, k.0)).collect();
     println!(
-        "{} logs from seed {} ({}): {} items, {} bytes, {} lines, no difference; {:.1} s",
+        "{} logs from seed {} ({}): {} items, {} of them frames with times, {} bytes, {} lines, no difference; {:.1} s",
         n,
         seed,
         kinds.join(", "),
         items,
+        timed,
         bytes,
         lines,
         began.elapsed().as_secs_f64()
@@ -95,12 +100,12 @@ fn run_wrong(runner: &Runner, most: u64, seed: u64) -> bool {
     let mut unnoticed = 0;
     for &wrong in IN_LOGS.iter() {
         let telling = (0..most).find(|n| {
-            let (_, log) = logs::draw(seed + n);
+            let (_, log) = clocks::log(seed + n);
             text(&log, wrong) != text(&log, Wrong::No)
         });
         match telling {
             Some(n) => {
-                let (_, log) = logs::draw(seed + n);
+                let (_, log) = clocks::log(seed + n);
                 // between the two texts first, which is quick; then with cart
                 let short = shrink::shortest(&log, 20_000, &mut |l| text(l, wrong) != text(l, Wrong::No));
                 if runner.file(&short) == text(&short, wrong) {

@@ -5,9 +5,10 @@ use crate::joining::Sending;
 pub enum Order {
     Nothing,
     Wrong(String),
-    /// A line of numbers, by its first word, or its first two where that is `poke`.
+    /// A line of numbers, by its first word, or its first two where that is `poke`; a time that may be said comes last.
     Numbers(&'static str, Vec<i64>),
-    Frame(u32, Vec<u8>),
+    /// Identifier, data, and the time where one is said.
+    Frame(u32, Vec<u8>, Option<u32>),
     Payload(Vec<u8>),
     Write(Sending),
 }
@@ -31,7 +32,7 @@ const SLOT: (i64, i64) = (0, 31);
 const SENDER: (i64, i64) = (0, 253);
 
 /// All lines, in the order of the page.
-pub const FORMS: [Form; 21] = [
+pub const FORMS: [Form; 22] = [
     form("window", &[SHORT], " N; N is 0 to 65535"),
     form("set", &[BYTE, BYTE, SIGNED, SIGNED], " SLOT K A B; SLOT and K are 0 to 255, A and B -32768 to 32767"),
     form("remove", &[BYTE], " SLOT; SLOT is 0 to 255"),
@@ -42,7 +43,7 @@ pub const FORMS: [Form; 21] = [
     form("marks", &[SLOT], " SLOT; SLOT is 0 to 31"),
     form("steps", &[SLOT], " SLOT; SLOT is 0 to 31"),
     form("held", &[], ""),
-    form("frame", &[], " ID DATA; ID is 1 to 8 hexadecimal digits, DATA an even number of them"),
+    form("frame", &[], " ID DATA [at MS]; ID is 1 to 8 hexadecimal digits, DATA an even number of them, MS 0 to 4294967295"),
     form("session", &[SENDER], " SENDER; SENDER is 0 to 253"),
     form("payload", &[], " BYTES; BYTES is an even number of hexadecimal digits"),
     form(
@@ -62,8 +63,13 @@ pub const FORMS: [Form; 21] = [
         &[SLOT, (0, 15), LONG, (-2147483648, 2147483647)],
         " SLOT PLACE NUMBER SCORE; SLOT is 0 to 31, PLACE 0 to 15, NUMBER 0 to 4294967295, SCORE -2147483648 to 2147483647",
     ),
-    form("poke session", &[SENDER, BYTE, BYTE, BYTE], " SENDER SIZE COUNT NEXT; SENDER is 0 to 253, the others 0 to 255"),
+    form(
+        "poke session",
+        &[SENDER, BYTE, BYTE, BYTE],
+        " SENDER SIZE COUNT NEXT [at MS]; SENDER is 0 to 253, MS 0 to 4294967295, the others 0 to 255",
+    ),
     form("poke byte", &[SENDER, (0, 83), BYTE], " SENDER PLACE VALUE; SENDER is 0 to 253, PLACE 0 to 83, VALUE 0 to 255"),
+    form("poke untimed", &[SENDER, LONG], " SENDER MS; SENDER is 0 to 253, MS 0 to 4294967295"),
     form("help", &[], ""),
 ];
 
@@ -97,7 +103,7 @@ pub fn read(line: &[u8]) -> Order {
     let name = words[..named.min(words.len())].join(" ");
     match FORMS.iter().find(|f| f.name == name) {
         Some(f) => read_as(f, &words[named..]).unwrap_or_else(|| wrong(&format!("expected {}{}", f.name, f.rest))),
-        None if words[0] == "poke" => wrong("expected poke window, row, slot, line, session or byte"),
+        None if words[0] == "poke" => wrong("expected poke window, row, slot, line, session, byte or untimed"),
         None => first_words(),
     }
 }
@@ -106,8 +112,11 @@ pub fn read(line: &[u8]) -> Order {
 fn read_as(form: &Form, words: &[&str]) -> Option<Order> {
     if form.name == "frame" {
         let id = words.first().filter(|w| w.len() <= 8 && digits(w, 16))?;
-        let data = words.get(1).map_or(Some(Vec::new()), |w| bytes(w))?;
-        return if words.len() > 2 { None } else { Some(Order::Frame(u32::from_str_radix(id, 16).ok()?, data)) };
+        let (data, rest) = match words.get(1) {
+            Some(&w) if w != "at" => (bytes(w)?, &words[2..]),
+            _ => (Vec::new(), &words[1..]),
+        };
+        return Some(Order::Frame(u32::from_str_radix(id, 16).ok()?, data, at(rest)?.map(|ms| ms as u32)));
     }
     if form.name == "payload" {
         let p = words.first().map_or(Some(Vec::new()), |w| bytes(w))?;
@@ -121,10 +130,23 @@ fn read_as(form: &Form, words: &[&str]) -> Option<Order> {
     if form.name == "write" {
         return write(&numbers, &words[count..]);
     }
+    if form.name == "poke session" {
+        let time = at(&words[count..])?;
+        return Some(Order::Numbers(form.name, numbers.into_iter().chain(time).collect()));
+    }
     if words.len() > count {
         return None;
     }
     Some(Order::Numbers(form.name, numbers))
+}
+
+/// `at MS`, or no word at all.
+fn at(words: &[&str]) -> Option<Option<i64>> {
+    match words {
+        [] => Some(None),
+        ["at", ms] => Some(Some(number(ms, LONG)?)),
+        _ => None,
+    }
 }
 
 /// `note BYTES` and `room N` in either order, each once.

@@ -32,7 +32,7 @@ impl Runner {
         let mut child = command.stdin(Stdio::piped()).stdout(Stdio::piped()).stderr(Stdio::piped()).spawn().expect("running the program");
         let mut input = child.stdin.take().expect("a pipe");
         let rng = &mut Rng(seed);
-        let most = rng.pick(&[1, 3, 16, 100, 5000]);
+        let most = rng.pick(&[1, 3, 19, 100, 5000]);
         let done = std::thread::scope(|s| {
             s.spawn(move || {
                 let mut rest = text;

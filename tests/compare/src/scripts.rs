@@ -1,7 +1,9 @@
 //! Scripts for the desk from seeds: lines, and what each is answered by the rules. A script is independent of those before it: it starts
-//! with a window and leaves fresh sessions, or it needs a desk of its own.
+//! with a window and leaves fresh sessions and no last times, or it needs a desk of its own.
 
 use crate::board::Board;
+use crate::bus::Last;
+use crate::clocks::Clocks;
 use crate::desk::Desk;
 use crate::joining::Session;
 use crate::logs::{carry, payload, Item, Rng};
@@ -16,16 +18,17 @@ pub struct Script {
     pub lines: Vec<Vec<u8>>,
     pub answers: Vec<String>,
     pub desk: Desk,
+    pub clocks: Clocks,
     /// So many of a hundred lines are spoilt on their way, and the seed for that.
     spoils: usize,
     spoiling: Rng,
 }
 
 impl Script {
-    fn new(kind: &'static str, rng: &mut Rng) -> Script {
+    fn new(kind: &'static str, clocks: Clocks, rng: &mut Rng) -> Script {
         let (spoils, spoiling) = (if rng.chance(12) { rng.pick(&[3, 10, 40]) } else { 0 }, Rng(rng.next()));
         let desk = Desk::new(Wrong::No);
-        Script { kind, first: false, lines: Vec::new(), answers: Vec::new(), desk, spoils, spoiling }
+        Script { kind, first: false, lines: Vec::new(), answers: Vec::new(), desk, clocks, spoils, spoiling }
     }
 
     pub fn say(&mut self, line: String) {
@@ -62,11 +65,20 @@ impl Script {
         }
     }
 
-    /// Makes every session that was touched a fresh one again.
+    /// What gives a sender's next frame a time: the words for it, or none.
+    pub fn at(&mut self, sender: usize) -> String {
+        let last = self.desk.bus.lasts[sender];
+        self.clocks.time(sender, last).map_or(String::new(), |ms| format!(" at {}", ms))
+    }
+
+    /// Makes every session that was touched a fresh one again, and its sender one without a last time.
     fn leave(&mut self) {
         self.spoils = 0;
         for sender in 0..254 {
-            if self.desk.sessions[sender] != Session::fresh() {
+            if self.desk.bus.lasts[sender] != Last::NONE {
+                self.say(format!("poke untimed {} 0", sender));
+            }
+            if self.desk.bus.sessions[sender] != Session::fresh() {
                 self.say(format!("poke session {} 0 0 0", sender));
                 self.say(format!("frame 0CECFF{:02X} 20110003FF14FF00", sender));
                 self.say(format!("poke session {} 0 0 0", sender));
@@ -187,7 +199,7 @@ fn mixed(s: &mut Script, rng: &mut Rng, sort: usize) {
         let i = rng.below(queues.len());
         let item = queues[i].remove(0);
         if !rng.chance(3) {
-            let line = frame_line(rng, &item);
+            let line = frame_line(rng, &item) + &s.at(item[3].into());
             s.say(line);
         }
         let words: Vec<String> = s.answers[s.answers.len() - 1].split_whitespace().map(String::from).collect();
@@ -291,7 +303,7 @@ pub fn draw(seed: u64) -> Script {
         n if n < 59 => ("session", made_up::session),
         _ => ("made up", made_up::question),
     };
-    let mut script = Script::new(kind, rng);
+    let mut script = Script::new(kind, Clocks::new(seed, 50), rng);
     fill(&mut script, rng);
     script.leave();
     script

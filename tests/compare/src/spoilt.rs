@@ -14,7 +14,11 @@ pub fn any_line(rng: &mut Rng) -> String {
     }
     let bytes: Vec<u8> = (0..rng.pick(&[0, 1, 7, 8, 8, 17, 64, 65])).map(|_| rng.next() as u8).collect();
     match form.name {
-        "frame" => words.extend([format!("{:X}", rng.next() as u32 >> rng.below(32)), hex(&bytes)]),
+        "frame" => {
+            words.push(format!("{:X} {}", rng.next() as u32 >> rng.below(32), hex(&bytes)).trim_end().to_string());
+            words.extend(some_time(rng));
+        }
+        "poke session" => words.extend(some_time(rng)),
         "payload" => words.push(hex(&bytes)),
         "write" => {
             let mut more = vec![format!("note {}", hex(&bytes)), format!("room {}", rng.below(200))];
@@ -27,6 +31,12 @@ pub fn any_line(rng: &mut Rng) -> String {
         _ => {}
     }
     words.join(" ").trim_end().to_string()
+}
+
+/// A time, where one is said.
+fn some_time(rng: &mut Rng) -> Option<String> {
+    let ms = rng.pick(&[0, 1, 750, 751, 1501, u32::MAX]);
+    Some(format!("at {}", ms)).filter(|_| rng.chance(40))
 }
 
 const NUMBERS: [&str; 42] = [
@@ -74,7 +84,7 @@ const NUMBERS: [&str; 42] = [
     "-",
 ];
 
-const ODD: [&str; 34] = [
+const ODD: [&str; 45] = [
     "",
     " ",
     "\t",
@@ -108,6 +118,17 @@ const ODD: [&str; 34] = [
     "frame",
     "frame 123456789 00",
     "frame 1CECFF05",
+    "frame 1CECFF05 at 5",
+    "frame 1CECFF05 at",
+    "frame 1CECFF05 20110003FF14FF00 at 5 at 5",
+    "frame 1CECFF05 at 5 20110003FF14FF00",
+    "frame at 5",
+    "poke session 3 0 0 0 at",
+    "poke session 3 0 0 0 at 5 at 5",
+    "poke session 3 at 5 0 0 0",
+    "poke untimed 3",
+    "poke untimed 3 at 5",
+    "session 3 at 5",
     "payload 01 02",
 ];
 
@@ -121,7 +142,7 @@ pub fn line(rng: &mut Rng, line: &str) -> Vec<u8> {
             words.remove(at);
         }
         3 => {
-            let more = if rng.chance(50) { rng.pick(&NUMBERS) } else { rng.pick(&["note", "room", "AB", "x", "#"]) };
+            let more = if rng.chance(50) { rng.pick(&NUMBERS) } else { rng.pick(&["note", "room", "at", "AB", "x", "#"]) };
             words.insert(at + rng.below(2), more.to_string());
         }
         4 => words[at] = format!("{}{}", rng.pick(&["0", "00", "-", "+", "-0", "x", "#"]), words[at]),

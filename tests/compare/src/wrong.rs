@@ -11,7 +11,7 @@ macro_rules! wrong {
         pub const IN_LOGS: &[Wrong] = &[$(Wrong::$log,)*];
 
         /// Those that the desk tells besides. That a list is longer than the reports held isn't among them: it then names one that isn't held, or one
-        /// twice. Neither is the order of 24 and 3: a sender of no session has none that is unfit.
+        /// twice. Neither is the order of 24 or 26 and 3: a sender of no session has none that is unfit, and no last time.
         pub const AT_THE_DESK: &[Wrong] = &[$(Wrong::$desk,)*];
     };
 }
@@ -23,7 +23,11 @@ wrong! {
         SlotsFalling RemovedSlotKept AnnouncementDoesNotReplace FourCloses FiveKeeps SixKeeps SevenKeeps NineKeeps TenKeeps
         SixBeforeFive SequenceNotChecked PaddingRead Takes85 Takes4096 NoteLengthNotChecked SecondWindow RefusedWindowStands
         FramesBeforeTheWindow SkippedNotCounted LengthBeforeEnd SixteenBeforeFifteen WeightOf1001 K17 WeightsSwapped
-        ScoreWithoutSign;
+        ScoreWithoutSign
+        // frames with times
+        Late750 InTime751 RefusedSetsTheTime ReportLeavesTheTime AnnouncementLeavesTheTime UntimedSetsTheTime UntimedForgetsTheTime
+        UntimedTestsTheTime OneTimeForAll NoTimeIsZero TimesWrapAround TimeHighByteFirst TwentySixFirst TwentySixLast TwentySixCloses
+        TwentySixSetsTheTime RefusalUndoesTheClosing;
     at_the_desk:
         // steps and beginnings
         EqualCellsFalling CellsByNumber LeastCellFirst WholeSearchAtOnce ListedByAStepAgain StepListNotCut FinishedSteps
@@ -36,11 +40,13 @@ wrong! {
         RankNotChecked TwiceListed RestNumberNotChecked RestScoreNotChecked EmptySlotNotChecked UnfinishedOnTheBoard
         // unfit: a session
         SessionSizeNotChecked SessionCountNotChecked SessionNextZero SessionNextPastCount HalfClosed
+        // unfit: a last time
+        UnfitTimeNotChecked UnfitTimeStopsUntimed
         // the order of refusals
         ThirteenFirst TwelveFirst ElevenBeforeTwelve SixteenFirst TwentyFiveFirst TwentyFourFirst TwentyFourLast TwelveBeforeThree
-        NineteenBeforeTwelve TwentyFirst
+        NineteenBeforeTwelve TwentyFirst TwentySixBeforeTwentyFour ClosingBeforeTwentyFour
         // frames, payloads, the bench sender, the board
         OpeningKeepsTheBytes StoresPastTheSize ClosingClearsTheBytes LastPacketNotStored NoteByTheBytes NoteDropped EmptyNoteIsNone
         NoteWithItsHead OwnLostHalf RoomOneByteShort RoomOneByteMore Note65 PaddedWithZeros PrioritySix SessionsGoWithTheWindow RefusedWindowClears
-        SlotsStayWithTheWindow RemovingLeavesTheLines SearchesFalling;
+        SlotsStayWithTheWindow RemovingLeavesTheLines SearchesFalling LateClearsTheBytes TimesGoWithTheWindow PokeForgetsTheTime;
 }

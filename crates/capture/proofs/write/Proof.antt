@@ -24,12 +24,13 @@ returns : tie.Need-returns
 unfolding runBytes
 returns c =
     let ours = c .before .before .before .before .before .args .ours in
+    let time = c .before .before .before .before .before .args .time in
     let name = now (c .before .before .before .before .before .args .name) in
     let line = now (c .before .before .before .before .before .args .line) in
     let t = now (c .before .word .result) in
     let first = c .before .word .ensures in
-    let e = line-empty ours name line t first (c .if1 .taken) in
-    (e, rw (none-written ours name line e refl))
+    let e = line-empty ours name time line t first (c .if1 .taken) in
+    (e, rw (none-written ours name time line e refl))
 
 is-drop-requires : tie.Need-is-drop-requires
 is-drop-requires c κs = search needs
@@ -38,12 +39,13 @@ returns-2 : tie.Need-returns-2
 unfolding runBytes
 returns-2 c =
     let ours = c .before .before .before .before .before .before .before .args .ours in
+    let time = c .before .before .before .before .before .before .before .args .time in
     let name = now (c .before .before .before .before .before .before .before .args .name) in
     let line = now (c .before .before .before .before .before .before .before .args .line) in
     let t = now (c .before .before .before .word .result) in
     let first = c .before .before .before .word .ensures in
-    let e = line-drop ours name line t first (c .before .before .if1 .left) (sym (c .before .is-drop .ensures) ∙ c .if2 .taken) in
-    (e, rw (none-written ours name line e refl))
+    let e = line-drop ours name time line t first (c .before .before .if1 .left) (sym (c .before .is-drop .ensures) ∙ c .if2 .taken) in
+    (e, rw (none-written ours name time line e refl))
 
 is-elsewhere-requires : tie.Need-is-elsewhere-requires
 is-elsewhere-requires c κs = search needs
@@ -63,14 +65,15 @@ same-length c = search needs
 returns-3 : tie.Need-returns-3
 returns-3 c =
     let ours = c .before .before .before .before .before .before .before .before .before .before .before .before .before .before .before .args .ours in
+    let time = c .before .before .before .before .before .before .before .before .before .before .before .before .before .before .before .args .time in
     let name = now (c .before .before .before .before .before .before .before .before .before .before .before .before .before .before .before .args .name) in
     let line = now (c .before .before .before .before .before .before .before .before .before .before .before .before .before .before .before .args .line) in
     let t = now (c .before .before .before .before .before .before .before .before .before .before .before .word .result) in
     let first = c .before .before .before .before .before .before .before .before .before .before .before .word .ensures in
     let drop : isDrop line ≡ false = sym (c .before .before .before .before .before .before .before .before .before .is-drop .ensures) ∙ c .before .before .before .before .before .before .before .before .if2 .left in
     let text : now (c .before .before .before .before .logged .result) ≡ frameIn line = c .before .before .before .before .logged .ensures ∙ logged-frame line (sym (c .before .before .before .before .before .before .is-log .ensures) ∙ c .before .before .before .before .before .if3 .taken) in
-    let sorts = ap₂ (λ (b : Bool) (w : List ℕ). sortFor ours b w) (c .before .before .before .before .before .before .before .is-elsewhere .ensures) text ∙ line-frame ours name line t first (c .before .before .before .before .before .before .before .before .before .before .if1 .left) drop in
-    let items = ap₂ (λ (b : Bool) (w : List ℕ). itemsFor ours b w) (c .before .before .before .before .before .before .before .is-elsewhere .ensures) text ∙ line-items ours name line t first (c .before .before .before .before .before .before .before .before .before .before .if1 .left) drop in
+    let sorts = ap₂ (λ (b : Bool) (w : List ℕ). sortFor ours b time w) (c .before .before .before .before .before .before .before .is-elsewhere .ensures) text ∙ line-frame ours name time line t first (c .before .before .before .before .before .before .before .before .before .before .if1 .left) drop in
+    let items = ap₂ (λ (b : Bool) (w : List ℕ). itemsFor ours b time w) (c .before .before .before .before .before .before .before .is-elsewhere .ensures) text ∙ line-items ours name time line t first (c .before .before .before .before .before .before .before .before .before .before .if1 .left) drop in
     (c .before .before .write-frame .ensures .0 ∙ sorts, c .before .before .write-frame .ensures .1 ∙ rw items)
 
 slice-aggregate-shown : tie.Need-slice-aggregate-shown
@@ -94,14 +97,15 @@ same-length-2 c = search needs
 returns-4 : tie.Need-returns-4
 returns-4 c =
     let ours = c .before .before .before .before .before .before .before .before .before .before .before .before .before .before .before .before .before .before .before .args .ours in
+    let time = c .before .before .before .before .before .before .before .before .before .before .before .before .before .before .before .before .before .before .before .args .time in
     let name = now (c .before .before .before .before .before .before .before .before .before .before .before .before .before .before .before .before .before .before .before .args .name) in
     let line = now (c .before .before .before .before .before .before .before .before .before .before .before .before .before .before .before .before .before .before .before .args .line) in
     let t = now (c .before .before .before .before .before .before .before .before .before .before .before .before .before .before .before .word .result) in
     let first = c .before .before .before .before .before .before .before .before .before .before .before .before .before .before .before .word .ensures in
     let drop : isDrop line ≡ false = sym (c .before .before .before .before .before .before .before .before .before .before .before .before .before .is-drop .ensures) ∙ c .before .before .before .before .before .before .before .before .before .before .before .before .if2 .left in
     let text : now (c .before .before .before .before .front .result) ≡ frameIn line = c .before .before .before .before .front .ensures ∙ front-shown line (c .before .before .before .before .before .before .before .shown .ensures .0) (c .before .before .before .before .before .before .before .shown .ensures .1) ∙ shown-frame line (sym (c .before .before .before .before .before .before .before .before .before .before .is-log .ensures) ∙ c .before .before .before .before .before .before .before .before .before .if3 .left) in
-    let sorts = ap₂ (λ (b : Bool) (w : List ℕ). sortFor ours b w) (c .before .before .before .before .before .before .before .before .before .before .before .is-elsewhere .ensures) text ∙ line-frame ours name line t first (c .before .before .before .before .before .before .before .before .before .before .before .before .before .before .if1 .left) drop in
-    let items = ap₂ (λ (b : Bool) (w : List ℕ). itemsFor ours b w) (c .before .before .before .before .before .before .before .before .before .before .before .is-elsewhere .ensures) text ∙ line-items ours name line t first (c .before .before .before .before .before .before .before .before .before .before .before .before .before .before .if1 .left) drop in
+    let sorts = ap₂ (λ (b : Bool) (w : List ℕ). sortFor ours b time w) (c .before .before .before .before .before .before .before .before .before .before .before .is-elsewhere .ensures) text ∙ line-frame ours name time line t first (c .before .before .before .before .before .before .before .before .before .before .before .before .before .before .if1 .left) drop in
+    let items = ap₂ (λ (b : Bool) (w : List ℕ). itemsFor ours b time w) (c .before .before .before .before .before .before .before .before .before .before .before .is-elsewhere .ensures) text ∙ line-items ours name time line t first (c .before .before .before .before .before .before .before .before .before .before .before .before .before .before .if1 .left) drop in
     (c .before .before .write-frame2 .ensures .0 ∙ sorts, c .before .before .write-frame2 .ensures .1 ∙ rw items)
 
 pub write-spec : {M : Type 1} → statement M

@@ -25,7 +25,7 @@ put-frame-requires : tie.Need-put-frame-requires
 put-frame-requires c κs =
     let w = now (c .before .before .before .before .before .before .before .args .word) in
     let sorted : c .before .before .before .placed .result ≡ placed (c .before .before .before .before .before .before .before .args .elsewhere) (sortOfFrame w) = c .before .before .before .placed .ensures ∙ ap (placed (c .before .before .before .before .before .before .before .args .elsewhere)) (c .before .before .before .before .of-frame .ensures) in
-    sixteen (c .before .before .before .before .before .before .before .args .ours) (c .before .before .before .before .before .before .before .args .elsewhere) w sorted (c .before .enum-told .given .1)
+    sixteen (c .before .before .before .before .before .before .before .args .ours) (c .before .before .before .before .before .before .before .args .elsewhere) (c .before .before .before .before .before .before .before .args .time) w sorted (c .before .enum-told .given .1)
 
 same-length : tie.Need-same-length
 same-length c = search needs
@@ -35,15 +35,15 @@ returns c =
     let w = now (c .before .before .before .before .before .before .before .before .before .before .args .word) in
     let sorted : c .before .before .before .before .before .before .placed .result ≡ placed (c .before .before .before .before .before .before .before .before .before .before .args .elsewhere) (sortOfFrame w) = c .before .before .before .before .before .before .placed .ensures ∙ ap (placed (c .before .before .before .before .before .before .before .before .before .before .args .elsewhere)) (c .before .before .before .before .before .before .before .of-frame .ensures) in
     let e = c .before .before .before .before .enum-told .given .1 in
-    (c .before .before .put-frame .ensures .0 ∙ frame-sort (c .before .before .before .before .before .before .before .before .before .before .args .ours) (c .before .before .before .before .before .before .before .before .before .before .args .elsewhere) w sorted e, c .before .before .put-frame .ensures .1 ∙ rw (frame-items (c .before .before .before .before .before .before .before .before .before .before .args .ours) (c .before .before .before .before .before .before .before .before .before .before .args .elsewhere) w sorted e))
+    (c .before .before .put-frame .ensures .0 ∙ frame-sort (c .before .before .before .before .before .before .before .before .before .before .args .ours) (c .before .before .before .before .before .before .before .before .before .before .args .elsewhere) (c .before .before .before .before .before .before .before .before .before .before .args .time) w sorted e, c .before .before .put-frame .ensures .1 ∙ rw (frame-items (c .before .before .before .before .before .before .before .before .before .before .args .ours) (c .before .before .before .before .before .before .before .before .before .before .args .elsewhere) (c .before .before .before .before .before .before .before .before .before .before .args .time) w sorted e))
 
 returns-2 : tie.Need-returns-2
 unfolding runBytes
 returns-2 c =
     let w = now (c .before .before .before .before .before .args .word) in
     let sorted : c .before .placed .result ≡ placed (c .before .before .before .before .before .args .elsewhere) (sortOfFrame w) = c .before .placed .ensures ∙ ap (placed (c .before .before .before .before .before .args .elsewhere)) (c .before .before .of-frame .ensures) in
-    let other : c .before .placed .result ≡ sort.Frame → ⊥ = λ e. miss (1 ∷ 2 ∷ 3 ∷ 4 ∷ 5 ∷ 6 ∷ 7 ∷ 8 ∷ 9 ∷ 10 ∷ 11 ∷ []) 0 tt (rw e at (c .match .keys2)) in
-    (other-sort (c .before .before .before .before .before .args .ours) (c .before .before .before .before .before .args .elsewhere) w sorted other, rw (other-items (c .before .before .before .before .before .args .ours) (c .before .before .before .before .before .args .elsewhere) w sorted other))
+    let other : c .before .placed .result ≡ sort.Frame → ⊥ = λ e. miss (1 ∷ 2 ∷ 3 ∷ 4 ∷ 5 ∷ 6 ∷ 7 ∷ 8 ∷ 9 ∷ 10 ∷ 11 ∷ 12 ∷ []) 0 tt (rw e at (c .match .keys2)) in
+    (other-sort (c .before .before .before .before .before .args .ours) (c .before .before .before .before .before .args .elsewhere) (c .before .before .before .before .before .args .time) w sorted other, rw (other-items (c .before .before .before .before .before .args .ours) (c .before .before .before .before .before .args .elsewhere) (c .before .before .before .before .before .args .time) w sorted other))
 
 pub write-frame-spec : {M : Type 1} → statement M
 write-frame-spec =

@@ -1,10 +1,11 @@
 -- `commands::put_report` meets its contract: the frames that the bench sender wrote, cut into items, or its refusal.
 -- Assumes nothing.
-use mathlib.Core.Path.{refl, sym, _∙_}
+use mathlib.Core.Path.{refl, sym, ap, _∙_}
 use Prim.Native.Nat.{ℕ}
 use denote.Ref.{now}
 use lib.ListN.{replicate, length-replicate}
 use Rattle.items.specs.Run.{runBytes}
+use Rattle.commands.specs.declared.Answer.the-variants as answer
 use Rattle.commands.proofs.Writing.{items-sent, items-counted, items-refused}
 use borrow.Author.Needs.{needs}
 use native.Mathlib.Omega.{arith}
@@ -28,16 +29,8 @@ put-frames-requires c κs =
     let m = c .before .before .before in
     let s = m .before .before .before in
     let a = s .before .before .before .before .before .args in
-    let sent = items-sent (a .s) (now (a .note)) (replicate 156 0) (m .written .given .0 .0) (length-replicate {A = ℕ} 156 0) (sym (s .send .ensures .0) ∙ m .written .given .1) (s .send .ensures .1) in
+    let sent = items-sent (a .time) (a .s) (now (a .note)) (replicate 156 0) (m .written .given .0 .0) (length-replicate {A = ℕ} 156 0) (sym (s .send .ensures .0) ∙ m .written .given .1) (s .send .ensures .1) in
     (omega (arith, sent .within, s .send .kept .0), omega (arith, s .send .kept .0))
-
-mul-t18 : tie.Need-mul-t18
-mul-t18 c =
-    let m = c .before .before .before .before .before .before in
-    let s = m .before .before .before in
-    let a = s .before .before .before .before .before .args in
-    let sent = items-sent (a .s) (now (a .note)) (replicate 156 0) (m .written .given .0 .0) (length-replicate {A = ℕ} 156 0) (sym (s .send .ensures .0) ∙ m .written .given .1) (s .send .ensures .1) in
-    omega (arith, sent .within)
 
 enum-known-written-2 : tie.Need-enum-known-written-2
 enum-known-written-2 c = search needs
@@ -51,8 +44,8 @@ returns c =
     let m = f .before .before .before .before in
     let s = m .before .before .before in
     let a = s .before .before .before .before .before .args in
-    let sent = items-sent (a .s) (now (a .note)) (replicate 156 0) (m .written .given .0 .0) (length-replicate {A = ℕ} 156 0) (sym (s .send .ensures .0) ∙ m .written .given .1) (s .send .ensures .1) in
-    (items-counted (a .s) (now (a .note)) (omega (arith, s .send .kept .0)) sent, f .put-frames .ensures ∙ rw (sent .items))
+    let sent = items-sent (a .time) (a .s) (now (a .note)) (replicate 156 0) (m .written .given .0 .0) (length-replicate {A = ℕ} 156 0) (sym (s .send .ensures .0) ∙ m .written .given .1) (s .send .ensures .1) in
+    (ap answer.Items (f .put-frames .ensures .0) ∙ items-counted (a .time) (a .s) (now (a .note)) sent, f .put-frames .ensures .1 ∙ rw (sent .items))
 
 returns-2 : tie.Need-returns-2
 unfolding runBytes
@@ -60,7 +53,7 @@ returns-2 c =
     let m = c .before in
     let s = m .before .before .before in
     let a = s .before .before .before .before .before .args in
-    let refused = items-refused (a .s) (now (a .note)) 156 (m .written2 .given .0 .0) refl (sym (s .send .ensures .0) ∙ m .written2 .given .1) in
+    let refused = items-refused (a .time) (a .s) (now (a .note)) 156 (m .written2 .given .0 .0) refl (sym (s .send .ensures .0) ∙ m .written2 .given .1) in
     (refused .0, rw (refused .1))
 
 pub put-report-spec : {M : Type 1} → statement M
@@ -72,7 +65,6 @@ put-report-spec =
     enum-known-written
     slice-aggregate-put-frames
     put-frames-requires
-    mul-t18
     enum-known-written-2
     same-length
     returns

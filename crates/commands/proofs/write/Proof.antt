@@ -13,15 +13,19 @@ tail-requires c κs = search needs
 put-requires : tie.Need-put-requires
 put-requires c κs = search needs
 
+time-after-requires : tie.Need-time-after-requires
+time-after-requires c κs = search needs
+
 same-length : tie.Need-same-length
 same-length c = search needs
 
 returns : tie.Need-returns
 returns c =
-    let p = c .before .before in
+    let p = c .before .before .before in
     let t = p .before .before in
     let o = t .before in
-    rw (← t .tail .ensures, ← o .of .ensures) (p .put .ensures)
+    rw (← t .tail .ensures, ← o .of .ensures) (λ i. record { answer = p .put .ensures .0 i; time = c .time-after .ensures i }, p .put .ensures .1)
 
 pub write-spec : {M : Type 1} → statement M
-write-spec = tie.close (tie.spec of-requires tail-requires put-requires same-length returns)
+write-spec =
+    tie.close (tie.spec of-requires tail-requires put-requires time-after-requires same-length returns)

@@ -2,15 +2,16 @@
 -- Assumes nothing.
 use mathlib.Core.Path.{_≡_}
 use lib.ListN.{length}
+use native.Mathlib.Omega.{arith}
 use borrow.Author.Needs.{needs}
 use Rattle.desk.proofs.main.Statement.{statement}
 use Rattle.desk.proofs.main.Tie as tie
 
 abbrev Inv-loop : tie.InvT-loop
-Inv-loop input₀ line₀ space₀ out₀ room₀ desk₀ turns₀ input line space out room desk turns = (length line ≡ 512) × (length space ≡ 4096) × (length out ≡ 65536)
+Inv-loop input₀ line₀ space₀ out₀ room₀ known₀ at₀ desk₀ turns₀ input line space out room known at desk turns = (length line ≡ 512) × (length space ≡ 4096) × (length out ≡ 65536)
 
 abbrev μ-loop : tie.MeasureT-loop
-μ-loop input₀ line₀ space₀ out₀ room₀ desk₀ turns₀ input line space out room desk turns = turns
+μ-loop input₀ line₀ space₀ out₀ room₀ known₀ at₀ desk₀ turns₀ input line space out room known at desk turns = turns
 
 fresh-requires : tie.Need-fresh-requires Inv-loop μ-loop
 fresh-requires c κs = search needs
@@ -29,6 +30,9 @@ fill-requires c κs = search needs
 
 fresh-requires-3 : tie.Need-fresh-requires-3 Inv-loop μ-loop
 fresh-requires-3 c κs = search needs
+
+fresh-requires-4 : tie.Need-fresh-requires-4 Inv-loop μ-loop
+fresh-requires-4 c κs = search needs
 
 greet-requires : tie.Need-greet-requires Inv-loop μ-loop
 greet-requires c κs = search needs
@@ -70,11 +74,11 @@ written-requires : tie.Need-written-requires Inv-loop μ-loop
 written-requires c κs = search needs
 
 loop-less : tie.Need-loop-less Inv-loop μ-loop
-loop-less c = search needs
+loop-less c = omega (arith, c .before .before .before .before .before .before .before .before .before .before .before .before .before .before .before .before .before .before .before .before .loop-test .taken)
 
 loop-again : tie.Need-loop-again Inv-loop μ-loop
 loop-again c =
-    let s = c .before .before .before .before .before .before .before .before .before .before .before .before .before in
+    let s = c .before .before .before .before .before .before .before .before .before .before .before .before .before .before .before in
     (s .before .line2 .given, s .space2 .given, c .before .out4 .given)
 
 returns : tie.Need-returns Inv-loop μ-loop
@@ -98,6 +102,7 @@ main-spec =
     fresh-requires-2
     fill-requires
     fresh-requires-3
+    fresh-requires-4
     greet-requires
     loop-holds
     sub-turns

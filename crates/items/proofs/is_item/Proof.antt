@@ -1,4 +1,4 @@
--- `items::is` meets its contract: the two tests.
+-- `items::is_item` meets its contract: the two tests.
 -- Assumes nothing.
 use borrow.Author.Tests.{eq-eqb, ne-eqb}
 use Rattle.items.proofs.is_item.Statement.{statement}

@@ -1,4 +1,4 @@
--- `pieces::value_end` meets its contract: a value of at most 12 bytes ends behind them.
+-- `pieces::value_end` meets its contract: a value of at most 16 bytes ends behind them.
 -- Assumes nothing.
 use borrow.Author.Tests.{le-leb, lt-leb}
 use Rattle.pieces.specs.Machine.{valueEnd}
@@ -11,11 +11,11 @@ add-result c = search needs
 
 returns : tie.Need-returns
 unfolding valueEnd
-returns c = rw (le-leb (c .before .args .size) 12 (c .if1 .taken))
+returns c = rw (le-leb (c .before .args .size) 16 (c .if1 .taken))
 
 returns-2 : tie.Need-returns-2
 unfolding valueEnd
-returns-2 c = rw (lt-leb (c .before .args .size) 12 (c .if1 .left))
+returns-2 c = rw (lt-leb (c .before .args .size) 16 (c .if1 .left))
 
 pub value-end-spec : {M : Type 1} → statement M
 value-end-spec = tie.close (tie.spec add-result returns returns-2)

@@ -8,10 +8,10 @@ use Rattle.sender.proofs.main.Statement.{statement}
 use Rattle.sender.proofs.main.Tie as tie
 
 abbrev Inv-loop : tie.InvT-loop
-Inv-loop input₀ line₀ space₀ turns₀ input line space turns = (length line ≡ 512) × (length space ≡ 4096)
+Inv-loop input₀ line₀ space₀ time₀ turns₀ input line space time turns = (length line ≡ 512) × (length space ≡ 4096)
 
 abbrev μ-loop : tie.MeasureT-loop
-μ-loop input₀ line₀ space₀ turns₀ input line space turns = turns
+μ-loop input₀ line₀ space₀ time₀ turns₀ input line space time turns = turns
 
 fresh-requires : tie.Need-fresh-requires Inv-loop μ-loop
 fresh-requires c κs = search needs
@@ -40,18 +40,18 @@ enum-known-next c = search needs
 stopped-requires : tie.Need-stopped-requires Inv-loop μ-loop
 stopped-requires c κs = search needs
 
-slice-aggregate-sent : tie.Need-slice-aggregate-sent Inv-loop μ-loop
-slice-aggregate-sent c = search needs
+slice-aggregate-send : tie.Need-slice-aggregate-send Inv-loop μ-loop
+slice-aggregate-send c = search needs
 
-sent-requires : tie.Need-sent-requires Inv-loop μ-loop
-sent-requires c κs = search needs
+send-requires : tie.Need-send-requires Inv-loop μ-loop
+send-requires c κs = search needs
 
 loop-less : tie.Need-loop-less Inv-loop μ-loop
 loop-less c = omega arith
 
 loop-again : tie.Need-loop-again Inv-loop μ-loop
 loop-again c =
-    let s = c .before .before .before .before .before .before in
+    let s = c .before .before .before .before .before .before .before in
     (s .before .line2 .given, s .space2 .given)
 
 returns : tie.Need-returns Inv-loop μ-loop
@@ -78,8 +78,8 @@ main-spec =
     next-requires
     enum-known-next
     stopped-requires
-    slice-aggregate-sent
-    sent-requires
+    slice-aggregate-send
+    send-requires
     loop-less
     loop-again
     returns

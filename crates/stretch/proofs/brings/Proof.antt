@@ -1,6 +1,6 @@
 -- By the three answers.
 -- Assumes nothing.
-use mathlib.Core.Path.{ap}
+use mathlib.Core.Path.{refl, ap}
 use mathlib.Core.Bool.{not}
 use lib.Dec.{eqb}
 use Rattle.board.specs.declared.Arrival.{Arrival}
@@ -10,6 +10,9 @@ use Rattle.stretch.proofs.brings.Tie as tie
 
 enum-known-answer : tie.Need-enum-known-answer
 enum-known-answer c = search needs
+
+put-back-requires : tie.Need-put-back-requires
+put-back-requires c κs = search needs
 
 not-brought-requires : tie.Need-not-brought-requires
 not-brought-requires c κs = search needs
@@ -27,23 +30,24 @@ of-requires : tie.Need-of-requires
 of-requires c κs = search needs
 
 returns : tie.Need-returns
-returns c = rw (c .before .before .answer .given .1) (c .not-brought .ensures)
+returns c = rw (c .before .before .before .before .before .answer .given .1) (c .not-brought .ensures, c .before .put-back .ensures)
 
 returns-2 : tie.Need-returns-2
-returns-2 c = rw (c .before .enum-told .given .1) (c .not-brought2 .ensures)
+returns-2 c = rw (c .before .enum-told .given .1) (c .not-brought2 .ensures, (refl, refl))
 
 returns-3 : tie.Need-returns-3
 returns-3 c =
     let known = c .before .before .before .before .answer2 .given in
     let r = known .0 .0 in
     rw (known .1)
-    (ap (λ (a : Arrival). record { refused = not (eqb (a .refusal) 0); code = a .refusal; number = a .number; gone = a .oldest; values = r .values }) (c .before .of .ensures))
+    (ap (λ (a : Arrival). record { refused = not (eqb (a .refusal) 0); code = a .refusal; number = a .number; gone = a .oldest; values = r .values }) (c .before .of .ensures), (refl, refl))
 
 pub brings-spec : {M : Type 1} → statement M
 brings-spec =
     tie.close
     (tie.spec
     enum-known-answer
+    put-back-requires
     not-brought-requires
     enum-told
     not-brought-requires-2

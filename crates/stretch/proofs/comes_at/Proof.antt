@@ -15,14 +15,14 @@ returns-2 : tie.Need-returns-2
 unfolding comes
 returns-2 c = rw (le-leb 1 (c .before .before .before .args .rows) (c .before .if1 .left), lt-leb (c .before .before .before .args .rows) 1024 (c .if2 .taken))
 
-item-comes-requires : tie.Need-item-comes-requires
-item-comes-requires c κs = search needs
+frame-comes-requires : tie.Need-frame-comes-requires
+frame-comes-requires c κs = search needs
 
 returns-3 : tie.Need-returns-3
 unfolding comes
 returns-3 c =
     let rows = c .before .before .before .before .before .args .rows in
-    rw (le-leb 1 rows (c .before .before .before .if1 .left), le-leb rows 1024 (c .before .before .if2 .left), sym (c .before .item-comes .ensures) ∙ c .if3 .taken)
+    rw (le-leb 1 rows (c .before .before .before .if1 .left), le-leb rows 1024 (c .before .before .if2 .left), sym (c .before .frame-comes .ensures) ∙ c .if3 .taken)
 
 slot-comes-requires : tie.Need-slot-comes-requires
 slot-comes-requires c κs = search needs
@@ -31,9 +31,9 @@ returns-4 : tie.Need-returns-4
 unfolding comes
 returns-4 c =
     let rows = c .before .before .before .before .before .before .args .rows in
-    rw (le-leb 1 rows (c .before .before .before .before .if1 .left), le-leb rows 1024 (c .before .before .before .if2 .left), sym (c .before .before .item-comes .ensures) ∙ c .before .if3 .left) (c .slot-comes .ensures)
+    rw (le-leb 1 rows (c .before .before .before .before .if1 .left), le-leb rows 1024 (c .before .before .before .if2 .left), sym (c .before .before .frame-comes .ensures) ∙ c .before .if3 .left) (c .slot-comes .ensures)
 
 pub comes-at-spec : {M : Type 1} → statement M
 comes-at-spec =
     tie.close
-    (tie.spec returns returns-2 item-comes-requires returns-3 slot-comes-requires returns-4)
+    (tie.spec returns returns-2 frame-comes-requires returns-3 slot-comes-requires returns-4)

@@ -1,21 +1,23 @@
--- The frame is read off its 12 bytes behind the head, and its sender's session takes it.
+-- The frame is read off its 12 bytes behind its place, and its sender's session takes it.
 -- Assumes nothing.
 use mathlib.Core.Path.{_≡_, ap, _∙_}
+use mathlib.Core.Bool.{Bool}
 use mathlib.Core.List.{List}
 use Prim.Native.Nat.{ℕ, _+_, _-_}
 use native.Mathlib.Omega.{arith}
 use denote.Ref.{now}
 use lib.ListN.{take, drop}
 use Rattle.wire.specs.Bytes.{number, part}
-use Rattle.joining.specs.declared.Answer.{Answer}
-use Rattle.joining.specs.declared.Session.{Session}
-use Rattle.joining.specs.Frame.{Frame}
-use Rattle.bus.specs.Room.{roomOf, sessionsIn}
-use Rattle.joining.specs.Run.{sessionsAfter, answerTo}
 use Rattle.window.specs.declared.Counts.{Counts}
+use Rattle.joining.specs.declared.Answer.{Answer}
+use Rattle.joining.specs.Frame.{Frame}
+use Rattle.joining.specs.Run.{sessionsAfter, answerTo}
+use Rattle.bus.specs.Room.{roomOf}
+use Rattle.times.specs.Run.{Stations, stationsIn}
 use Rattle.journal.specs.Log.{frameIn}
 use Rattle.stretch.specs.declared.Brought.{Brought}
-use Rattle.stretch.specs.Inner.{brought}
+use Rattle.stretch.specs.declared.Begun.{Begun}
+use Rattle.stretch.specs.Inner.{brought, timesBy, HearsAt}
 use borrow.Author.Needs.{needs}
 use Rattle.stretch.proofs.hear.Statement.{statement}
 use Rattle.stretch.proofs.hear.Tie as tie
@@ -26,12 +28,19 @@ twelve i l =
     let n : i + 15 - (i + 3) ≡ 12 = omega arith in
     ap (λ (k : ℕ). take k (drop (i + 3) l)) n
 
-heard : (ss : List Session) (v w : List ℕ) (c : Counts) {id : ℕ} {a : Answer} {b : Brought} {left : List ℕ} → v ≡ w → id ≡ number (part 0 4 v)
-    → a ≡ answerTo ss (record { identifier = id; data-bytes = part 4 8 v }) → left ≡ roomOf (sessionsAfter ss (record { identifier = id; data-bytes = part 4 8 v })) → b ≡ brought a c
-    → (b ≡ brought (answerTo ss (frameIn w)) c) × (left ≡ roomOf (sessionsAfter ss (frameIn w)))
-heard ss v w c e-v e f g h =
-    let frame : _≡_ {A = Frame} _ (frameIn w) = (λ j. record { identifier = e j; data-bytes = part 4 8 v }) ∙ ap frameIn e-v in
-    (h ∙ ap (λ (x : Answer). brought x c) (f ∙ ap (answerTo ss) frame), g ∙ ap (λ (x : Frame). roomOf (sessionsAfter ss x)) frame)
+heard : (b : Stations) (g : Begun) (c : Counts) (v w : List ℕ) {id : ℕ} {a : Answer} {r : Brought} {room : List ℕ} {known : List Bool} {at : List ℕ} → v ≡ w → id ≡ number (part 0 4 v)
+    → (a ≡ answerTo (b .sessions) (record { identifier = id; data-bytes = part 4 8 v })) × (room ≡ roomOf (sessionsAfter (b .sessions) (record { identifier = id; data-bytes = part 4 8 v })))
+    → (r ≡ brought a c) × ((known ≡ timesBy g a id (b .times) .known) × (at ≡ timesBy g a id (b .times) .at)) → HearsAt b g (frameIn w .frame) c r room known at
+heard b g c v w {id} {a} e-v e t h =
+    let frame : _≡_ {A = Frame} (record { identifier = id; data-bytes = part 4 8 v }) (frameIn w .frame) = (λ j. record { identifier = e j; data-bytes = part 4 8 v }) ∙ ap (λ (x : List ℕ). frameIn x .frame) e-v in
+    record {
+      answer = a;
+      answers = t .0 ∙ ap (answerTo (b .sessions)) frame;
+      sessions = t .1 ∙ ap (λ (x : Frame). roomOf (sessionsAfter (b .sessions) x)) frame;
+      knows = h .1 .0 ∙ ap (λ (x : Frame). timesBy g a (x .identifier) (b .times) .known) frame;
+      times = h .1 .1 ∙ ap (λ (x : Frame). timesBy g a (x .identifier) (b .times) .at) frame;
+      brings = h .0;
+    }
 
 add-value : tie.Need-add-value
 add-value c = search needs
@@ -68,8 +77,8 @@ brings-requires c κs = search needs
 
 returns : tie.Need-returns
 returns c =
-    let a = c .before .before .before .before .before .before .before .args in
-    heard (sessionsIn (now (a .room))) _ _ (a .counts) (twelve (a .i) (now (a .bytes))) (c .before .before .before .before .read32 .ensures) (c .before .take .ensures .0) (c .before .take .ensures .1) (c .brings .ensures)
+    let a = c .before .before .before .before .before .before .before .before .before .args in
+    heard (stationsIn (now (a .room)) (now (a .known)) (now (a .lasts))) (a .begun) (a .counts) _ _ (twelve (a .begun .place) (now (a .bytes))) (c .before .before .before .before .before .before .read32 .ensures) (c .before .before .before .take .ensures) (c .brings .ensures)
 
 pub hear-spec : {M : Type 1} → statement M
 hear-spec =

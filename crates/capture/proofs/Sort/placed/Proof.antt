@@ -23,6 +23,7 @@ some sort.Remote h = refl
 some sort.Error h = refl
 some sort.Fd h = refl
 some sort.Length h = refl
+some sort.Beyond h = refl
 some sort.Dropped h = refl
 some sort.Nothing h = refl
 some sort.Broken h = absurd (h refl)
@@ -40,7 +41,7 @@ returns-2 c = rw (not-false (c .before .before .before .args .elsewhere) (c .bef
 
 returns-3 : tie.Need-returns-3
 unfolding placed
-returns-3 c = rw (not-false (c .before .before .args .elsewhere) (c .before .if1 .left)) (some (c .before .before .args .self) (λ e. miss (0 ∷ 1 ∷ 2 ∷ 3 ∷ 4 ∷ 5 ∷ 6 ∷ 7 ∷ 8 ∷ 9 ∷ 10 ∷ []) 11 tt (rw e at (c .match .keys2))))
+returns-3 c = rw (not-false (c .before .before .args .elsewhere) (c .before .if1 .left)) (some (c .before .before .args .self) (λ e. miss (0 ∷ 1 ∷ 2 ∷ 3 ∷ 4 ∷ 5 ∷ 6 ∷ 7 ∷ 8 ∷ 9 ∷ 10 ∷ 11 ∷ []) 12 tt (rw e at (c .match .keys2))))
 
 pub placed-spec : {M : Type 1} → statement M
 placed-spec = tie.close (tie.spec returns enum-told returns-2 returns-3)

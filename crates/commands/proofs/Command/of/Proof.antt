@@ -56,6 +56,18 @@ report-line-requires-2 c κs = search needs
 enum-told-8 : tie.Need-enum-told-8
 enum-told-8 c = search needs
 
+time-line-requires : tie.Need-time-line-requires
+time-line-requires c κs = search needs
+
+enum-told-9 : tie.Need-enum-told-9
+enum-told-9 c = search needs
+
+untimed-line-requires : tie.Need-untimed-line-requires
+untimed-line-requires c κs = search needs
+
+enum-told-10 : tie.Need-enum-told-10
+enum-told-10 c = search needs
+
 returns : tie.Need-returns
 returns c =
     let t = c in
@@ -107,10 +119,24 @@ returns-7 c =
 
 returns-8 : tie.Need-returns-8
 returns-8 c =
+    let t = c .before in
+    let k = t .before .before in
+    let w = k .before in
+    c .time-line .ensures ∙ by-first (now (w .before .before .args .line)) (now (w .word .result)) (k .of .result) kind.Time (w .word .ensures) (k .of .ensures) (t .enum-told8 .given .1)
+
+returns-9 : tie.Need-returns-9
+returns-9 c =
+    let t = c .before in
+    let k = t .before .before in
+    let w = k .before in
+    c .untimed-line .ensures ∙ by-first (now (w .before .before .args .line)) (now (w .word .result)) (k .of .result) kind.Untimed (w .word .ensures) (k .of .ensures) (t .enum-told9 .given .1)
+
+returns-10 : tie.Need-returns-10
+returns-10 c =
     let t = c in
     let k = t .before .before in
     let w = k .before in
-    by-first (now (w .before .before .args .line)) (now (w .word .result)) (k .of .result) kind.Unknown (w .word .ensures) (k .of .ensures) (t .enum-told8 .given .1)
+    by-first (now (w .before .before .args .line)) (now (w .word .result)) (k .of .result) kind.Unknown (w .word .ensures) (k .of .ensures) (t .enum-told10 .given .1)
 
 pub of-spec : {M : Type 1} → statement M
 of-spec =
@@ -132,6 +158,10 @@ of-spec =
     enum-told-7
     report-line-requires-2
     enum-told-8
+    time-line-requires
+    enum-told-9
+    untimed-line-requires
+    enum-told-10
     returns
     returns-2
     returns-3
@@ -139,4 +169,6 @@ of-spec =
     returns-5
     returns-6
     returns-7
-    returns-8)
+    returns-8
+    returns-9
+    returns-10)

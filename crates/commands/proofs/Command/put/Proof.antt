@@ -38,6 +38,9 @@ enum-known-self-2 c = search needs
 put-report-requires : tie.Need-put-report-requires
 put-report-requires c κs = search needs
 
+enum-told-2 : tie.Need-enum-told-2
+enum-told-2 c = search needs
+
 enum-known-self-3 : tie.Need-enum-known-self-3
 enum-known-self-3 c = search needs
 
@@ -45,7 +48,7 @@ returns : tie.Need-returns
 unfolding runBytes
 returns c =
     let a = c .before .before .before .before .args in
-    put-is (a .self) command.Nothing (now (a .note)) (now (a .room)) (c .enum-told .given .1) (refl, refl)
+    put-is (a .time) (a .self) command.Nothing (now (a .note)) (now (a .room)) (c .enum-told .given .1) (refl, refl)
 
 same-length : tie.Need-same-length
 same-length c = search needs
@@ -57,7 +60,7 @@ returns-2 c =
     let m = f .before .before in
     let a = m .before .before .before .before .args in
     let i = m .self .given .0 .0 in
-    put-is (a .self) (command.Item i) (now (a .note)) (now (a .room)) (m .self .given .1) (
+    put-is (a .time) (a .self) (command.Item i) (now (a .note)) (now (a .room)) (m .self .given .1) (
       ap answer.Items (p .put .ensures .0 ∙ ap (λ (ds : List ℕ). length (itemBytes i ds)) (f .front .ensures) ∙ ap length (alone i)),
       p .put .ensures .1 ∙ ap (λ (ds : List ℕ). sets (now (a .room)) 0 (itemBytes i ds)) (f .front .ensures) ∙ ap (sets (now (a .room)) 0) (alone i),
     )
@@ -70,14 +73,20 @@ returns-3 c =
     let p = c .before .before in
     let m = p .before .before .before in
     let a = m .before .before .before .before .args in
-    put-is (a .self) (command.Report (m .self2 .given .0 .0)) (now (a .note)) (now (a .room)) (m .self2 .given .1) (p .put-report .ensures)
+    put-is (a .time) (a .self) (command.Report (m .self2 .given .0 .0)) (now (a .note)) (now (a .room)) (m .self2 .given .1) (p .put-report .ensures)
 
 returns-4 : tie.Need-returns-4
 unfolding runBytes
 returns-4 c =
+    let a = c .before .before .before .before .args in
+    put-is (a .time) (a .self) (command.Time (c .enum-told2 .given .0 .0)) (now (a .note)) (now (a .room)) (c .enum-told2 .given .1) (refl, refl)
+
+returns-5 : tie.Need-returns-5
+unfolding runBytes
+returns-5 c =
     let m = c .before in
     let a = m .before .before .before .before .args in
-    put-is (a .self) (command.Wrong (m .self3 .given .0 .0)) (now (a .note)) (now (a .room)) (m .self3 .given .1) (refl, refl)
+    put-is (a .time) (a .self) (command.Wrong (m .self3 .given .0 .0)) (now (a .note)) (now (a .room)) (m .self3 .given .1) (refl, refl)
 
 pub put-spec : {M : Type 1} → statement M
 put-spec =
@@ -89,10 +98,12 @@ put-spec =
     put-requires
     enum-known-self-2
     put-report-requires
+    enum-told-2
     enum-known-self-3
     returns
     same-length
     returns-2
     same-length-2
     returns-3
-    returns-4)
+    returns-4
+    returns-5)

@@ -10,15 +10,21 @@ use borrow.Author.Tests.{eq-eqb, ne-eqb}
 use Rattle.wire.specs.Bytes.{same}
 use Rattle.commands.specs.declared.Kind.{Kind}
 use Rattle.commands.specs.declared.Kind.the-variants as kind
-use Rattle.commands.specs.Lines.{windowWord, questionWord, removeWord, showWord, reportWord, notedWord, kindOf}
+use Rattle.commands.specs.Lines.{windowWord, questionWord, removeWord, showWord, reportWord, notedWord, timeWord, untimedWord, kindOf}
 use borrow.Author.Needs.{needs}
 use Rattle.commands.proofs.Kind.of.Statement.{statement}
 use Rattle.commands.proofs.Kind.of.Tie as tie
 
 -- What is left of the definition behind its first tests.
 module _ (w : List ℕ) where
+  abbrev at-untimed : Kind
+  at-untimed = cond (same w untimedWord) kind.Untimed kind.Unknown
+
+  abbrev at-time : Kind
+  at-time = cond (same w timeWord) kind.Time at-untimed
+
   abbrev at-noted : Kind
-  at-noted = cond (same w notedWord) kind.Noted kind.Unknown
+  at-noted = cond (same w notedWord) kind.Noted at-time
 
   abbrev at-report : Kind
   at-report = cond (same w reportWord) kind.Report at-noted
@@ -59,6 +65,12 @@ no-show c = no-remove (c .before .before .before) ∙ rw (sym (c .before .same4 
 
 no-report : (c : tie.Else7) → let t = c .before .before .before .before .before .before .before .before .before .before .before .before .before .before .before .before .before in kindOf (word-of t) ≡ at-noted (word-of t)
 no-report c = no-show (c .before .before .before) ∙ rw (sym (c .before .same5 .ensures) ∙ c .if7 .left)
+
+no-noted : (c : tie.Else8) → let t = c .before .before .before .before .before .before .before .before .before .before .before .before .before .before .before .before .before .before .before .before in kindOf (word-of t) ≡ at-time (word-of t)
+no-noted c = no-report (c .before .before .before) ∙ rw (sym (c .before .same6 .ensures) ∙ c .if8 .left)
+
+no-time : (c : tie.Else9) → let t = c .before .before .before .before .before .before .before .before .before .before .before .before .before .before .before .before .before .before .before .before .before .before .before in kindOf (word-of t) ≡ at-untimed (word-of t)
+no-time c = no-noted (c .before .before .before) ∙ rw (sym (c .before .same7 .ensures) ∙ c .if9 .left)
 
 returns : tie.Need-returns
 unfolding kindOf
@@ -127,8 +139,26 @@ same-requires-6 c κs = search needs
 returns-8 : tie.Need-returns-8
 returns-8 c = rw (no-report (c .before .before .before), sym (c .before .same6 .ensures) ∙ c .if8 .taken)
 
+slice-aggregate-same-7 : tie.Need-slice-aggregate-same-7
+slice-aggregate-same-7 c = search needs
+
+same-requires-7 : tie.Need-same-requires-7
+same-requires-7 c κs = search needs
+
 returns-9 : tie.Need-returns-9
-returns-9 c = rw (no-report (c .before .before .before), sym (c .before .same6 .ensures) ∙ c .if8 .left)
+returns-9 c = rw (no-noted (c .before .before .before), sym (c .before .same7 .ensures) ∙ c .if9 .taken)
+
+slice-aggregate-same-8 : tie.Need-slice-aggregate-same-8
+slice-aggregate-same-8 c = search needs
+
+same-requires-8 : tie.Need-same-requires-8
+same-requires-8 c κs = search needs
+
+returns-10 : tie.Need-returns-10
+returns-10 c = rw (no-time (c .before .before .before), sym (c .before .same8 .ensures) ∙ c .if10 .taken)
+
+returns-11 : tie.Need-returns-11
+returns-11 c = rw (no-time (c .before .before .before), sym (c .before .same8 .ensures) ∙ c .if10 .left)
 
 pub of-spec : {M : Type 1} → statement M
 of-spec =
@@ -155,4 +185,10 @@ of-spec =
     slice-aggregate-same-6
     same-requires-6
     returns-8
-    returns-9)
+    slice-aggregate-same-7
+    same-requires-7
+    returns-9
+    slice-aggregate-same-8
+    same-requires-8
+    returns-10
+    returns-11)

@@ -1,61 +1,68 @@
--- `items::Item::data_in` meets its contract: a part to the end is what is left, and nothing is left of fewer than 4.
+-- `items::Item::data_in` meets its contract: both frames by their places, and no bytes of any other item.
 -- Assumes nothing.
-use mathlib.Core.Path.{_≡_, sym, ap, _∙_}
-use Prim.Native.Nat.{ℕ, _-_}
-use native.Mathlib.Omega.{arith}
+use mathlib.Core.Path.{_≡_, refl, sym, _∙_}
+use mathlib.Core.List.{List, [], _∷_}
+use Prim.Native.Nat.{ℕ}
 use denote.Ref.{now}
-use lib.ListN.{length, take, drop, length-drop, drop-of-length-le}
-use lib.Seq.{take-all}
+use types.Run.{miss}
+use Rattle.items.specs.declared.Item.{Item}
+use Rattle.items.specs.declared.Item.the-variants.{Window, Set, Frame, Remove, Show, Timed, Unknown}
+use Rattle.items.specs.Items.{dataOf}
 use borrow.Author.Needs.{needs}
 use Rattle.items.proofs.Item.data_in.Statement.{statement}
 use Rattle.items.proofs.Item.data_in.Tie as tie
 
-sub-result : tie.Need-sub-result
-sub-result c = search needs
+-- An item that is no frame has no data bytes.
+none : (i : Item) (v : List ℕ) → ((id : ℕ) → i ≡ Frame id → ⊥) → ((time id : ℕ) → i ≡ Timed time id → ⊥) → dataOf i v ≡ []
+none (Window n) v f t = refl
+none (Set s) v f t = refl
+none (Frame id) v f t = absurd (f id refl)
+none (Remove slot) v f t = refl
+none (Show slot) v f t = refl
+none (Timed time id) v f t = absurd (t time id refl)
+none Unknown v f t = refl
 
-part-result-start : tie.Need-part-result-start
-part-result-start c = search needs
+enum-told : tie.Need-enum-told
+enum-told c = search needs
 
-part-result-end : tie.Need-part-result-end
-part-result-end c = search needs
+eight-at-requires : tie.Need-eight-at-requires
+eight-at-requires c κs = search needs
 
-returns : tie.Need-returns
-returns c =
-    let s = now (c .before .before .before .args .value) in
-    let none : length s - length s ≡ 0 = omega arith in
-    ap (λ (n : ℕ). take n (drop (length s) s)) none ∙ sym (ap (take 8) (drop-of-length-le s {i = 4} (omega arith)))
+enum-told-2 : tie.Need-enum-told-2
+enum-told-2 c = search needs
 
-sub-front : tie.Need-sub-front
-sub-front c = search needs
+add-eight-at : tie.Need-add-eight-at
+add-eight-at c = search needs
 
-part-front-start : tie.Need-part-front-start
-part-front-start c = search needs
-
-part-front-end : tie.Need-part-front-end
-part-front-end c = search needs
-
-sub-front-2 : tie.Need-sub-front-2
-sub-front-2 c = search needs
+eight-at-requires-2 : tie.Need-eight-at-requires-2
+eight-at-requires-2 c κs = search needs
 
 front-requires : tie.Need-front-requires
 front-requires c κs = search needs
 
+returns : tie.Need-returns
+returns c = search needs
+
 returns-2 : tie.Need-returns-2
-returns-2 c =
-    let s = now (c .before .before .before .before .args .value) in
-    c .front .ensures ∙ ap (take 8) (take-all (length s - 4) (drop 4 s) (omega (arith, length-drop 4 s)))
+returns-2 c = search needs
+
+returns-3 : tie.Need-returns-3
+returns-3 c =
+    let k = c .before .match .keys3 in
+    let a = c .before .before .before .args in
+    c .front .ensures
+    ∙ sym (none (a .self) (now (a .value)) (λ id e. miss (0 ∷ 1 ∷ 3 ∷ 4 ∷ 6 ∷ []) 2 tt (rw e at k)) (λ time id e. miss (0 ∷ 1 ∷ 3 ∷ 4 ∷ 6 ∷ []) 5 tt (rw e at k)))
 
 pub data-in-spec : {M : Type 1} → statement M
 data-in-spec =
     tie.close
     (tie.spec
-    sub-result
-    part-result-start
-    part-result-end
-    returns
-    sub-front
-    part-front-start
-    part-front-end
-    sub-front-2
+    enum-told
+    eight-at-requires
+    enum-told-2
+    add-eight-at
+    eight-at-requires-2
     front-requires
-    returns-2)
+    returns
+    returns-2
+    returns-3)

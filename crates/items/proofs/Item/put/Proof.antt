@@ -1,13 +1,15 @@
 -- `items::Item::put` meets its contract: a case for each item.
 -- Assumes nothing.
-use mathlib.Core.Path.{sym, _∙_}
+use mathlib.Core.Path.{sym, ap, _∙_}
 use mathlib.Core.List.{[], _∷_}
+use native.Mathlib.Omega.{arith}
 use denote.Ref.{now}
+use lib.ListN.{length}
 use Rattle.wire.specs.Bytes.{bytes}
 use Rattle.wire.proofs.Fields.{length-field}
-use Rattle.items.specs.declared.Item.the-variants.{Window, Set, Frame, Remove, Show, Unknown}
+use Rattle.items.specs.declared.Item.the-variants.{Window, Set, Frame, Remove, Show, Timed, Unknown}
 use Rattle.items.specs.Items.{settingBytes}
-use Rattle.items.proofs.Writing.{frame-long, put-is}
+use Rattle.items.proofs.Writing.{frame-long, timed-long, put-is}
 use borrow.Author.Needs.{needs}
 use Rattle.items.proofs.Item.put.Statement.{statement}
 use Rattle.items.proofs.Item.put.Tie as tie
@@ -33,8 +35,11 @@ add-result-2 c = search needs
 enum-known-self-3 : tie.Need-enum-known-self-3
 enum-known-self-3 c = search needs
 
+front-requires : tie.Need-front-requires
+front-requires c κs = search needs
+
 put-frame-requires : tie.Need-put-frame-requires
-put-frame-requires c κs = search needs
+put-frame-requires c κs = omega (arith, ap length (c .front .ensures))
 
 add-result-3 : tie.Need-add-result-3
 add-result-3 c = search needs
@@ -60,11 +65,26 @@ put-slot-requires-2 c κs = search needs
 add-result-6 : tie.Need-add-result-6
 add-result-6 c = search needs
 
+enum-known-self-6 : tie.Need-enum-known-self-6
+enum-known-self-6 c = search needs
+
+put-timed-requires : tie.Need-put-timed-requires
+put-timed-requires c κs = search needs
+
+add-result-7 : tie.Need-add-result-7
+add-result-7 c = search needs
+
+add-result-8 : tie.Need-add-result-8
+add-result-8 c = search needs
+
+add-result-9 : tie.Need-add-result-9
+add-result-9 c = search needs
+
 enum-told : tie.Need-enum-told
 enum-told c = search needs
 
-front-requires : tie.Need-front-requires
-front-requires c κs = search needs
+front-requires-2 : tie.Need-front-requires-2
+front-requires-2 c κs = search needs
 
 put-field-requires : tie.Need-put-field-requires
 put-field-requires c κs = search needs
@@ -97,9 +117,10 @@ same-length-3 c = search needs
 returns-3 : tie.Need-returns-3
 returns-3 c =
     let p = c .before .before in
-    let m = p .before .before .before in
+    let m = p .before .before .before .before in
     let a = m .before .before .before .before .args in
-    put-is (a .self) (Frame (m .self3 .given .0 .0)) (now (a .data)) (now (a .room)) (a .at) (m .self3 .given .1) (sym (frame-long (m .self3 .given .0 .0) (now (a .data))), p .put-frame .ensures)
+    let id = m .self3 .given .0 .0 in
+    put-is (a .self) (Frame id) (now (a .data)) (now (a .room)) (a .at) (m .self3 .given .1) (sym (frame-long id (now (a .data))), p .put-frame .ensures ∙ rw (p .before .front .ensures))
 
 same-length-4 : tie.Need-same-length-4
 same-length-4 c = search needs
@@ -129,7 +150,19 @@ returns-6 c =
     let p = c .before .before in
     let m = p .before .before .before in
     let a = m .before .before .before .before .args in
-    put-is (a .self) Unknown (now (a .data)) (now (a .room)) (a .at) (m .enum-told .given .1) (sym (length-field 0 []), p .put-field .ensures ∙ rw (p .before .front .ensures))
+    let time = m .self6 .given .0 .0 in
+    let id = m .self6 .given .0 .1 .0 in
+    put-is (a .self) (Timed time id) (now (a .data)) (now (a .room)) (a .at) (m .self6 .given .1) (sym (timed-long time id (now (a .data))), p .put-timed .ensures)
+
+same-length-7 : tie.Need-same-length-7
+same-length-7 c = search needs
+
+returns-7 : tie.Need-returns-7
+returns-7 c =
+    let p = c .before .before in
+    let m = p .before .before .before in
+    let a = m .before .before .before .before .args in
+    put-is (a .self) Unknown (now (a .data)) (now (a .room)) (a .at) (m .enum-told .given .1) (sym (length-field 0 []), p .put-field .ensures ∙ rw (p .before .front2 .ensures))
 
 pub put-spec : {M : Type 1} → statement M
 put-spec =
@@ -142,6 +175,7 @@ put-spec =
     put-setting-requires
     add-result-2
     enum-known-self-3
+    front-requires
     put-frame-requires
     add-result-3
     add-result-4
@@ -151,8 +185,13 @@ put-spec =
     enum-known-self-5
     put-slot-requires-2
     add-result-6
+    enum-known-self-6
+    put-timed-requires
+    add-result-7
+    add-result-8
+    add-result-9
     enum-told
-    front-requires
+    front-requires-2
     put-field-requires
     same-length
     returns
@@ -165,4 +204,6 @@ put-spec =
     same-length-5
     returns-5
     same-length-6
-    returns-6)
+    returns-6
+    same-length-7
+    returns-7)

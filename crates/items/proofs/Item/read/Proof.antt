@@ -1,6 +1,6 @@
 -- `items::Item::read` meets its contract: its tests in their order; behind each that fails, the definition is what is left of it.
 -- Assumes nothing.
-use mathlib.Core.Path.{_≡_, sym, ap, _∙_}
+use mathlib.Core.Path.{_≡_, sym, ap, ap₂, _∙_}
 use mathlib.Core.Bool.{cond}
 use mathlib.Core.List.{List}
 use Prim.Native.Nat.{ℕ}
@@ -8,7 +8,7 @@ use denote.Ref.{now}
 use lib.ListN.{getD}
 use Rattle.wire.specs.Bytes.{number, part}
 use Rattle.items.specs.declared.Item.{Item}
-use Rattle.items.specs.declared.Item.the-variants.{Set, Frame, Remove, Show, Unknown, Window}
+use Rattle.items.specs.declared.Item.the-variants.{Window, Set, Frame, Remove, Show, Timed, Unknown}
 use Rattle.items.specs.Items.{isItem, settingIn, itemIn}
 use borrow.Author.Needs.{needs}
 use Rattle.items.proofs.Item.read.Statement.{statement}
@@ -16,8 +16,11 @@ use Rattle.items.proofs.Item.read.Tie as tie
 
 -- What is left of the definition behind its first tests.
 module _ (tag : ℕ) (v : List ℕ) where
+  abbrev timed : Item
+  timed = cond (isItem tag v 21 16) (Timed (number (part 0 4 v)) (number (part 4 4 v))) Unknown
+
   abbrev shown : Item
-  shown = cond (isItem tag v 20 1) (Show (getD v 0 0)) Unknown
+  shown = cond (isItem tag v 20 1) (Show (getD v 0 0)) timed
 
   abbrev removed : Item
   removed = cond (isItem tag v 19 1) (Remove (getD v 0 0)) shown
@@ -50,6 +53,9 @@ no-frame c = no-set (c .before .before) ∙ rw (sym (c .before .is-item3 .ensure
 
 no-remove : (c : tie.Else4) → let s = c .before .before .before .before .before .before .before .before in all s ≡ shown (tag s) (value s)
 no-remove c = no-frame (c .before .before) ∙ rw (sym (c .before .is-item4 .ensures) ∙ c .if4 .left)
+
+no-show : (c : tie.Else5) → let s = c .before .before .before .before .before .before .before .before .before .before in all s ≡ timed (tag s) (value s)
+no-show c = no-remove (c .before .before) ∙ rw (sym (c .before .is-item5 .ensures) ∙ c .if5 .left)
 
 is-item-requires : tie.Need-is-item-requires
 is-item-requires c κs = search needs
@@ -97,8 +103,22 @@ byte-requires-2 c κs = search needs
 returns-5 : tie.Need-returns-5
 returns-5 c = rw (no-remove (c .before .before .before), sym (c .before .before .is-item5 .ensures) ∙ c .before .if5 .taken) (ap Show (c .byte2 .ensures))
 
+is-item-requires-6 : tie.Need-is-item-requires-6
+is-item-requires-6 c κs = search needs
+
+read32-requires-2 : tie.Need-read32-requires-2
+read32-requires-2 c κs = search needs
+
+read32-requires-3 : tie.Need-read32-requires-3
+read32-requires-3 c κs = search needs
+
 returns-6 : tie.Need-returns-6
-returns-6 c = rw (no-remove (c .before .before), sym (c .before .is-item5 .ensures) ∙ c .if5 .left)
+returns-6 c =
+    let t = c .before in
+    rw (no-show (t .before .before .before), sym (t .before .before .is-item6 .ensures) ∙ t .before .if6 .taken) (ap₂ Timed (t .read322 .ensures) (c .read323 .ensures))
+
+returns-7 : tie.Need-returns-7
+returns-7 c = rw (no-show (c .before .before), sym (c .before .is-item6 .ensures) ∙ c .if6 .left)
 
 pub read-spec : {M : Type 1} → statement M
 read-spec =
@@ -119,4 +139,8 @@ read-spec =
     is-item-requires-5
     byte-requires-2
     returns-5
-    returns-6)
+    is-item-requires-6
+    read32-requires-2
+    read32-requires-3
+    returns-6
+    returns-7)

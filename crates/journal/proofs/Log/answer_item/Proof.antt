@@ -1,4 +1,4 @@
--- `journal::Log::answered` meets its contract: by the three answers.
+-- `journal::Log::answer_item` meets its contract: by the three answers.
 -- Assumes nothing.
 use mathlib.Core.Path.{refl}
 use denote.Ref.{now}

@@ -48,6 +48,12 @@ enum-known-item-5 c = search needs
 show-item-requires : tie.Need-show-item-requires
 show-item-requires c κs = search needs
 
+enum-known-item-6 : tie.Need-enum-known-item-6
+enum-known-item-6 c = search needs
+
+timed-item-requires : tie.Need-timed-item-requires
+timed-item-requires c κs = search needs
+
 enum-told : tie.Need-enum-told
 enum-told c = search needs
 
@@ -101,9 +107,19 @@ returns-5 c =
     let m = p .before .before .before in
     said (m .before .before) (m .item5 .given .1) (p .show-item .ensures)
 
+same-length-6 : tie.Need-same-length-6
+same-length-6 c = search needs
+
 returns-6 : tie.Need-returns-6
 unfolding byItem
 returns-6 c =
+    let p = c .before .before in
+    let m = p .before .before .before in
+    said (m .before .before) (m .item6 .given .1) (p .timed-item .ensures)
+
+returns-7 : tie.Need-returns-7
+unfolding byItem
+returns-7 c =
     let a = c .before .before .before .before .args in
     said (c .before .before) (c .enum-told .given .1) (silent (now (a .out)) (a .at) (a .self) (search needs) refl)
 
@@ -121,6 +137,8 @@ by-item-spec =
     remove-item-requires
     enum-known-item-5
     show-item-requires
+    enum-known-item-6
+    timed-item-requires
     enum-told
     same-length
     returns
@@ -132,4 +150,6 @@ by-item-spec =
     returns-4
     same-length-5
     returns-5
-    returns-6)
+    same-length-6
+    returns-6
+    returns-7)

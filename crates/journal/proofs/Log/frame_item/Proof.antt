@@ -1,11 +1,7 @@
--- `journal::Log::frame_item` meets its contract: the session that the frame belongs to is taken out, advanced and put back.
+-- `journal::Log::frame_item` meets its contract: the session that the frame belongs to is taken out, advanced and put back, and the times stay.
 -- Assumes nothing.
-use mathlib.Core.Path.{ap, ap₂, _∙_}
-use Prim.Native.Nat.{_%_}
 use denote.Ref.{now}
-use lib.ListN.{set}
-use Rattle.joining.specs.declared.Taken.{Taken}
-use Rattle.journal.specs.Log.{withSessions, refused, answerItem}
+use Rattle.times.specs.Run.{untimedAt}
 use Rattle.journal.proofs.Calls.{outcome-is}
 use Rattle.journal.proofs.Frames.{unheard, heard}
 use borrow.Author.Needs.{needs}
@@ -26,8 +22,9 @@ same-length c = search needs
 
 returns : tie.Need-returns
 returns c =
-    let a = c .before .before .before .before .before .before .before .before .args in
-    outcome-is (ap (refused (a .self)) (c .before .before .before .before .frame-refusal .ensures) ∙ unheard (a .self) (a .id) (now (a .data)) (c .before .before .before .before .before .if1 .taken)) (c .before .before .refused .ensures)
+    let refuses = c .before .before .before .before in
+    let a = refuses .before .before .before .before .args in
+    outcome-is (unheard (a .self) (untimedAt (a .id) (now (a .data))) (refuses .before .if1 .taken) (refuses .frame-refusal .ensures)) (c .before .before .refused .ensures)
 
 mul-session : tie.Need-mul-session
 mul-session c = search needs
@@ -38,14 +35,8 @@ array-copy-out-session c = search needs
 lend-requires : tie.Need-lend-requires
 lend-requires c κs = search needs
 
-mul-sessions : tie.Need-mul-sessions
-mul-sessions c = search needs
-
-array-set-from-sessions : tie.Need-array-set-from-sessions
-array-set-from-sessions c = search needs
-
-with-sessions-requires : tie.Need-with-sessions-requires
-with-sessions-requires c κs = search needs
+with-session-requires : tie.Need-with-session-requires
+with-session-requires c κs = search needs
 
 answer-item-requires : tie.Need-answer-item-requires
 answer-item-requires c κs = search needs
@@ -55,10 +46,11 @@ same-length-2 c = search needs
 
 returns-2 : tie.Need-returns-2
 returns-2 c =
-    let a = c .before .before .before .before .before .before .before .before .before .before .before .before .args in
-    let taken = c .before .before .before .before .before .before .lend .ensures in
-    let left = c .before .before .before .before .with-sessions .ensures ∙ ap (λ (t : Taken). withSessions (a .self) (set (a .self .sessions) (a .id % 256) (t .session))) taken in
-    outcome-is (ap₂ answerItem left (ap (λ (t : Taken). t .answer) taken) ∙ heard (a .self) (a .id) (now (a .data)) (c .before .before .before .before .before .before .before .before .before .if1 .left)) (c .before .before .answer-item .ensures)
+    let puts = c .before .before .before .before in
+    let takes = puts .before .before in
+    let asks = takes .before .before .before in
+    let a = asks .before .before .before .args in
+    outcome-is (heard (a .self) (a .id) (now (a .data)) (asks .if1 .left) (takes .lend .ensures) (puts .with-session .ensures)) (c .before .before .answer-item .ensures)
 
 pub frame-item-spec : {M : Type 1} → statement M
 frame-item-spec =
@@ -72,9 +64,7 @@ frame-item-spec =
     mul-session
     array-copy-out-session
     lend-requires
-    mul-sessions
-    array-set-from-sessions
-    with-sessions-requires
+    with-session-requires
     answer-item-requires
     same-length-2
     returns-2)

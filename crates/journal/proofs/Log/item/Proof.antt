@@ -1,9 +1,7 @@
 -- `journal::Log::item` meets its contract: it is counted, judged, and then done by what it says.
 -- Assumes nothing.
-use mathlib.Core.Path.{ap, ap₂, _∙_}
-use Rattle.journal.specs.declared.Log.{Log}
-use Rattle.journal.specs.Log.{withItem, refused, itemRefusal, byItem, itemDone}
-use Rattle.journal.proofs.Calls.{outcome-is, refuses, does}
+use denote.Ref.{now}
+use Rattle.journal.proofs.Calls.{skips, passes}
 use borrow.Author.Needs.{needs}
 use Rattle.journal.proofs.Log.item.Statement.{statement}
 use Rattle.journal.proofs.Log.item.Tie as tie
@@ -24,13 +22,11 @@ same-length : tie.Need-same-length
 same-length c = search needs
 
 returns : tie.Need-returns
-unfolding itemDone
 returns c =
     let judged = c .before .before .before .before .before in
     let a = judged .before .before .before .before .before .args in
-    let log = judged .before .before .with-item .ensures in
-    let refusal = judged .item-refusal .ensures ∙ ap₂ itemRefusal log (judged .before .read .ensures) in
-    refuses (withItem (a .self)) _ refusal (c .before .before .before .before .if1 .taken) (outcome-is (ap (λ (l : Log). refused l (judged .item-refusal .result)) log) (c .before .before .refused .ensures))
+    skips (a .self) (a .tag) (now (a .value)) (judged .before .before .with-item .ensures) (judged .before .read .ensures) (judged .item-refusal .ensures)
+    (c .before .before .before .before .if1 .taken) (c .before .before .refused .ensures)
 
 data-in-requires : tie.Need-data-in-requires
 data-in-requires c κs = search needs
@@ -42,15 +38,12 @@ same-length-2 : tie.Need-same-length-2
 same-length-2 c = search needs
 
 returns-2 : tie.Need-returns-2
-unfolding itemDone
 returns-2 c =
     let bytes = c .before .before .before .before in
     let judged = bytes .before .before in
     let a = judged .before .before .before .before .before .args in
-    let log = judged .before .before .with-item .ensures in
-    let i = judged .before .read .ensures in
-    let refusal = judged .item-refusal .ensures ∙ ap₂ itemRefusal log i in
-    does (withItem (a .self)) refusal (bytes .before .if1 .left) (λ j. byItem (log j) (i j) (bytes .data-in .ensures j)) (c .before .before .by-item .ensures)
+    passes (a .self) (a .tag) (now (a .value)) (judged .before .before .with-item .ensures) (judged .before .read .ensures) (judged .item-refusal .ensures)
+    (bytes .before .if1 .left) (bytes .data-in .ensures) (c .before .before .by-item .ensures)
 
 pub item-spec : {M : Type 1} → statement M
 item-spec =

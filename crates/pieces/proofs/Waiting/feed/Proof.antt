@@ -24,7 +24,7 @@ use Rattle.pieces.proofs.Waiting.feed.Tie as tie
 
 abbrev Inv-loop : tie.InvT-loop
 Inv-loop piece out₀ left₀ next₀ at₀ i₀ out left next at i =
-    (i ≤ length piece) × (length out ≡ length out₀) × (length (next .bytes) ≡ 15) × Ran left₀ next₀ piece out₀ i left next at out
+    (i ≤ length piece) × (length out ≡ length out₀) × (length (next .bytes) ≡ 19) × Ran left₀ next₀ piece out₀ i left next at out
 
 abbrev μ-loop : tie.MeasureT-loop
 μ-loop piece out₀ left₀ next₀ at₀ i₀ out left next at i = length piece - i
