@@ -2,8 +2,8 @@
 
 A board is a window with its slots beside it (lists.py). Each call answers its fields, and the board where it hands one back.
 """
-from lists import (EMPTY, SLOTS, cell_of, ended, fresh_window, meaning, ranked, score, search, standing, stored_question, visiting,
-                   with_report, with_slot)
+from lists import (EMPTY, LARGEST, SLOTS, cell_of, ended, entries_of, fresh_window, is_range, is_weight, meaning, ranked, score, search,
+                   standing, stored_question, visiting, with_report, with_slot)
 
 
 def fresh(n):
@@ -11,14 +11,16 @@ def fresh(n):
     return refusal, dict(empty, slots=[EMPTY] * SLOTS)
 
 
-def call_set(board, slot, k, a, b):
+def call_set(board, slot, k, a, b, loss, shake):
     meant = meaning(board)
     refusal = (24 if meant is None else 13 if slot > 31 else 14 if not 1 <= k <= 16
-               else 15 if not (-1000 <= a <= 1000 and -1000 <= b <= 1000) else 16 if meant[1][slot] else 0)
+               else 15 if not (is_weight(a) and is_weight(b)) else 30 if not (is_range(loss) and is_range(shake))
+               else 16 if meant[1][slot] else 0)
     if refusal:
         return refusal, 0, board
-    entries, taken = search(k, a, b, meant[0])
-    return 0, taken, with_slot(board, slot, stored_question(k, a, b, entries, taken))
+    rule = a, b, loss, shake
+    entries, taken = search(k, rule, meant[0])
+    return 0, taken, with_slot(board, slot, stored_question(k, rule, entries, taken))
 
 
 def slot_refusal(board, slot):
@@ -33,34 +35,37 @@ def call_remove(board, slot):
 
 def call_read(board, slot):
     refusal = slot_refusal(board, slot)
-    return refusal, [] if refusal else meaning(board)[1][slot][3]
+    return refusal, [] if refusal else meaning(board)[1][slot][2]
+
+
+def added(k, rule, entries, taken, number, report):
+    """The list once the report was offered to it."""
+    own = score(rule, report)
+    if own is None or cell_of(report) not in visiting(rule)[:taken] or len(entries) == k and own < entries[-1][1]:
+        return entries
+    return ranked(entries + [(number, own)])[:k]
 
 
 def call_enter(board, loss, shake):
     meant = meaning(board)
-    refusal = (24 if meant is None else 12 if loss > 4095 or shake > 4095 else 11 if board["entered"] == 1000000 else 0)
+    refusal = (24 if meant is None else 12 if loss > LARGEST or shake > LARGEST else 11 if board["entered"] == 1000000 else 0)
     if refusal:
         return refusal, 0, {}, board
     reports, slots = meant
     number, report = board["entered"] + 1, (loss, shake)
     reports[number] = report
-    lists = [q and list(q[3]) for q in slots]
-    for q, entries in zip(slots, lists):
-        if q and cell_of(report) in visiting(q[1], q[2])[:q[4]]:
-            own = score(q[1], q[2], report)
-            if len(entries) < q[0] or own >= entries[-1][1]:
-                entries[:] = ranked(entries + [(number, own)])[:q[0]]
+    lists = [q and added(*q, number, report) for q in slots]
     gone = min(reports) if len(reports) > board["size"] else None
     reports.pop(gone, None)
     after, searched = with_report(board, number, report, len(reports)), {}
     for slot, q in enumerate(slots):
         if not q:
             continue
-        entries, taken = lists[slot], q[4]
+        entries, taken = lists[slot], q[3]
         if gone in [m for m, _ in entries]:
-            entries, taken = search(*q[:3], reports)
+            entries, taken = search(*q[:2], reports)
             searched[slot] = taken
-        after = with_slot(after, slot, stored_question(*q[:3], entries, taken))
+        after = with_slot(after, slot, stored_question(*q[:2], entries, taken))
     return 0, number, searched, after
 
 
@@ -70,15 +75,15 @@ def step(reports, q):
     meant = None if reports is None else standing(q, reports)
     if meant is None:
         return 24, q
-    k, a, b, entries, taken = meant
+    k, rule, entries, taken = meant
     if ended(*meant):
         return 25, q
-    cell = [(m, score(a, b, r)) for m, r in reports.items() if cell_of(r) == q["next"]]
-    return 0, stored_question(k, a, b, ranked(entries + cell)[:k], taken + 1)
+    cell = entries_of(rule, {m: r for m, r in reports.items() if cell_of(r) == q["next"]})
+    return 0, stored_question(k, rule, ranked(entries + cell)[:k], taken + 1)
 
 
 def begin(reports, q):
     meant = None if reports is None else standing(q, reports)
     if meant is None or not ended(*meant):
         return 24, q
-    return 0, stored_question(*meant[:3], [], 0)
+    return 0, stored_question(*meant[:2], [], 0)

@@ -2,30 +2,52 @@
 
 A window and a question are kept as they are stored; a call reads what that means, works on the meaning and stores it again. Stored
 are, for the window, N, the last number, how many are held, and 1,024 rows of which report m has the row (m - 1) mod N; for a question
-k, the weights, 16 lines, how many of them are used, and the first cell that is not marked, 256 for none. What is unused is 0.
+k, the weights, the two ranges, 16 lines, how many of them are used, and the first cell that is not marked, 256 for none. What is
+unused is 0. A question's rule is its weights and its ranges: (a, b, loss, shake), a range being its two ends.
 """
 from functools import lru_cache
 
 LINES, ROWS, SLOTS, CELLS = 16, 1024, 32, 256
-EMPTY = dict(k=0, a=0, b=0, len=0, next=0, lines=[(0, 0)] * LINES)
+LARGEST = 4095
+WHOLE = (0, LARGEST)
+EMPTY = dict(k=0, a=0, b=0, loss=(0, 0), shake=(0, 0), len=0, next=0, lines=[(0, 0)] * LINES)
 
 
 # ---- the rules
 
-def score(a, b, report):
-    return a * report[0] + b * report[1]
+def score(rule, report):
+    """The report's score, None where it does not count."""
+    a, b, *ranges = rule
+    counts = all(low <= value <= high for (low, high), value in zip(ranges, report))
+    return a * report[0] + b * report[1] if counts else None
+
+
+def entries_of(rule, reports):
+    """What a list can name of them: (number, score)."""
+    scores = {m: score(rule, report) for m, report in reports.items()}
+    return [(m, s) for m, s in scores.items() if s is not None]
+
+
+def values_in(ends, index):
+    """The values of a range that lie in a column or row, rising."""
+    return range(max(ends[0], 256 * index), min(ends[1], 256 * index + 255) + 1)
 
 
 @lru_cache(None)
-def best_possible(a, b, cell):
+def best_possible(rule, cell):
+    """A cell's best possible score, None where it holds no value inside both ranges."""
+    a, b, loss, shake = rule
     row, column = divmod(cell, 16)
-    corner = [256 * i + (255 if w > 0 else 0) for w, i in ((a, column), (b, row))]
-    return a * corner[0] + b * corner[1]
+    sides = [(a, values_in(loss, column)), (b, values_in(shake, row))]
+    if not all(values for _, values in sides):
+        return None
+    return sum(weight * values[-1 if weight > 0 else 0] for weight, values in sides)
 
 
 @lru_cache(None)
-def visiting(a, b):
-    return sorted(range(CELLS), key=lambda cell: (-best_possible(a, b, cell), cell))
+def visiting(rule):
+    cells = [cell for cell in range(CELLS) if best_possible(rule, cell) is not None]
+    return sorted(cells, key=lambda cell: (-best_possible(rule, cell), cell))
 
 
 def cell_of(report):
@@ -37,41 +59,63 @@ def ranked(entries):
     return sorted(set(entries), key=lambda e: (-e[1], -e[0]))
 
 
-def ended(k, a, b, entries, taken):
+def ended(k, rule, entries, taken):
     """Whether a search with this list ends after so many steps."""
-    return taken == CELLS or len(entries) == k and best_possible(a, b, visiting(a, b)[taken]) < entries[-1][1]
+    order = visiting(rule)
+    return taken == len(order) or len(entries) == k and best_possible(rule, order[taken]) < entries[-1][1]
 
 
-def search(k, a, b, reports):
+def search(k, rule, reports):
     """The list, and how many cells were taken."""
     cells, entries, taken = {}, [], 0
-    for m, r in reports.items():
-        cells.setdefault(cell_of(r), []).append((m, score(a, b, r)))
-    while not ended(k, a, b, entries, taken):
-        entries = ranked(entries + cells.get(visiting(a, b)[taken], []))[:k]
+    for m, s in entries_of(rule, reports):
+        cells.setdefault(cell_of(reports[m]), []).append((m, s))
+    while not ended(k, rule, entries, taken):
+        entries = ranked(entries + cells.get(visiting(rule)[taken], []))[:k]
         taken += 1
     return entries, taken
 
 
 # ---- what is stored, and what it means
 
-def stored_question(k, a, b, entries, taken):
-    return dict(k=k, a=a, b=b, len=len(entries), next=visiting(a, b)[taken] if taken < CELLS else CELLS,
+def rule_of(q):
+    return q["a"], q["b"], q["loss"], q["shake"]
+
+
+def marked(q):
+    """The marked cells: those of the order up to the next one, or all where that isn't in it."""
+    order = visiting(rule_of(q))
+    return order[:order.index(q["next"])] if q["next"] in order else order
+
+
+def stored_question(k, rule, entries, taken):
+    a, b, loss, shake = rule
+    return dict(k=k, a=a, b=b, loss=loss, shake=shake, len=len(entries), next=(visiting(rule) + [CELLS])[taken],
                 lines=entries + [(0, 0)] * (LINES - len(entries)))
 
 
+def is_weight(w):
+    return -1000 <= w <= 1000
+
+
+def is_range(ends):
+    return ends[0] <= ends[1] <= LARGEST
+
+
 def standing(q, reports):
-    """(k, a, b, list, how many cells are marked), None where it is unfit for a step."""
-    k, a, b = q["k"], q["a"], q["b"]
-    if not (1 <= k <= 16 and -1000 <= a <= 1000 and -1000 <= b <= 1000 and q["next"] <= CELLS):
+    """(k, rule, list, how many cells are marked), None where it is unfit for a step."""
+    k, rule = q["k"], rule_of(q)
+    a, b, loss, shake = rule
+    if not (1 <= k <= 16 and is_weight(a) and is_weight(b) and is_range(loss) and is_range(shake)):
+        return None
+    if q["next"] != CELLS and q["next"] not in visiting(rule):
         return None
     entries, rest = q["lines"][:q["len"]], q["lines"][q["len"]:]
     if q["len"] > min(k, len(reports)) or any(line != (0, 0) for line in rest):
         return None
-    if any(m not in reports or s != score(a, b, reports[m]) for m, s in entries) or entries != ranked(entries):
+    if any(m not in reports or s != score(rule, reports[m]) for m, s in entries) or entries != ranked(entries):
         return None
-    taken = visiting(a, b).index(q["next"]) if q["next"] < CELLS else CELLS
-    return k, a, b, entries, taken
+    return k, rule, entries, len(marked(q))
 
 
 def question(q, reports):
@@ -87,7 +131,7 @@ def window(w):
         return None
     rows = {(m - 1) % n: m for m in range(last - held + 1, last + 1)}
     for i, (m, loss, shake) in enumerate(w["rows"]):
-        if i in rows and (m != rows[i] or loss > 4095 or shake > 4095) or i not in rows and (m, loss, shake) != (0, 0, 0):
+        if i in rows and (m != rows[i] or loss > LARGEST or shake > LARGEST) or i not in rows and (m, loss, shake) != (0, 0, 0):
             return None
     return {m: w["rows"][i][1:] for i, m in sorted(rows.items(), key=lambda p: p[1])}
 

@@ -1,15 +1,15 @@
--- P9 to P11 through the calls. What an entry answers of a slot is said by what was entered before, so that each example is a short computation over two reports.
+-- P9 to P11 and P16 through the calls. What an entry answers of a slot is said by what was entered before, so that each example is a short computation over two reports.
 -- Assumes nothing.
-use mathlib.Core.Path.{_≡_, refl, sym, ap, _∙_, subst}
+use mathlib.Core.Path.{_≡_, refl, sym, ap, ap₂, _∙_, subst}
 use mathlib.Core.Logic.{inl}
-use mathlib.Core.Bool.{Bool, true, false, not}
+use mathlib.Core.Bool.{Bool, true, false, not, cond}
 use mathlib.Core.List.{List, [], _∷_, _++_}
 use Prim.Native.Nat.{ℕ, zero, suc, _+_, min, _≤_, _<_}
 use native.Mathlib.Omega.{arith}
 use lib.IntN.{pos}
 use lib.ListN.{length, getD, replicate, length-map, getD-replicate}
 use lib.Seq.{getD-set-same, getD-set-other, ext-getD}
-use Rattle.ranking.specs.Cells.{ruleOf, fitRule, score, cell, bestScore, before, visiting}
+use Rattle.ranking.specs.Cells.{ruleOf, ruleWithin, wholeRange, weightsFit, rangesProper, counts, sum, score, cell, cellCounts, bestScore, before, visiting}
 use Rattle.search.specs.Search.{steps}
 use Rattle.ranking.specs.Standing.{Held, Entry, goesFirst, above, entries, top, searchOf}
 use Rattle.values.specs.declared.Values.{Values}
@@ -206,16 +206,13 @@ module _ {n : ℕ} {past : List Values} {k : ℕ} {rule : Rule} (b : Board) (g :
 abbrev pair : ℕ → ℕ → Values
 pair loss shake = record { loss = loss; shake = shake }
 
-abbrev ones : Rule
-ones = ruleOf (record { loss = pos 1; shake = pos 1 })
-
--- N 2, and a question set first: k 1, weights 1 and 1
-unfoldable pub bench : Board
-bench = setCall (freshBoard 2 .board) 0 1 ones .board
+-- N 2, and a question of k 1 set first
+unfoldable pub bench : Rule → Board
+bench rule = setCall (freshBoard 2 .board) 0 1 rule .board
 
 -- The answer to the third of three entries.
-abbrev pub third : Values → Values → Values → Entered
-third u v w = enterCall (enterCall (enterCall bench u .board) v .board) w
+abbrev pub third : Rule → Values → Values → Values → Entered
+third rule u v w = enterCall (enterCall (enterCall (bench rule) u .board) v .board) w
 
 begun-fresh : Reached 2 [] (freshBoard 2 .board)
 unfolding freshBoard freshWindow
@@ -228,77 +225,90 @@ all-empty slot h = getD-replicate 32 slot emptySlot noQuestion h
 fresh-fit : fitBoard (freshBoard 2 .board) ≡ true
 fresh-fit = reached-fit begun-fresh (λ slot h. inl (all-empty slot h))
 
-can-set : setIn (slotAt (freshBoard 2 .board) 0) 1 ones (inRows (freshBoard 2 .board .window)) .refusal ≡ 0
-unfolding freshBoard fitRule
-can-set = set-refusal (slotAt (freshBoard 2 .board) 0) 1 ones (inRows (freshBoard 2 .board .window))
-
-record Placed-so (r : Placed) : Type 0 where
+record Placed-so (rule : Rule) (r : Placed) : Type 0 where
   stood : Stands (heldReports (r .board .window)) (slotAt (r .board) 0)
   at-k : slotAt (r .board) 0 .k ≡ 1
-  at-rule : slotAt (r .board) 0 .rule ≡ ones
+  at-rule : slotAt (r .board) 0 .rule ≡ rule
   alone : (slot : ℕ) → slot < 32 → 1 ≤ slot → slotAt (r .board) slot ≡ emptySlot
 
-placed-so : Placed-so (setCall (freshBoard 2 .board) 0 1 ones)
-unfolding searched
-placed-so =
-    let b = freshBoard 2 .board in
-    let rule : Rule = ones in
-    let q = asked 1 rule [] 0 in
-    let fit = reached-window begun-fresh in
-    let seated = setIn (slotAt b 0) 1 rule (inRows (b .window)) in
-    let at = getD-set-same (b .slots) 0 (seated .question) noQuestion (omega (arith, kept begun-fresh .many)) in
-    let is = at ∙ ap (λ (r : Seated). r .question) (set-searched (slotAt b 0) 1 rule (inRows (b .window)) can-set) ∙ ap (λ (r : Searched). r .question) (among-held (b .window) fit q (omega arith)) in
-    subst Placed-so (sym (set-known b fresh-fit 0 1 rule ∙ set-there b 0 1 rule (omega arith)))
-    (record {
-      stood = subst (Stands (heldReports (b .window))) (sym at) (set-stands (b .window) fit (slotAt b 0) 1 rule can-set);
-      at-k = ap (λ (p : Question). p .k) is;
-      at-rule = ap (λ (p : Question). p .rule) is;
-      alone = λ slot h m. getD-set-other (b .slots) 0 slot (seated .question) noQuestion (λ e. other m e) ∙ all-empty slot h;
-    })
-  where
-    other : {slot : ℕ} → 1 ≤ slot → slot ≡ 0 → ⊥
-    other m e = omega arith
+module _ (rule : Rule) (weighs : weightsFit rule ≡ true) (ranges : rangesProper rule ≡ true) where
+  can-set : setIn (slotAt (freshBoard 2 .board) 0) 1 rule (inRows (freshBoard 2 .board .window)) .refusal ≡ 0
+  unfolding freshBoard
+  can-set = set-refusal (slotAt (freshBoard 2 .board) 0) 1 rule (inRows (freshBoard 2 .board .window)) ∙ ap₂ (λ a b. cond a (cond b 0 30) 15) weighs ranges
 
-stage-bench : Stage 2 [] 1 ones bench
-unfolding bench
-stage-bench =
-    record {
-      reached = reach.set begun-fresh 0 1 ones;
-      fit = fit-set (freshBoard 2 .board) (kept begun-fresh) fresh-fit 0 1 ones;
-      stood = placed-so .stood;
-      at-k = placed-so .at-k;
-      at-rule = placed-so .at-rule;
-      alone = placed-so .alone;
-    }
+  placed-so : Placed-so rule (setCall (freshBoard 2 .board) 0 1 rule)
+  unfolding searched
+  placed-so =
+      let b = freshBoard 2 .board in
+      let q = asked 1 rule [] 0 in
+      let fit = reached-window begun-fresh in
+      let seated = setIn (slotAt b 0) 1 rule (inRows (b .window)) in
+      let at = getD-set-same (b .slots) 0 (seated .question) noQuestion (omega (arith, kept begun-fresh .many)) in
+      let is = at ∙ ap (λ (r : Seated). r .question) (set-searched (slotAt b 0) 1 rule (inRows (b .window)) can-set) ∙ ap (λ (r : Searched). r .question) (among-held (b .window) fit q (omega arith)) in
+      subst (Placed-so rule) (sym (set-known b fresh-fit 0 1 rule ∙ set-there b 0 1 rule (omega arith)))
+      (record {
+        stood = subst (Stands (heldReports (b .window))) (sym at) (set-stands (b .window) fit (slotAt b 0) 1 rule can-set);
+        at-k = ap (λ (p : Question). p .k) is;
+        at-rule = ap (λ (p : Question). p .rule) is;
+        alone = λ slot h m. getD-set-other (b .slots) 0 slot (seated .question) noQuestion (λ e. other m e) ∙ all-empty slot h;
+      })
+    where
+      other : {slot : ℕ} → 1 ≤ slot → slot ≡ 0 → ⊥
+      other m e = omega arith
 
-third-says : (u v w : Values) → enterRefusal (countsAt 2 0) u ≡ 0 → enterRefusal (countsAt 2 1) v ≡ 0 → enterRefusal (countsAt 2 2) w ≡ 0 → Says 2 (u ∷ v ∷ []) w 1 ones (third u v w)
-third-says u v w a b c =
-    let one = stage-next bench stage-bench u a in
-    let two = stage-next (enterCall bench u .board) one v b in
-    says (enterCall (enterCall bench u .board) v .board) two w c
+  stage-bench : Stage 2 [] 1 rule (bench rule)
+  unfolding bench
+  stage-bench =
+      record {
+        reached = reach.set begun-fresh 0 1 rule;
+        fit = fit-set (freshBoard 2 .board) (kept begun-fresh) fresh-fit 0 1 rule;
+        stood = placed-so .stood;
+        at-k = placed-so .at-k;
+        at-rule = placed-so .at-rule;
+        alone = placed-so .alone;
+      }
+
+  third-says : (u v w : Values) → enterRefusal (countsAt 2 0) u ≡ 0 → enterRefusal (countsAt 2 1) v ≡ 0 → enterRefusal (countsAt 2 2) w ≡ 0 → Says 2 (u ∷ v ∷ []) w 1 rule (third rule u v w)
+  third-says u v w a b c =
+      let one = stage-next (bench rule) stage-bench u a in
+      let two = stage-next (enterCall (bench rule) u .board) one v b in
+      says (enterCall (enterCall (bench rule) u .board) v .board) two w c
+
+-- weights 1 and 1
+abbrev ones : Rule
+ones = ruleOf (record { loss = pos 1; shake = pos 1 })
+
+-- weights 0 and 1, loss 500 to 900
+abbrev threshing : Rule
+threshing = ruleWithin (record { loss = pos 0; shake = pos 1 }) (record { loss = record { low = 500; high = 900 }; shake = wholeRange })
 
 abbrev line : ℕ → ℕ → Entry
 line number score = record { number = number; score = pos score }
 
--- N 2, and a question set first, k 1, weights 1 and 1: three entries, what the third answers, and the list after it.
+-- N 2, and a question set first, k 1: three entries, what the third answers, and the list after it.
 pub record Examples : Type 0 where
   -- P9: the third searches, 256 steps, and the list is 2:10
-  pub p9-searches : third (pair 10 10) (pair 5 5) (pair 1 1) .searched ≡ true ∷ replicate 31 false
-  pub p9-steps : getD (third (pair 10 10) (pair 5 5) (pair 1 1) .steps) 0 0 ≡ 256
-  pub p9-list : lines (slotAt (third (pair 10 10) (pair 5 5) (pair 1 1) .board) 0) ≡ line 2 10 ∷ []
+  pub p9-searches : third ones (pair 10 10) (pair 5 5) (pair 1 1) .searched ≡ true ∷ replicate 31 false
+  pub p9-steps : getD (third ones (pair 10 10) (pair 5 5) (pair 1 1) .steps) 0 0 ≡ 256
+  pub p9-list : lines (slotAt (third ones (pair 10 10) (pair 5 5) (pair 1 1) .board) 0) ≡ line 2 10 ∷ []
   -- P10: no search, and the list is 2:10
-  pub p10-searches : third (pair 1 1) (pair 5 5) (pair 1 2) .searched ≡ replicate 32 false
-  pub p10-list : lines (slotAt (third (pair 1 1) (pair 5 5) (pair 1 2) .board) 0) ≡ line 2 10 ∷ []
+  pub p10-searches : third ones (pair 1 1) (pair 5 5) (pair 1 2) .searched ≡ replicate 32 false
+  pub p10-list : lines (slotAt (third ones (pair 1 1) (pair 5 5) (pair 1 2) .board) 0) ≡ line 2 10 ∷ []
   -- P11: no search, and the list is 3:18
-  pub p11-searches : third (pair 9 9) (pair 1 1) (pair 9 9) .searched ≡ replicate 32 false
-  pub p11-list : lines (slotAt (third (pair 9 9) (pair 1 1) (pair 9 9) .board) 0) ≡ line 3 18 ∷ []
+  pub p11-searches : third ones (pair 9 9) (pair 1 1) (pair 9 9) .searched ≡ replicate 32 false
+  pub p11-list : lines (slotAt (third ones (pair 9 9) (pair 1 1) (pair 9 9) .board) 0) ≡ line 3 18 ∷ []
+  -- P16: the second doesn't count, so the third takes the first's place on the list, found by a search of the 48 cells
+  pub p16-searches : third threshing (pair 600 10) (pair 100 4000) (pair 700 5) .searched ≡ true ∷ replicate 31 false
+  pub p16-steps : getD (third threshing (pair 600 10) (pair 100 4000) (pair 700 5) .steps) 0 0 ≡ 48
+  pub p16-list : lines (slotAt (third threshing (pair 600 10) (pair 100 4000) (pair 700 5) .board) 0) ≡ line 3 5 ∷ []
 
 pub examples : Examples
-unfolding steps visiting before bestScore score cell above goesFirst entries leaving enterRefusal inRange
+unfolding steps visiting before bestScore sum score counts cellCounts cell above goesFirst entries leaving enterRefusal inRange weightsFit rangesProper
 examples =
-    let p9 = third-says (pair 10 10) (pair 5 5) (pair 1 1) refl refl refl in
-    let ten = third-says (pair 1 1) (pair 5 5) (pair 1 2) refl refl refl in
-    let eleven = third-says (pair 9 9) (pair 1 1) (pair 9 9) refl refl refl in
+    let p9 = third-says ones refl refl (pair 10 10) (pair 5 5) (pair 1 1) refl refl refl in
+    let ten = third-says ones refl refl (pair 1 1) (pair 5 5) (pair 1 2) refl refl refl in
+    let eleven = third-says ones refl refl (pair 9 9) (pair 1 1) (pair 9 9) refl refl refl in
+    let sixteen = third-says threshing refl refl (pair 600 10) (pair 100 4000) (pair 700 5) refl refl refl in
     record {
       p9-searches = p9 .searched-is;
       p9-steps = p9 .steps-are refl;
@@ -307,4 +317,7 @@ examples =
       p10-list = ten .list-is;
       p11-searches = eleven .searched-is;
       p11-list = eleven .list-is;
+      p16-searches = sixteen .searched-is;
+      p16-steps = sixteen .steps-are refl;
+      p16-list = sixteen .list-is;
     }

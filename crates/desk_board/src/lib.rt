@@ -32,7 +32,11 @@ pub fn obeyed(board: Board, order: BoardOrder, out: &mut [u8]) -> Left {
             k,
             loss,
             shake,
-        } => set(board, slot, k, Rule::of(Weights { loss, shake }), out),
+            within,
+        } => {
+            let rule = pokes::ranged(Rule::of(Weights { loss, shake }), within);
+            set(board, slot, k, rule, out)
+        }
         BoardOrder::Remove(slot) => remove(board, slot, out),
         BoardOrder::Enter { loss, shake } => enter(board, Values { loss, shake }, out),
         BoardOrder::Begin(slot) => begin(board, slot, out),

@@ -12,7 +12,8 @@ use lib.Dec.{eqb, ltb, leb}
 use lib.ListN.{length, take, length-map, length-take, getD-replicate}
 use Rattle.values.specs.declared.Values.{Values}
 use Rattle.values.specs.Range.{inRange}
-use Rattle.ranking.specs.Cells.{fitRule}
+use Rattle.ranking.specs.Cells.{ruleOf, weightsFit, rangesProper}
+use Rattle.ranking.specs.declared.Weights.{Weights}
 use Rattle.ranking.specs.declared.Rule.{Rule}
 use Rattle.laws.proofs.Tests.{Tested, passed, failed, tested, and-both, if-so, if-not, either}
 use Rattle.laws.proofs.Lists.{there, getD-in}
@@ -61,7 +62,7 @@ use Rattle.items.specs.declared.Item.the-variants.{Window, Set, Remove, Show, U
 use Rattle.items.specs.declared.Item.the-variants as item
 use Rattle.items.specs.Items.{dataOf, itemIn}
 use Rattle.journal.specs.declared.Log.{Log}
-use Rattle.journal.specs.Log.{Outcome, freshLog, withItem, nextItem, stationsOf, withBoard, withStations, unless, early, itemRefusal, windowItem, settingRule, setItem, removeItem, showItem, sLines, enterItem, answerItem, frameItem, byItem, itemDone}
+use Rattle.journal.specs.Log.{Outcome, freshLog, withItem, nextItem, stationsOf, withBoard, withStations, unless, early, itemRefusal, windowItem, weightsOf, settingRule, setItem, removeItem, showItem, sLines, enterItem, answerItem, frameItem, byItem, itemDone}
 use Rattle.journal.specs.Reached.{framed, frameOf, enteredBy}
 use Rattle.journal.proofs.Printed.{Code, Prints, nothing, refusal, search, searches, list}
 use Rattle.journal.proofs.Answers.{none-yet, answer, nothing-more, one-more, enter-refusal, enters-when}
@@ -123,15 +124,20 @@ window-does {fs} log own first n = go (tested (eqb (made .refusal) 0))
 
 -- ---- the board's calls
 
-set-code : (b : Board) (slot k : ℕ) (rule : Rule) → setWork b slot k rule .refusal ≤ 23
-set-code b slot k rule = go (tested (ltb slot 32))
+-- An item gives no range, so none of 24 on is its refusal: 30 isn't.
+set-code : (b : Board) (slot k : ℕ) (w : Weights) → setWork b slot k (ruleOf w) .refusal ≤ 23
+unfolding rangesProper
+set-code b slot k w = go (tested (ltb slot 32))
   where
-    go : Tested (ltb slot 32) → setWork b slot k rule .refusal ≤ 23
+    rule : Rule
+    rule = ruleOf w
+
+    go : Tested (ltb slot 32) → setWork b slot k (ruleOf w) .refusal ≤ 23
     go (failed t) = omega (arith, ap (λ (r : Placed). r .refusal) (set-nowhere b slot k rule (ltb-false slot 32 t)))
     go (passed t) =
         subst (λ (n : ℕ). n ≤ 23) (sym (ap (λ (r : Placed). r .refusal) (set-there b slot k rule (ltb-true slot 32 t)) ∙ set-refusal (slotAt b slot) k rule (inRows (b .window))))
         (code (leb 1 k && leb k 16) 14 (omega arith)
-        (code (fitRule rule) 15 (omega arith) (code (eqb (slotAt b slot .k) 0) 16 {x = 0} (omega arith) (omega arith))))
+        (code (weightsFit rule) 15 (omega arith) (code (eqb (slotAt b slot .k) 0) 16 {x = 0} (omega arith) (omega arith))))
 
 remove-code : (b : Board) (slot : ℕ) → removeWork b slot .refusal ≤ 23
 unfolding removeWork
@@ -217,7 +223,7 @@ module _ (fs : List Timed) (log : Log) (heard : stationsOf log ≡ stationsAfter
           let there = settable b slot k rule (eqb-true _ 0 t) .there in
           does log (placed .refusal) t (record { own = owns is; prints = search slot _ there (few there) refl })
       go (failed t) =
-          refused-does (placed .refusal) _ (subst (Boarded fs) (set-kept b slot k rule (eqb-false _ 0 t)) is) (set-code b slot k rule) t
+          refused-does (placed .refusal) _ (subst (Boarded fs) (set-kept b slot k rule (eqb-false _ 0 t)) is) (set-code b slot k (weightsOf s)) t
 
   remove-does : (slot : ℕ) → Boarded fs (removeWork b slot .board) → Does fs (log .items) (removeItem log slot)
   unfolding removeItem

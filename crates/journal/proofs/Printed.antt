@@ -1,6 +1,6 @@
--- What an item prints is at most `Waiting::MOST` bytes long and says no 24: it is one line, or a line for each of 32 slots, and every number in it is small.
+-- What an item prints is at most `Waiting::MOST` bytes long and refuses by no other code than 1 to 23 and 26: it is one line, or a line for each of 32 slots, and every number in it is small.
 -- Assumes nothing.
-use mathlib.Core.Path.{_≡_, refl, sym, ap, ap₂, _∙_}
+use mathlib.Core.Path.{_≡_, refl, sym, ap, ap₂, _∙_, subst}
 use mathlib.Core.Logic.{_⊎_, inl, inr}
 use mathlib.Core.Bool.{Bool, true, false, cond}
 use mathlib.Core.List.{List, [], _∷_, _++_, append-assoc, tail}
@@ -91,16 +91,15 @@ lines-initial item slot (b ∷ bs) [] e = omega arith
 lines-initial item slot (true ∷ bs) (n ∷ ns) e = omega arith
 lines-initial item slot (false ∷ bs) (n ∷ ns) e = lines-initial item (slot + 1) bs ns e
 
-pub never-24 : {item : ℕ} {text : List ℕ} → Prints item text → (n : ℕ) → text ≡ rLine n 24 → ⊥
-never-24 {item} {text} p n e = go p
+pub never : {item : ℕ} {text : List ℕ} → Prints item text → (other : ℕ) → (Code other → ⊥) → (n : ℕ) → text ≡ rLine n other → ⊥
+never {item} {text} p other bars n e = go p
   where
     byte : {t : List ℕ} → text ≡ t → initial t ≡ 82
-    byte f = ap initial (sym f ∙ e) ∙ r-initial n 24
+    byte f = ap initial (sym f ∙ e) ∙ r-initial n other
 
     go : Prints item text → ⊥
     go (nothing f) = omega (arith, byte f)
-    go (refusal code (inl h) f) = omega (arith, r-code item n code 24 (sym f ∙ e))
-    go (refusal code (inr h) f) = omega (arith, r-code item n code 24 (sym f ∙ e))
+    go (refusal code h f) = bars (subst Code (r-code item n code other (sym f ∙ e)) h)
     go (search slot steps h k f) = omega (arith, s-initial item slot steps, byte f)
     go (searches bs ns h k f) = lines-initial item 0 bs ns (byte f)
     go (list slot es h k r f) = omega (arith, q-initial slot es, byte f)

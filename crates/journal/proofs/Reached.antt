@@ -40,7 +40,7 @@ use Rattle.text.specs.Text.{Entry, rLine, qLine, entriesOf}
 use Rattle.journal.specs.declared.Log.{Log}
 use Rattle.journal.specs.Log.{Outcome, nextItem, stationsOf, itemDone, showItem, unless}
 use Rattle.journal.specs.Reached.{Reached, fresh, item, framesOf, completed, enteredBy, shownAs}
-use Rattle.journal.proofs.Printed.{at-most, never-24}
+use Rattle.journal.proofs.Printed.{Code, at-most, never}
 use Rattle.journal.proofs.Answers.{none-yet}
 use Rattle.journal.proofs.Items.{show-done}
 use Rattle.journal.proofs.Own.{Own, Boarded, none, window, fresh-own, item-does, fresh-empty, no-window, has-window, slot-ended}
@@ -80,11 +80,23 @@ module _ {log : Log} (reached : Reached log) where
   pub item-short : (tag : ℕ) (v : List ℕ) → length (itemDone log tag v .text) ≤ 1056
   item-short tag v = at-most (nextItem (log .items)) (next-small (log .items)) (item-does (framesOf reached) log (own reached) tag v .prints)
 
-  -- ---- refusal 24
+  -- ---- refusals 24 and 30
 
-  -- Refusal 24: no item is refused that.
+  -- No item is refused 24: what a log keeps is fit.
   pub no-24 : (tag : ℕ) (v : List ℕ) (n : ℕ) → itemDone log tag v .text ≡ rLine n 24 → ⊥
-  no-24 tag v n e = never-24 (item-does (framesOf reached) log (own reached) tag v .prints) n e
+  no-24 tag v n e = never (item-does (framesOf reached) log (own reached) tag v .prints) 24 bars n e
+    where
+      bars : Code 24 → ⊥
+      bars (inl h) = omega arith
+      bars (inr h) = omega arith
+
+  -- None is refused 30: no item gives a range.
+  pub no-30 : (tag : ℕ) (v : List ℕ) (n : ℕ) → itemDone log tag v .text ≡ rLine n 30 → ⊥
+  no-30 tag v n e = never (item-does (framesOf reached) log (own reached) tag v .prints) 30 bars n e
+    where
+      bars : Code 30 → ⊥
+      bars (inl h) = omega arith
+      bars (inr h) = omega arith
 
   -- The sessions and last times are those that the log's frames lead to.
   pub log-stations : stationsOf log ≡ stationsAfterAll freshStations (framesOf reached)

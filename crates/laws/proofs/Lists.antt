@@ -2,7 +2,7 @@
 -- Assumes nothing.
 use mathlib.Core.Path.{_≡_, refl, sym, ap, ap₂, _∙_, subst}
 use mathlib.Core.Logic.{_⊎_, inl, inr, ⊎-elim}
-use mathlib.Core.Bool.{Bool, true, false, not}
+use mathlib.Core.Bool.{Bool, true, false, not, _&&_}
 use mathlib.Core.List.{List, [], _∷_, _++_, map, nil≢cons, head-eq-of-cons-eq, List·Memᴰ·head, List·Memᴰ·tail, List·Memᴰ·not-nil, List·Memᴰ·cases-cons, List·Memᴰ·eq-of-singleton, List·Memᴰ·append-cases, Memᴰ·append-left, Memᴰ·append-right, Memᴰ·map, Memᴰ·of-map}
 use Prim.Native.Nat.{ℕ, zero, suc, _≤_, _<_, suc-le-suc}
 use native.Mathlib.Nat.{eq-or-lt-of-le, le-of-suc-le-suc, not-suc-le-zero}
@@ -212,6 +212,36 @@ module _ {A : Type 0} where
   only-all-fail p (x ∷ xs) h =
       let e : p x ≡ false = h x here in
       rw (e, only) (only-all-fail p xs (λ y m. h y (there m)))
+
+  pub only-all : (p : A → Bool) (l : List A) → ((x : A) → x ∈ l → p x ≡ true) → only p l ≡ l
+  only-all p [] h = refl
+  only-all p (x ∷ xs) h =
+      let e : p x ≡ true = h x here in
+      rw (e, only) (ap (λ l. x ∷ l) (only-all p xs (λ y m. h y (there m))))
+
+  pub only-length : (p : A → Bool) (l : List A) → length (only p l) ≤ length l
+  only-length p [] = omega arith
+  only-length p (x ∷ xs) = go (tested (p x)) (only-length p xs)
+    where
+      go : Tested (p x) → length (only p xs) ≤ length xs → length (only p (x ∷ xs)) ≤ length (x ∷ xs)
+      go (passed e) ih = rw (e, only) (suc-le-suc ih)
+      go (failed e) ih = rw (e, only) (omega arith)
+
+  -- one test, and then another
+  pub only-only : (p q : A → Bool) (l : List A) → only p (only q l) ≡ only (λ x. q x && p x) l
+  only-only p q [] = refl
+  only-only p q (x ∷ xs) = go (tested (q x)) (tested (p x)) (only-only p q xs)
+    where
+      go : Tested (q x) → Tested (p x) → only p (only q xs) ≡ only (λ y. q y && p y) xs → only p (only q (x ∷ xs)) ≡ only (λ y. q y && p y) (x ∷ xs)
+      go (passed e) (passed f) ih = rw (e, f, only) (ap (λ l. x ∷ l) ih)
+      go (passed e) (failed f) ih = rw (e, f, only) ih
+      go (failed e) t ih = rw (e, only) ih
+
+  pub same-only : (p : A → Bool) (l m : List A) → Same l m → Same (only p l) (only p m)
+  same-only p l m s = (over l m (s .0), over m l (s .1))
+    where
+      over : (l m : List A) → l ⊆ m → only p l ⊆ only p m
+      over l m h x k = let r = only-of p l k in only-in p m (h x (r .0)) (r .1)
 
   -- a test told in two ways
   pub only-same : (p q : A → Bool) (l : List A) → ((x : A) → x ∈ l → p x ≡ q x) → only p l ≡ only q l

@@ -34,6 +34,21 @@ or-right false b e = e
 pub and-true : {a b : Bool} → a ≡ true → b ≡ true → a && b ≡ true
 and-true {a} {b} p q = rw (p, q)
 
+-- a test behind one that holds, and behind one that fails
+pub and-after : {a : Bool} (b : Bool) → a ≡ true → a && b ≡ b
+and-after b e = ap (λ t. t && b) e
+
+pub and-stops : {a : Bool} (b : Bool) → a ≡ false → a && b ≡ false
+and-stops b e = ap (λ t. t && b) e
+
+pub and-no : (a : Bool) {b : Bool} → b ≡ false → a && b ≡ false
+and-no true e = e
+and-no false e = refl
+
+pub and-so : (a : Bool) → a && true ≡ a
+and-so true = refl
+and-so false = refl
+
 pub or-neither : (a b : Bool) → a || b ≡ false → (a ≡ false) × (b ≡ false)
 or-neither true b h = clash {b = true} refl h
 or-neither false b h = (refl, h)

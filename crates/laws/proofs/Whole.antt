@@ -59,7 +59,22 @@ sum-not-less a (suc n) = ap (λ z. ltZ z a) (+ℤ-sucℤ a (pos n)) ∙ next-not
 pub up-le : {a b : ℤ} → Up a b → ltZ b a ≡ false
 up-le {a} {b} u = subst (λ z. ltZ z a ≡ false) (u .is) (sum-not-less a (u .gap))
 
-pub up-sum : {a b c d : ℤ} → Up a b → Up c d → Up (a +ℤ c) (b +ℤ d)
+pub up-lt : {a b : ℤ} (u : Up a b) → 1 ≤ u .gap → ltZ a b ≡ true
+up-lt {a} {b} u h = go (tested (ltZ a b))
+  where
+    nought : a ≡ b → pos (u .gap) ≡ pos 0
+    nought e =
+        sym (+ℤ-comm (pos 0) (pos (u .gap)) ∙ +ℤ-idr (pos (u .gap)))
+        ∙ ap (λ z. z +ℤ pos (u .gap)) (sym (+ℤ-invl a))
+        ∙ +ℤ-assoc (negℤ a) a (pos (u .gap))
+        ∙ ap (λ z. negℤ a +ℤ z) (u .is ∙ sym e)
+        ∙ +ℤ-invl a
+
+    go : Tested (ltZ a b) → ltZ a b ≡ true
+    go (passed e) = e
+    go (failed e) = absurd (omega (arith, ap natAbs (nought (total a b e (up-le u)))))
+
+unfoldable pub up-sum : {a b c d : ℤ} → Up a b → Up c d → Up (a +ℤ c) (b +ℤ d)
 up-sum {a} {b} {c} {d} u v =
     record {
       gap = u .gap + v .gap;
@@ -76,7 +91,7 @@ up-sum {a} {b} {c} {d} u v =
         ∙ sym (+ℤ-assoc a m (c +ℤ n))
 
 -- a number that isn't negative, times more
-pub up-times : (a v d : ℕ) → Up (pos a *ℤ pos v) (pos a *ℤ pos (v + d))
+unfoldable pub up-times : (a v d : ℕ) → Up (pos a *ℤ pos v) (pos a *ℤ pos (v + d))
 up-times a v d = record { gap = a * d; is = ap pos (sym (mul-add a v d)) }
 
 -- a negative number, times less

@@ -14,8 +14,8 @@ use Rattle.laws.proofs.Tests.{Tested, passed, failed, tested, clash, if-so, if-
 use Rattle.search.specs.Best.{best, placed}
 use Rattle.search.proofs.Best.{length-best-le, best-cons, best-skip}
 use Rattle.ranking.specs.declared.Rule.{Rule}
-use Rattle.ranking.specs.Standing.{Held, Entry, above, entry, entries, top}
-use Rattle.ranking.proofs.Entries.{above-strict, entries-none, top-cons}
+use Rattle.ranking.specs.Standing.{Held, Entry, above, isCounted, entry, entries, top}
+use Rattle.ranking.proofs.Entries.{above-strict, entries-none, top-cons, top-out}
 use Rattle.window.specs.declared.Window.{Window}
 use Rattle.window.specs.Rows.{reportIn, standing}
 use Rattle.list.specs.declared.Lines.{Lines}
@@ -57,8 +57,8 @@ module _ (rule : Rule) (k : ℕ) (small : k ≤ 16) (w : Window) where
     report = entry rule (reportIn w n)
 
     -- a row whose report passes the bar, as the arrays have it
-    pub gathered-places : (ns ns' : List ℕ) (ss ss' : List ℤ) (len r : ℕ) (x : Entry) → record { numbers = ns; scores = ss; len = len } ≡ columnsOf (top rule k (standing w n)) → Roomy ns' ss' → Placing (above rule) x len k (linesOf ns ss) (linesOf ns' ss') r → x ≡ entry rule (reportIn w n) → admits (above rule) (barOf (columnsOf (top rule k (standing w n))) k) (entry rule (reportIn w n)) ≡ true → record { numbers = ns'; scores = ss'; len = r } ≡ columnsOf (top rule k (standing w (n + 1)))
-    gathered-places ns ns' ss ss' len r x is room placing xe h = go (tested (eqb (getD (w .numbers) n 0) 0))
+    pub gathered-places : (ns ns' : List ℕ) (ss ss' : List ℤ) (len r : ℕ) (x : Entry) → record { numbers = ns; scores = ss; len = len } ≡ columnsOf (top rule k (standing w n)) → Roomy ns' ss' → Placing (above rule) x len k (linesOf ns ss) (linesOf ns' ss') r → x ≡ entry rule (reportIn w n) → isCounted rule (reportIn w n) ≡ true → admits (above rule) (barOf (columnsOf (top rule k (standing w n))) k) (entry rule (reportIn w n)) ≡ true → record { numbers = ns'; scores = ss'; len = r } ≡ columnsOf (top rule k (standing w (n + 1)))
+    gathered-places ns ns' ss ss' len r x is room placing xe counts h = go (tested (eqb (getD (w .numbers) n 0) 0))
       where
         go : Tested (eqb (getD (w .numbers) n 0) 0) → record { numbers = ns'; scores = ss'; len = r } ≡ columnsOf (top rule k (standing w (n + 1)))
         go (passed z) = clash h (admits-none (above rule) (barOf (columnsOf (listed n)) k) report z)
@@ -66,12 +66,23 @@ module _ (rule : Rule) (k : ℕ) (small : k ≤ 16) (w : Window) where
             placed-stored (above rule) (above-strict rule) k small ns ns' ss ss' len r (listed n) x is (few-k n) room placing
             ∙ ap columnsOf
             (ap (λ e. take k (placed (above rule) e (listed n))) xe
-            ∙ sym (top-cons rule k (reportIn w n) (standing w n))
+            ∙ sym (top-cons rule k (reportIn w n) (standing w n) counts)
             ∙ sym (rows-more n (reportIn w n ∷ standing w n) (if-not (standing w n) (reportIn w n ∷ standing w n) z)))
 
-    -- and one whose report doesn't
-    pub gathered-skips : admits (above rule) (barOf (columnsOf (top rule k (standing w n))) k) (entry rule (reportIn w n)) ≡ false → top rule k (standing w n) ≡ top rule k (standing w (n + 1))
-    gathered-skips h = go (tested (eqb (getD (w .numbers) n 0) 0)) (tested (barOf (columnsOf (listed n)) k .full))
+    -- one whose report doesn't count
+    pub gathered-out : isCounted rule (reportIn w n) ≡ false → top rule k (standing w n) ≡ top rule k (standing w (n + 1))
+    gathered-out out = go (tested (eqb (getD (w .numbers) n 0) 0))
+      where
+        go : Tested (eqb (getD (w .numbers) n 0) 0) → top rule k (standing w n) ≡ top rule k (standing w (n + 1))
+        go (passed z) = sym (rows-more n (standing w n) (if-so (standing w n) (reportIn w n ∷ standing w n) z))
+        go (failed z) =
+            sym
+            (rows-more n (reportIn w n ∷ standing w n) (if-not (standing w n) (reportIn w n ∷ standing w n) z)
+            ∙ top-out rule k (reportIn w n) (standing w n) out)
+
+    -- and one whose report counts and doesn't pass
+    pub gathered-skips : isCounted rule (reportIn w n) ≡ true → admits (above rule) (barOf (columnsOf (top rule k (standing w n))) k) (entry rule (reportIn w n)) ≡ false → top rule k (standing w n) ≡ top rule k (standing w (n + 1))
+    gathered-skips counts h = go (tested (eqb (getD (w .numbers) n 0) 0)) (tested (barOf (columnsOf (listed n)) k .full))
       where
         go : Tested (eqb (getD (w .numbers) n 0) 0) → Tested (barOf (columnsOf (listed n)) k .full) → top rule k (standing w n) ≡ top rule k (standing w (n + 1))
         go (passed z) t = sym (rows-more n (standing w n) (if-so (standing w n) (reportIn w n ∷ standing w n) z))
@@ -85,5 +96,5 @@ module _ (rule : Rule) (k : ℕ) (small : k ≤ 16) (w : Window) where
             ∙ sym (admits-full (above rule) (barOf (columnsOf (listed n)) k) report z t)
             ∙ h))
             ∙ best-cons (above rule) (above-strict rule) k report (entries rule (standing w n))
-            ∙ sym (top-cons rule k (reportIn w n) (standing w n))
+            ∙ sym (top-cons rule k (reportIn w n) (standing w n) counts)
             ∙ sym (rows-more n (reportIn w n ∷ standing w n) (if-not (standing w n) (reportIn w n ∷ standing w n) z))

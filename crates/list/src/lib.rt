@@ -13,6 +13,7 @@ ghost use Rattle.list.specs.Bars.{barAt, barOf};
 ghost use Rattle.list.specs.Rows.{rowsOf};
 ghost use Rattle.list.specs.Inner.{Roomy, rankIn, newIn, slid, Placing, leastAt, admits, wiped};
 use ranking::Rule;
+use ranking::Score;
 use values::Values;
 use window::Window;
 
@@ -177,7 +178,8 @@ impl Bar {
     }
 }
 
-// The best k of the reports in the first `rows` rows of a window. A report that doesn't pass the bar changes nothing.
+// The best k of the reports in the first `rows` rows of a window. A report that doesn't count, or doesn't pass the bar,
+// changes nothing.
 pub fn gathered<'a>(
     rule: Rule,
     k: u8,
@@ -203,10 +205,10 @@ pub fn gathered<'a>(
         row += 1;
         let loss = losses[here];
         let shake = shakes[here];
-        let score = rule.score(Values { loss, shake });
-        if score < least {
+        let scored = rule.score_from(Values { loss, shake }, least);
+        let Score::Scored(score) = scored else {
             continue;
-        }
+        };
         let number = numbers[here];
         if !bar.admits(rule, number, score) {
             continue;

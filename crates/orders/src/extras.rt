@@ -1,4 +1,7 @@
 // The words in brackets behind a line's numbers: in any order, each once.
+use crate::within::Bounds;
+use crate::within::Within;
+use forms::Form;
 use ranges::Numbers;
 use ranges::behind_bytes;
 
@@ -15,13 +18,16 @@ pub struct Extras {
     // A time, in milliseconds.
     pub timed: bool,
     pub time: u32,
+    // A question's ranges.
+    pub within: Within,
 }
 
 impl Extras {
-    // How many such words `write` has.
+    // The most such words that a form has.
     pub const WORDS: u8 = 2;
 
-    pub fn none(at: u8) -> Extras {
+    fn none(at: u8) -> Extras {
+        let within = Within::none();
         Extras {
             right: true,
             at,
@@ -31,31 +37,23 @@ impl Extras {
             room: 4294967295,
             timed: false,
             time: 0,
+            within,
         }
     }
 
-    // Those of `write`.
-    pub fn read(line: &[u8], from: u8) -> Extras {
+    // Those that stand from the word `from` on, behind which nothing may stand.
+    pub fn read(form: Form, line: &[u8], from: u8) -> Extras {
         let mut extras = Extras::none(from);
         let mut i: u8 = 0;
         while i < Extras::WORDS {
-            extras = extras.with(line);
+            extras = extras.with(form, line);
             i += 1;
         }
         extras.ended(line)
     }
 
-    // The one of a frame and of a session that is made up: its time.
-    pub fn at_time(line: &[u8], from: u8) -> Extras {
-        let extras = Extras::none(from);
-        if !lines::same(lines::word(line, from), b"at") {
-            return extras.ended(line);
-        }
-        extras.with_time(line).ended(line)
-    }
-
     // Whether nothing stands behind them.
-    pub fn ended(self, line: &[u8]) -> Extras {
+    fn ended(self, line: &[u8]) -> Extras {
         let rest = lines::tail(line, self.at);
         if rest.len() == 0 {
             return self;
@@ -68,14 +66,40 @@ impl Extras {
         self
     }
 
-    // With the next one, where there is one.
-    fn with(self, line: &[u8]) -> Extras {
+    // With the next one, where it is one that the form has.
+    fn with(self, form: Form, line: &[u8]) -> Extras {
         let word = lines::word(line, self.at);
+        match form {
+            Form::Write => self.with_writing(word, line),
+            Form::Frame | Form::PokeSession => self.with_timing(word, line),
+            Form::Set | Form::PokeSlot => self.with_range(word, line),
+            _ => self,
+        }
+    }
+
+    fn with_writing(self, word: &[u8], line: &[u8]) -> Extras {
         if lines::same(word, b"note") {
             return self.with_note(line);
         }
         if lines::same(word, b"room") {
             return self.with_room(line);
+        }
+        self
+    }
+
+    fn with_timing(self, word: &[u8], line: &[u8]) -> Extras {
+        if lines::same(word, b"at") {
+            return self.with_time(line);
+        }
+        self
+    }
+
+    fn with_range(self, word: &[u8], line: &[u8]) -> Extras {
+        if lines::same(word, b"loss") {
+            return self.with_loss(line);
+        }
+        if lines::same(word, b"shake") {
+            return self.with_shake(line);
         }
         self
     }
@@ -91,35 +115,56 @@ impl Extras {
         self
     }
 
-    fn with_room(mut self, line: &[u8]) -> Extras {
-        if self.lent {
+    fn with_room(self, line: &[u8]) -> Extras {
+        let numbers = self.numbers(line, b"n");
+        let values = numbers.values;
+        let mut extras = self.behind(numbers, self.lent);
+        extras.lent = true;
+        extras.room = values[0];
+        extras
+    }
+
+    fn with_time(self, line: &[u8]) -> Extras {
+        let numbers = self.numbers(line, b"n");
+        let values = numbers.values;
+        let mut extras = self.behind(numbers, self.timed);
+        extras.timed = true;
+        extras.time = values[0];
+        extras
+    }
+
+    fn with_loss(self, line: &[u8]) -> Extras {
+        let numbers = self.numbers(line, b"hh");
+        let within = self.within;
+        let mut extras = self.behind(numbers, within.loss.said);
+        let changed = within.with_loss(Bounds::of(numbers));
+        extras.within = changed;
+        extras
+    }
+
+    fn with_shake(self, line: &[u8]) -> Extras {
+        let numbers = self.numbers(line, b"hh");
+        let within = self.within;
+        let mut extras = self.behind(numbers, within.shake.said);
+        let changed = within.with_shake(Bounds::of(numbers));
+        extras.within = changed;
+        extras
+    }
+
+    // The numbers behind the next one's name.
+    fn numbers(self, line: &[u8], letters: &[u8]) -> Numbers {
+        Numbers::read(line, std::num::wrapping_add_u8(self.at, 1), letters)
+    }
+
+    // Goes on behind these numbers. They are wrong where the word they belong to was said before.
+    fn behind(mut self, numbers: Numbers, before: bool) -> Extras {
+        if before {
             return self.wrong();
         }
-        let numbers = self.number(line);
         if !numbers.right {
             return self.wrong();
         }
-        let values = numbers.values;
-        self.lent = true;
-        self.room = values[0];
         self.at = numbers.at;
         self
-    }
-
-    fn with_time(mut self, line: &[u8]) -> Extras {
-        let numbers = self.number(line);
-        if !numbers.right {
-            return self.wrong();
-        }
-        let values = numbers.values;
-        self.timed = true;
-        self.time = values[0];
-        self.at = numbers.at;
-        self
-    }
-
-    // The number behind the next one's name.
-    fn number(self, line: &[u8]) -> Numbers {
-        Numbers::read(line, std::num::wrapping_add_u8(self.at, 1), b"n")
     }
 }

@@ -1,5 +1,6 @@
 // The desk's lines (docs/DESK.md): what a line asks for, or which form it should have had.
 mod extras;
+mod within;
 
 pub use extras::Extras;
 use forms::Form;
@@ -8,6 +9,8 @@ use ranges::byte;
 use ranges::score;
 use ranges::short;
 use ranges::weight;
+pub use within::Bounds;
+pub use within::Within;
 
 // What a line asks for. A line that is passed over asks for nothing.
 pub enum Order {
@@ -27,6 +30,7 @@ pub enum BoardOrder {
         k: u8,
         loss: i16,
         shake: i16,
+        within: Within,
     },
     Remove(u8),
     Read(u8),
@@ -57,6 +61,7 @@ pub enum BoardOrder {
         shake: i16,
         len: u8,
         next: u16,
+        within: Within,
     },
     PokeLine {
         slot: u8,
@@ -113,7 +118,7 @@ impl Order {
         }
         let form = Form::of(line);
         let numbers = numbers_of(form, line);
-        let extras = extras_of(form, line, numbers.at);
+        let extras = Extras::read(form, line, numbers.at);
         if !numbers.right {
             return Order::Wrong(form);
         }
@@ -147,15 +152,6 @@ fn numbers_of(form: Form, line: &[u8]) -> Numbers {
     }
 }
 
-// What stands behind the numbers: nothing, or the words in brackets.
-fn extras_of(form: Form, line: &[u8], from: u8) -> Extras {
-    match form {
-        Form::Write => Extras::read(line, from),
-        Form::Frame | Form::PokeSession => Extras::at_time(line, from),
-        _ => Extras::none(from).ended(line),
-    }
-}
-
 // The order of a form whose words are right.
 fn made(form: Form, numbers: Numbers, extras: Extras) -> Order {
     let n = numbers.values;
@@ -170,7 +166,7 @@ fn made(form: Form, numbers: Numbers, extras: Extras) -> Order {
         | Form::PokeSession
         | Form::PokeByte
         | Form::PokeUntimed => Order::Bus(bus_order(form, numbers, extras)),
-        _ => Order::Board(board_order(form, numbers)),
+        _ => Order::Board(board_order(form, numbers, extras.within)),
     }
 }
 
@@ -212,7 +208,7 @@ fn bus_order(form: Form, numbers: Numbers, extras: Extras) -> BusOrder {
 }
 
 // The same of a form that needs a window.
-fn board_order(form: Form, numbers: Numbers) -> BoardOrder {
+fn board_order(form: Form, numbers: Numbers, within: Within) -> BoardOrder {
     let n = numbers.values;
     match form {
         Form::Set => BoardOrder::Set {
@@ -220,6 +216,7 @@ fn board_order(form: Form, numbers: Numbers) -> BoardOrder {
             k: byte(n[1]),
             loss: weight(n[2]),
             shake: weight(n[3]),
+            within,
         },
         Form::Remove => BoardOrder::Remove(byte(n[0])),
         Form::Read => BoardOrder::Read(byte(n[0])),
@@ -249,6 +246,7 @@ fn board_order(form: Form, numbers: Numbers) -> BoardOrder {
             shake: weight(n[3]),
             len: byte(n[4]),
             next: short(n[5]),
+            within,
         },
         Form::PokeLine => BoardOrder::PokeLine {
             slot: byte(n[0]),

@@ -1,8 +1,12 @@
-// Boards made up by hand, as the desk's pokes ask for them, and the slots of a board.
+// Boards made up by hand, as the desk's pokes ask for them, the slots of a board, and a rule with the ranges that a line says.
 use board::Board;
 use list::Lines;
 use orders::BoardOrder;
+use orders::Bounds;
+use orders::Within;
 use question::Question;
+use ranking::Range;
+use ranking::Ranges;
 use ranking::Rule;
 use ranking::Weights;
 use window::Counts;
@@ -29,28 +33,56 @@ pub fn poked(board: Board, order: BoardOrder) -> Board {
             loss,
             shake,
         } => with_row(board, row as usize, number, loss, shake),
+        BoardOrder::PokeSlot { slot: at, .. } | BoardOrder::PokeLine { slot: at, .. } => {
+            with_slot(board, at, poked_slot(slot(board, at), order))
+        }
+        _ => board,
+    }
+}
+
+// A slot's question with what a poke stores.
+fn poked_slot(question: Question, order: BoardOrder) -> Question {
+    match order {
         BoardOrder::PokeSlot {
-            slot: at,
+            slot: _,
             k,
             loss,
             shake,
             len,
             next,
+            within,
         } => {
-            let rule = Rule::of(Weights { loss, shake });
-            with_slot(board, at, with_numbers(slot(board, at), k, rule, len, next))
+            let old = question.rule;
+            let ranges = old.ranges;
+            let rule = ranged(Rule::within(Weights { loss, shake }, ranges), within);
+            with_numbers(question, k, rule, len, next)
         }
         BoardOrder::PokeLine {
-            slot: at,
+            slot: _,
             place,
             number,
             score,
-        } => with_slot(
-            board,
-            at,
-            with_line(slot(board, at), place as usize, number, score),
-        ),
-        _ => board,
+        } => with_line(question, place as usize, number, score),
+        _ => question,
+    }
+}
+
+// The rule with the ranges that a line says; one that it doesn't say stays.
+pub fn ranged(rule: Rule, within: Within) -> Rule {
+    let weights = rule.weights;
+    let ranges = rule.ranges;
+    let loss = bounded(ranges.loss, within.loss);
+    let shake = bounded(ranges.shake, within.shake);
+    Rule::within(weights, Ranges { loss, shake })
+}
+
+fn bounded(range: Range, bounds: Bounds) -> Range {
+    if !bounds.said {
+        return range;
+    }
+    Range {
+        low: bounds.low,
+        high: bounds.high,
     }
 }
 

@@ -3,16 +3,16 @@
 use mathlib.Core.Path.{_≡_, refl, sym, ap, _∙_, subst}
 use mathlib.Core.Bool.{true, false, _&&_, and-false}
 use mathlib.Core.List.{List, _++_}
-use Prim.Native.Nat.{ℕ, _+_, min, _≤_, _<_}
+use Prim.Native.Nat.{ℕ, _+_, min, _≤_}
 use native.Mathlib.Omega.{arith}
-use borrow.Author.Tests.{leb-true, leb-false}
+use borrow.Author.Tests.{leb-true}
 use lib.Dec.{leb}
 use lib.ListN.{drop}
 use Rattle.laws.specs.Lists.{only}
 use Rattle.laws.proofs.Lists.{_⊆_, Same, only-in, only-of}
 use Rattle.laws.proofs.Tests.{Tested, passed, failed, tested, clash, and-both}
 use Rattle.search.proofs.Best.{best-same}
-use Rattle.ranking.specs.Cells.{fitRule, placeOf, cellAt}
+use Rattle.ranking.specs.Cells.{fitRule, inOrder, cellAfter}
 use Rattle.ranking.specs.Standing.{Held, Entry, above, entries}
 use Rattle.ranking.proofs.Entries.{above-strict, entries-same}
 use Rattle.window.specs.declared.Window.{Window}
@@ -21,7 +21,7 @@ use Rattle.window.proofs.Standing.{standing-held}
 use Rattle.list.specs.Lines.{linesOf, allOf, falls, blank}
 use Rattle.question.specs.declared.Question.{Question}
 use Rattle.question.specs.Lines.{lines, asked, inCell, finished, begun, stepped, inRows, stepOn}
-use Rattle.question.specs.Calls.{heldAs, rangesFit, fitQuestion, stepCall, beginCall}
+use Rattle.question.specs.Calls.{heldAs, nextFits, rangesFit, fitQuestion, stepCall, beginCall}
 use Rattle.question.specs.Inner.{stepRefusal}
 use Rattle.question.proofs.Taking.{same-behind, step-is}
 use Rattle.question.proofs.Ending.{finished-none}
@@ -50,21 +50,21 @@ pub record Ranges (q : Question) (held : ℕ) : Type 0 where
   pub positive : 1 ≤ q .k
   pub small : q .k ≤ 16
   pub rule-fits : fitRule (q .rule) ≡ true
-  pub cell-range : q .next ≤ 256
+  pub cell-fits : nextFits (q .rule) (q .next) ≡ true
   pub short : q .len ≤ min (q .k) held
 
 pub ranges : (q : Question) (held : ℕ) → rangesFit q held ≡ true → Ranges q held
 unfolding rangesFit
 ranges q held h =
-    let a = and-both (leb 1 (q .k) && leb (q .k) 16 && fitRule (q .rule) && leb (q .next) 256) (leb (q .len) (min (q .k) held)) h in
-    let b = and-both (leb 1 (q .k) && leb (q .k) 16 && fitRule (q .rule)) (leb (q .next) 256) (a .0) in
+    let a = and-both (leb 1 (q .k) && leb (q .k) 16 && fitRule (q .rule) && nextFits (q .rule) (q .next)) (leb (q .len) (min (q .k) held)) h in
+    let b = and-both (leb 1 (q .k) && leb (q .k) 16 && fitRule (q .rule)) (nextFits (q .rule) (q .next)) (a .0) in
     let c = and-both (leb 1 (q .k) && leb (q .k) 16) (fitRule (q .rule)) (b .0) in
     let d = and-both (leb 1 (q .k)) (leb (q .k) 16) (c .0) in
     record {
       positive = leb-true 1 (q .k) (d .0);
       small = leb-true (q .k) 16 (d .1);
       rule-fits = c .1;
-      cell-range = leb-true (q .next) 256 (b .1);
+      cell-fits = b .1;
       short = leb-true (q .len) (min (q .k) held) (a .1);
     }
 
@@ -91,7 +91,7 @@ fit-facts w q h =
 pub stepped-same : (q : Question) (hs hs′ : List Held) → Same hs hs′ → stepped q hs ≡ stepped q hs′
 unfolding stepped
 stepped-same q hs hs′ s =
-    ap (λ l. asked (q .k) (q .rule) l (cellAt (q .rule) (placeOf (q .rule) (q .next) + 1)))
+    ap (λ l. asked (q .k) (q .rule) l (cellAfter (q .rule) (q .next)))
     (best-same (above (q .rule)) (above-strict (q .rule)) (q .k) (lines q ++ new hs) (lines q ++ new hs′) (same-behind (lines q) (new hs) (new hs′) both))
   where
     new : List Held → List Entry
@@ -110,12 +110,12 @@ unfolding inRows
 rows-held w fit = standing-held w fit
 
 -- a search that has not ended has a cell left
-pub cell-left : (q : Question) → finished q ≡ false → q .next < 256
-cell-left q f = go (tested (leb 256 (q .next)))
+pub cell-left : (q : Question) → finished q ≡ false → inOrder (q .rule) (q .next) ≡ true
+cell-left q f = go (tested (inOrder (q .rule) (q .next)))
   where
-    go : Tested (leb 256 (q .next)) → q .next < 256
-    go (passed t) = clash (finished-none q (leb-true 256 (q .next) t)) f
-    go (failed t) = leb-false 256 (q .next) t
+    go : Tested (inOrder (q .rule) (q .next)) → inOrder (q .rule) (q .next) ≡ true
+    go (passed t) = t
+    go (failed t) = clash (finished-none q t) f
 
 pub step-held : (w : Window) (q : Question) → fitWindow w ≡ true → fitQuestion w q ≡ true → finished q ≡ false → stepOn q w ≡ stepped q (heldReports w)
 step-held w q fits fit f =

@@ -2,12 +2,11 @@
 -- Assumes nothing.
 use mathlib.Core.Path.{_≡_, ap₂, _∙_}
 use mathlib.Core.Bool.{true, false, not, _&&_, _||_, and-false, Bool·not-not}
-use Prim.Native.Nat.{_≤_, _<_}
-use borrow.Author.Tests.{le-leb, lt-leb, ne-eqb, eq-eqb, eqb-true}
+use borrow.Author.Tests.{ne-eqb, eq-eqb, eqb-true}
 use lib.Dec.{eqb}
 use lib.Signed.{ltZ}
 use Rattle.laws.specs.Lists.{onLast}
-use Rattle.ranking.specs.Cells.{bestScore}
+use Rattle.ranking.specs.Cells.{bestScore, inOrder}
 use Rattle.ranking.specs.Standing.{reaches}
 use Rattle.laws.proofs.Tests.{Tested, passed, failed, tested}
 use Rattle.list.proofs.Bars.{bar-full, bar-open}
@@ -16,28 +15,28 @@ use Rattle.question.specs.Lines.{listOf, lines, finished, barOf}
 use Rattle.question.proofs.Stored.{Roomy, no-lines}
 
 module _ (q : Question) where
-  pub finished-none : 256 ≤ q .next → finished q ≡ true
+  pub finished-none : inOrder (q .rule) (q .next) ≡ false → finished q ≡ true
   unfolding finished
-  finished-none h = rw (le-leb 256 (q .next) h)
+  finished-none h = rw h
 
-  module _ (h : q .next < 256) where
+  module _ (h : inOrder (q .rule) (q .next) ≡ true) where
     pub finished-other : (q .len ≡ q .k → ⊥) → finished q ≡ false
     unfolding finished
-    finished-other e = rw (lt-leb 256 (q .next) h, ne-eqb (q .len) (q .k) e)
+    finished-other e = rw (h, ne-eqb (q .len) (q .k) e)
 
     pub finished-open : barOf q .full ≡ false → finished q ≡ false
     unfolding finished
     finished-open e = go (tested (eqb (q .len) (q .k)))
       where
         go : Tested (eqb (q .len) (q .k)) → finished q ≡ false
-        go (failed t) = rw (lt-leb 256 (q .next) h, t)
+        go (failed t) = rw (h, t)
         go (passed t) =
-            rw (lt-leb 256 (q .next) h, no-lines q (bar-open (listOf q) (q .k) e (eqb-true (q .len) (q .k) t))) (and-false (eqb (q .len) (q .k)))
+            rw (h, no-lines q (bar-open (listOf q) (q .k) e (eqb-true (q .len) (q .k) t))) (and-false (eqb (q .len) (q .k)))
 
     pub finished-full : Roomy (q .numbers) (q .scores) → barOf q .full ≡ true → finished q ≡ ltZ (bestScore (q .rule) (q .next)) (barOf q .score)
     unfolding finished
     finished-full r e =
         let full = bar-full (listOf q) (q .k) r e in
-        ap₂ (λ a b. a || b && onLast (λ z. not (reaches (q .rule) (q .next) z)) (lines q)) (lt-leb 256 (q .next) h) (eq-eqb (q .len) (q .k) (full .as-many))
+        ap₂ (λ a b. not a || b && onLast (λ z. not (reaches (q .rule) (q .next) z)) (lines q)) h (eq-eqb (q .len) (q .k) (full .as-many))
         ∙ full .last (λ z. not (reaches (q .rule) (q .next) z))
         ∙ Bool·not-not (ltZ (bestScore (q .rule) (q .next)) (barOf q .score))

@@ -17,7 +17,7 @@ use Rattle.search.proofs.Search.{All}
 use Rattle.values.specs.Range.{low}
 use Rattle.values.proofs.Facts.{low-in}
 use Rattle.ranking.specs.declared.Reach.{Reach}
-use Rattle.ranking.specs.Cells.{cellAt, visiting, reaching, reachOf}
+use Rattle.ranking.specs.Cells.{mostSteps, cellAt, visiting, reaching, reachOf}
 use Rattle.ranking.specs.Standing.{Held, Entry, above, entries, top, searchOf, Permitted}
 use Rattle.ranking.proofs.Entries.{above-strict}
 use Rattle.ranking.proofs.Scan.{left-none}
@@ -75,8 +75,8 @@ module _ (q : Question) (small : q .k ≤ 16) (w : Window) (n : ℕ) where
   by-steps m e =
       ap₂ (λ j l. record { steps = j; question = asked (q .k) (q .rule) l (cellAt (q .rule) j) }) (sym e) (sym all-found)
 
-  all-taken : cellAt (q .rule) 256 ≡ 256
-  all-taken = getD-past 256 (visiting (q .rule)) 256 (left-none (q .rule) 256 (omega arith))
+  all-taken : cellAt (q .rule) (mostSteps (q .rule)) ≡ 256
+  all-taken = getD-past 256 (visiting (q .rule)) (mostSteps (q .rule)) (left-none (q .rule) (mostSteps (q .rule)) (omega arith))
 
   -- the list says where its search ended
   pub ended-searched : endedOf (withList q (top (q .rule) (q .k) (standing w n))) ≡ searchedIn q (standing w n)
@@ -96,8 +96,8 @@ module _ (q : Question) (small : q .k ≤ 16) (w : Window) (n : ℕ) where
           (λ p. ap (onLast p) (sym back) ∙ full .last p))
       go (failed t) =
           if-not _ _ t
-          ∙ ap (λ c. record { steps = 256; question = withNext with-it c }) (sym all-taken)
-          ∙ by-steps 256 (steps-all (q .rule) hs (standing-permitted w n) (q .k) (open-list (tested (eqb (length list) (q .k)))))
+          ∙ ap (λ c. record { steps = mostSteps (q .rule); question = withNext with-it c }) (sym all-taken)
+          ∙ by-steps (mostSteps (q .rule)) (steps-all (q .rule) hs (standing-permitted w n) (q .k) (open-list (tested (eqb (length list) (q .k)))))
         where
           open-list : Tested (eqb (length list) (q .k)) → (length list ≡ q .k → ⊥) ⊎ (length list ≡ 0)
           open-list (passed m) = inr (sym few-lines ∙ bar-open (columnsOf list) (q .k) t (eqb-true (length list) (q .k) m))
@@ -112,7 +112,7 @@ module _ (q : Question) (bar : Bar) (is : bar ≡ barOf q) where
       ∙ ap (λ s. record { steps = reaching (q .rule) s; question = withNext q (cellAt (q .rule) (reaching (q .rule) s)) }) (ap (λ (b : Bar). b .score) is)
       ∙ sym (if-so _ _ (sym (ap (λ (b : Bar). b .full) is) ∙ t))
 
-  pub ended-open : bar .full ≡ false → record { steps = 256; question = withNext q 256 } ≡ endedOf q
+  pub ended-open : bar .full ≡ false → record { steps = mostSteps (q .rule); question = withNext q 256 } ≡ endedOf q
   unfolding endedOf
   ended-open t = sym (if-not _ _ (sym (ap (λ (b : Bar). b .full) is) ∙ t))
 

@@ -6,18 +6,19 @@ use mathlib.Core.Bool.{true}
 use mathlib.Core.List.{List}
 use Prim.Native.Nat.{ℕ, _+_, min, _≤_, _<_}
 use native.Mathlib.Omega.{arith}
-use borrow.Author.Tests.{le-leb, lt-ltb}
+use borrow.Author.Tests.{le-leb, lt-ltb, eq-eqb}
+use lib.Dec.{eqb}
 use lib.ListN.{length, getD}
 use Rattle.laws.specs.Lists.{_∈_}
 use Rattle.laws.specs.Whole.{equal}
 use Rattle.laws.proofs.Lists.{moved}
-use Rattle.laws.proofs.Tests.{and-both, and-true}
+use Rattle.laws.proofs.Tests.{and-both, and-true, or-left, or-right}
 use Rattle.laws.proofs.Whole.{equal-is, equal-same}
 use Rattle.search.proofs.Best.{Falling}
 use Rattle.values.proofs.Facts.{low-same}
 use Rattle.ranking.specs.declared.Rule.{Rule}
-use Rattle.ranking.specs.Cells.{score}
-use Rattle.ranking.specs.Standing.{Entry, above, entry, entries}
+use Rattle.ranking.specs.Cells.{score, isScored, points, inOrder}
+use Rattle.ranking.specs.Standing.{Entry, above, isCounted, entry, entries}
 use Rattle.ranking.proofs.Entries.{entries-in, entries-of}
 use Rattle.window.specs.declared.Counts.{Counts}
 use Rattle.window.specs.declared.Window.{Window}
@@ -29,10 +30,10 @@ use Rattle.list.proofs.Blank.{falling-falls, stored-blank, blank-stored}
 pub use Rattle.list.proofs.Blank.{all-in, all-is}
 use Rattle.question.specs.declared.Question.{Question}
 use Rattle.question.specs.Lines.{listOf, holding, lines, asked, withList}
-use Rattle.question.specs.Calls.{holdsNumber, heldAs, rangesFit, fitQuestion}
+use Rattle.question.specs.Calls.{holdsNumber, isLineOf, heldAs, nextFits, rangesFit, fitQuestion}
 use Rattle.question.proofs.Stored.{Roomy, lines-asked}
 use Rattle.question.proofs.Fitness.{Holds, holds, row-within}
-use Rattle.question.proofs.Doors.{Ranges, Fit, fit-facts}
+use Rattle.question.proofs.Doors.{Ranges, fit-facts}
 
 -- ---- the held reports
 
@@ -50,30 +51,33 @@ module _ (w : Window) (fit : fitWindow w ≡ true) (rule : Rule) where
   counts : window.Ranges (w .counts)
   counts = facts .ranges
 
-  -- the row of a held number has that report's score
-  its-score : (m : ℕ) → Holds (w .counts) m → entry rule (reportIn w (rowOf (w .counts .size) m)) .score ≡ entry rule (reportOf w m) .score
+  -- the row of a held number has that report's values, and so its score
+  its-score : (m : ℕ) → Holds (w .counts) m → score rule (reportIn w (rowOf (w .counts .size) m) .values) ≡ score rule (reportOf w m .values)
   its-score m h =
       let r = rowOf (w .counts .size) m in
       let row = window.row-holds (due (w .counts) r) (getD (w .numbers) r 0) (valuesIn w r) (facts .rows r (row-within h)) in
       ap (score rule) (low-same (valuesIn w r) (row .permitted))
 
-  -- rule 9.5: a line names a held report, with its score
+  -- rules 9.5 and 16.6: a line names a held report that counts, with its score
   pub listed : (e : Entry) → heldAs w rule e ≡ true ↔ e ∈ entries rule (heldReports w)
   unfolding heldAs
   listed e = (to, from)
     where
       to : heldAs w rule e ≡ true → e ∈ entries rule (heldReports w)
       to t =
-          let both = and-both (holdsNumber (w .counts) (e .number)) (equal (e .score) (entry rule (reportIn w (rowOf (w .counts .size) (e .number))) .score)) t in
+          let row = reportIn w (rowOf (w .counts .size) (e .number)) in
+          let both = and-both (holdsNumber (w .counts) (e .number)) (isLineOf rule e row) t in
+          let line = and-both (isCounted rule row) (equal (e .score) (entry rule row .score)) (both .1) in
           let h = holds (w .counts) (e .number) (both .0) in
-          let same = equal-is (e .score) (entry rule (reportIn w (rowOf (w .counts .size) (e .number))) .score) (both .1) ∙ its-score (e .number) h in
+          let same = equal-is (e .score) (entry rule row .score) (line .1) ∙ ap points (its-score (e .number) h) in
           moved (ap (λ s. record { number = e .number; score = s }) (sym same))
-          (entries-in rule (held-in w counts (e .number) (h .late) (h .was-entered)))
+          (entries-in rule (held-in w counts (e .number) (h .late) (h .was-entered)) (sym (ap isScored (its-score (e .number) h)) ∙ line .0))
 
-      held : (m : ℕ) → Holds (w .counts) m → heldAs w rule (entry rule (reportOf w m)) ≡ true
-      held m h =
+      held : (m : ℕ) → Holds (w .counts) m → isCounted rule (reportOf w m) ≡ true → heldAs w rule (entry rule (reportOf w m)) ≡ true
+      held m h counted =
           and-true (holds-is h)
-          (equal-same (entry rule (reportOf w m) .score) (entry rule (reportIn w (rowOf (w .counts .size) m)) .score) (sym (its-score m h)))
+          (and-true (ap isScored (its-score m h) ∙ counted)
+          (equal-same (entry rule (reportOf w m) .score) (entry rule (reportIn w (rowOf (w .counts .size) m)) .score) (sym (ap points (its-score m h)))))
 
       from : e ∈ entries rule (heldReports w) → heldAs w rule e ≡ true
       from k =
@@ -88,9 +92,18 @@ module _ (w : Window) (fit : fitWindow w ≡ true) (rule : Rule) where
             was-entered = was;
             late = late;
           } in
-          subst (λ z. heldAs w rule z ≡ true) (ap (entry rule) (sym (s .3)) ∙ r .2) (held (s .0) h)
+          subst (λ z. heldAs w rule z ≡ true) (ap (entry rule) (sym (s .3)) ∙ r .2) (held (s .0) h (subst (λ g. isCounted rule g ≡ true) (s .3) (r .3)))
 
 -- ---- a question of such lines
+
+-- a next cell that is in the order fits, and so does none
+pub next-in : (rule : Rule) (c : ℕ) → inOrder rule c ≡ true → nextFits rule c ≡ true
+unfolding nextFits
+next-in rule c h = or-right (eqb c 256) (inOrder rule c) h
+
+pub next-none : (rule : Rule) (c : ℕ) → c ≡ 256 → nextFits rule c ≡ true
+unfolding nextFits
+next-none rule c e = or-left (eqb c 256) (inOrder rule c) (eq-eqb c 256 e)
 
 -- A question is fit whose numbers are in their ranges and whose list is strictly falling and of held reports.
 pub fit-asked : (w : Window) → fitWindow w ≡ true → (k : ℕ) (rule : Rule) (l : List Entry) (next : ℕ) → Ranges (asked k rule l next) (w .counts .held) → ((e : Entry) → e ∈ l → e ∈ entries rule (heldReports w)) → Falling (above rule) l → fitQuestion w (asked k rule l next) ≡ true
@@ -102,7 +115,7 @@ fit-asked w fit k rule l next r held fall =
     (and-true
     (and-true
     (and-true (and-true (le-leb 1 k (r .positive)) (le-leb k 16 (r .small))) (r .rule-fits))
-    (le-leb next 256 (r .cell-range)))
+    (r .cell-fits))
     (le-leb (length l) (min k (w .counts .held)) (r .short)))
     (subst (λ m. allOf (heldAs w rule) m ≡ true) (sym back) (all-is (heldAs w rule) l (λ e m. listed w fit rule e .1 (held e m)))))
     (subst (λ m. falls (above rule) m ≡ true) (sym back) (falling-falls (above rule) l fall)))

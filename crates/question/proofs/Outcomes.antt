@@ -22,6 +22,8 @@ use Rattle.question.proofs.Question.searched_in.Kinds as searched-in-ki
 use Rattle.question.proofs.Question.searched_in.Reads as searched-in-reads
 use Rattle.question.proofs.Question.steps.Kinds as steps-kinds
 use Rattle.question.proofs.Question.steps.Reads as steps-reads
+use Rattle.question.proofs.Question.is_past.Kinds as is-past-kinds
+use Rattle.question.proofs.Question.is_past.Reads as is-past-reads
 use Rattle.question.proofs.Question.is_marked.Kinds as is-marked-kinds
 use Rattle.question.proofs.Question.is_marked.Reads as is-marked-reads
 use Rattle.question.proofs.Question.marks.Kinds as marks-kinds
@@ -65,6 +67,9 @@ steps-once κs a x y s t p q = p ∙ sym q
 
 is-marked-once : OneAnswer 0 is-marked-kinds.ps is-marked-kinds.r is-marked-reads.Post
 is-marked-once κs a x y s t p q = p ∙ sym q
+
+is-past-once : OneAnswer 0 is-past-kinds.ps is-past-kinds.r is-past-reads.Post
+is-past-once κs a x y s t p q = p ∙ sym q
 
 marks-once : OneAnswer 0 marks-kinds.ps marks-kinds.r marks-reads.Post
 marks-once κs a x y s t p q = p ∙ sym q

@@ -8,23 +8,22 @@ use Prim.Native.Nat.{ℕ, zero, suc, _+_, min, _≤_, _<_}
 use native.Mathlib.Nat.{le-of-eq}
 use native.Mathlib.Numerals.{add-one}
 use native.Mathlib.Omega.{arith}
-use borrow.Author.Tests.{ltb-true, ltb-false, le-leb}
-use lib.Dec.{ltb}
+use borrow.Author.Tests.{le-leb}
 use lib.ListN.{length, take}
 use lib.Seq.{take-suc}
 use Rattle.laws.specs.Lists.{_∈_, only}
-use Rattle.laws.proofs.Lists.{Same, _⊆_, moved, lt-or-eq, getD-past, only-in, only-of, pairwise-only}
+use Rattle.laws.proofs.Lists.{Same, moved, lt-or-eq, getD-past, only-of, only-length, same-only, pairwise-only}
 use Rattle.laws.proofs.Tests.{Tested, passed, failed, tested, if-so}
 use Rattle.search.specs.Best.{best}
-use Rattle.search.specs.Search.{heldIn, listAfter, steps, marks, has}
+use Rattle.search.specs.Search.{heldIn, countedIn, listAfter, steps, marks, has}
 use Rattle.search.proofs.Best.{Falling, best-falling, length-best-le}
 use Rattle.search.proofs.Search.{has-in, in-has, ends, goes-on}
 use Rattle.ranking.specs.declared.Rule.{Rule}
-use Rattle.ranking.specs.Cells.{fitRule, cell, cells, visiting, placeOf, cellAt}
-use Rattle.ranking.specs.Standing.{Held, Entry, above, entry, entries, top, searchOf, Wanted}
-use Rattle.ranking.proofs.Cells.{length-visiting}
+use Rattle.ranking.specs.Cells.{fitRule, cell, cells, mostSteps, visiting, inOrder, placeOf, cellAt, cellAfter}
+use Rattle.ranking.specs.Standing.{Held, Entry, above, isCounted, counted, entry, entries, top, searchOf, Wanted}
+use Rattle.ranking.proofs.Cells.{length-visiting, no-order}
 use Rattle.ranking.proofs.Entries.{above-strict, entries-in, top-of, length-top, top-short}
-use Rattle.ranking.proofs.Scan.{place-at, at-place, cell-at, left-none}
+use Rattle.ranking.proofs.Scan.{place-at, at-place, cell-at, left-none, next-at}
 use Rattle.ranking.proofs.Standing.{steps-bounded, local, Alike, Numbered, demand-3, Exact}
 use Rattle.window.specs.declared.Window.{Window}
 use Rattle.window.specs.Rows.{standing, heldReports, fitWindow}
@@ -34,40 +33,38 @@ use Rattle.window.proofs.Standing.{held-permitted}
 use Rattle.question.specs.declared.Question.{Question}
 use Rattle.question.specs.declared.Searched.{Searched}
 use Rattle.question.specs.Lines.{lines, asked, stepsTaken, marked, isMarked, finished, begun, inCell, steppedLines, stepped, afterSteps, searched, searchedIn, inRows, searchedOn, searchedFirst}
-use Rattle.question.specs.Calls.{fitQuestion, stepCall}
+use Rattle.question.specs.Calls.{nextFits, fitQuestion, stepCall}
 use Rattle.question.proofs.Stored.{lines-asked}
 use Rattle.question.proofs.Marking.{steps-left, steps-all}
 use Rattle.question.proofs.Steps.{reached, reached-lines, reached-none, reached-more, reached-end, after-top}
 use Rattle.question.proofs.Doors.{rows-held, step-ended, step-goes, step-held}
-use Rattle.question.proofs.Listed.{fit-asked}
+use Rattle.question.proofs.Listed.{next-in, next-none, fit-asked}
 
 -- ---- one step
 
--- no question has taken more than 256 steps
-pub steps-few : (q : Question) → stepsTaken q ≤ 256
-steps-few q = go (tested (ltb (q .next) 256))
+-- no question has taken more steps than there are cells in its order
+pub steps-few : (q : Question) → stepsTaken q ≤ mostSteps (q .rule)
+steps-few q = go (tested (inOrder (q .rule) (q .next)))
   where
-    below : {n : ℕ} → n < 256 → n ≤ 256
+    below : {n : ℕ} → n < mostSteps (q .rule) → n ≤ mostSteps (q .rule)
     below l = omega arith
 
-    go : Tested (ltb (q .next) 256) → stepsTaken q ≤ 256
-    go (passed t) =
-        let h = ltb-true (q .next) 256 t in
-        rw (steps-left q h) (below (at-place (q .rule) (q .next) h .0))
-    go (failed t) = le-of-eq (steps-all q (ltb-false (q .next) 256 t))
+    go : Tested (inOrder (q .rule) (q .next)) → stepsTaken q ≤ mostSteps (q .rule)
+    go (passed h) = rw (steps-left q h) (below (at-place (q .rule) (q .next) h .0))
+    go (failed h) = le-of-eq (steps-all q h)
 
 -- a question whose next cell is at the place n has taken n steps
-pub steps-at : (q : Question) (n : ℕ) → n ≤ 256 → q .next ≡ cellAt (q .rule) n → stepsTaken q ≡ n
+pub steps-at : (q : Question) (n : ℕ) → n ≤ mostSteps (q .rule) → q .next ≡ cellAt (q .rule) n → stepsTaken q ≡ n
 steps-at q n h e = ⊎-elim some-left none (lt-or-eq h)
   where
-    some-left : n < 256 → stepsTaken q ≡ n
+    some-left : n < mostSteps (q .rule) → stepsTaken q ≡ n
     some-left l =
-        steps-left q (subst (λ c. c < 256) (sym e) (cell-at (q .rule) n l))
+        steps-left q (subst (λ c. inOrder (q .rule) c ≡ true) (sym e) (cell-at (q .rule) n l))
         ∙ ap (placeOf (q .rule)) e
         ∙ place-at (q .rule) n l
 
-    none : n ≡ 256 → stepsTaken q ≡ n
-    none l = steps-all q (le-of-eq (sym (e ∙ getD-past 256 (visiting (q .rule)) n (left-none (q .rule) n (le-of-eq (sym l)))))) ∙ sym l
+    none : n ≡ mostSteps (q .rule) → stepsTaken q ≡ n
+    none l = steps-all q (ap (inOrder (q .rule)) (e ∙ getD-past 256 (visiting (q .rule)) n (left-none (q .rule) n (le-of-eq (sym l)))) ∙ no-order (q .rule)) ∙ sym l
 
 -- Rule 7.7, for every question with a cell left: the next cell is marked, and the list is the best k of the lines it had and of that cell's reports.
 pub record Step (q : Question) (hs : List Held) : Type 0 where
@@ -76,7 +73,7 @@ pub record Step (q : Question) (hs : List Held) : Type 0 where
   pub next-marked : marked (stepped q hs) ≡ marked q ++ (q .next ∷ [])
   pub counted : stepsTaken (stepped q hs) ≡ stepsTaken q + 1
 
-pub one-step : (q : Question) (hs : List Held) → q .k ≤ 16 → q .next < 256 → Step q hs
+pub one-step : (q : Question) (hs : List Held) → q .k ≤ 16 → inOrder (q .rule) (q .next) ≡ true → Step q hs
 unfolding stepped marked
 one-step q hs small left =
     record {
@@ -92,19 +89,19 @@ one-step q hs small left =
     n : ℕ
     n = placeOf w (q .next)
 
-    place : (n < 256) × (cellAt w n ≡ q .next)
+    place : (n < mostSteps w) × (cellAt w n ≡ q .next)
     place = at-place w (q .next) left
 
     l : List Entry
     l = lines q ++ entries w (only (inCell (q .next)) hs)
 
     listed : lines (stepped q hs) ≡ best (above (q .rule)) (q .k) l
-    listed = lines-asked (q .k) w (best (above (q .rule)) (q .k) l) (cellAt w (n + 1)) (omega (arith, length-best-le (above (q .rule)) (above-strict (q .rule)) (q .k) l))
+    listed = lines-asked (q .k) w (best (above (q .rule)) (q .k) l) (cellAfter w (q .next)) (omega (arith, length-best-le (above (q .rule)) (above-strict (q .rule)) (q .k) l))
 
     then : stepsTaken (stepped q hs) ≡ stepsTaken q + 1
-    then = steps-at (stepped q hs) (n + 1) (more (place .0)) refl ∙ ap (λ m. m + 1) (sym (steps-left q left))
+    then = steps-at (stepped q hs) (n + 1) (more (place .0)) (next-at w (q .next) left) ∙ ap (λ m. m + 1) (sym (steps-left q left))
       where
-        more : {m : ℕ} → m < 256 → m + 1 ≤ 256
+        more : {m : ℕ} → m < mostSteps w → m + 1 ≤ mostSteps w
         more h = omega arith
 
     then-marked : marked (stepped q hs) ≡ marked q ++ (q .next ∷ [])
@@ -138,13 +135,13 @@ module _ (q : Question) (small : q .k ≤ 16) (hs : List Held) where
   abbrev w : Rule
   w = q .rule
 
-  pub takes-reached : (n : ℕ) → n ≤ 256 → afterSteps n (begun q) hs ≡ reached (q .k) w hs n
+  pub takes-reached : (n : ℕ) → n ≤ mostSteps w → afterSteps n (begun q) hs ≡ reached (q .k) w hs n
   unfolding afterSteps
   takes-reached zero h = reached-none (q .k) small w hs
   takes-reached (suc n) h =
       ap (λ b. stepped b hs) (takes-reached n (omega arith)) ∙ reached-more (q .k) small w hs n h
 
-  pub after-reached : (n : ℕ) → n ≤ 256 → After q hs n (reached (q .k) w hs n)
+  pub after-reached : (n : ℕ) → n ≤ mostSteps w → After q hs n (reached (q .k) w hs n)
   unfolding reached marked
   after-reached n h =
       let back = reached-lines (q .k) small w hs n in
@@ -157,7 +154,7 @@ module _ (q : Question) (small : q .k ≤ 16) (hs : List Held) where
       }
 
   -- From the beginning, by steps alone.
-  pub n-steps : (n : ℕ) → n ≤ 256 → After q hs n (afterSteps n (begun q) hs)
+  pub n-steps : (n : ℕ) → n ≤ mostSteps w → After q hs n (afterSteps n (begun q) hs)
   n-steps n h = subst (After q hs n) (sym (takes-reached n h)) (after-reached n h)
 
   -- ---- the end
@@ -171,7 +168,7 @@ module _ (q : Question) (small : q .k ≤ 16) (hs : List Held) where
     pub by-steps : searched q hs ≡ afterSteps (steps (searchOf w) (q .k) hs) (begun q) hs
     pub has-ended : finished (searched q hs) ≡ true
     pub not-before : (n : ℕ) → n < steps (searchOf w) (q .k) hs → finished (afterSteps n (begun q) hs) ≡ false
-    pub few : steps (searchOf w) (q .k) hs ≤ 256
+    pub few : steps (searchOf w) (q .k) hs ≤ mostSteps w
     pub come-to : After q hs (steps (searchOf w) (q .k) hs) (searched q hs)
 
   pub whole-search : Whole
@@ -185,10 +182,10 @@ module _ (q : Question) (small : q .k ≤ 16) (hs : List Held) where
         come-to = subst (After q hs (steps (searchOf w) (q .k) hs)) (sym searched-is) (after-reached (steps (searchOf w) (q .k) hs) few);
       }
     where
-      less : {n : ℕ} → n < steps (searchOf w) (q .k) hs → n ≤ 256
+      less : {n : ℕ} → n < steps (searchOf w) (q .k) hs → n ≤ mostSteps w
       less l = omega (arith, steps-bounded w (q .k) hs)
 
-      before : (n : ℕ) → n ≤ 256 → n < steps (searchOf w) (q .k) hs → finished (afterSteps n (begun q) hs) ≡ false
+      before : (n : ℕ) → n ≤ mostSteps w → n < steps (searchOf w) (q .k) hs → finished (afterSteps n (begun q) hs) ≡ false
       before n h l = ap finished (takes-reached n h) ∙ reached-end (q .k) small w hs n h ∙ goes-on (searchOf w) (q .k) hs n l
 
 -- ---- in one pass
@@ -214,11 +211,11 @@ module _ (q : Question) (small : q .k ≤ 16) (w : Window) where
 
 -- ---- of a fit window
 
--- Demands 2 and 3 at the end of a search, for a fit window: the list is the best k of all that is held, a cell is marked exactly where it is wanted, and the steps are the number of the marked cells.
+-- Demands 2 and 3 at the end of a search, for a fit window: the list is the best k of all that is held and counts, a cell is marked exactly where it is wanted, and the steps are the number of the marked cells.
 pub record Found (w : Window) (q p : Question) : Type 0 where
   pub list : lines p ≡ top (q .rule) (q .k) (heldReports w)
-  pub length-is : length (lines p) ≡ min (q .k) (w .counts .held)
-  pub marks-are : (c : ℕ) → c < 256 → isMarked p c ≡ true ↔ Wanted (q .rule) (q .k) (heldReports w) (w .counts .entered) c
+  pub length-is : length (lines p) ≡ min (q .k) (length (counted (q .rule) (heldReports w)))
+  pub marks-are : (c : ℕ) → isMarked p c ≡ true ↔ Wanted (q .rule) (q .k) (heldReports w) (w .counts .entered) c
   pub steps-are : stepsTaken p ≡ length (only (isMarked p) cells)
 
 pub search-finds : (w : Window) → fitWindow w ≡ true → (q : Question) → 1 ≤ q .k → q .k ≤ 16 → Found w q (searched q (heldReports w))
@@ -226,9 +223,9 @@ unfolding isMarked
 search-finds w fit q positive small =
     record {
       list = list;
-      length-is = ap length list ∙ length-top (q .rule) (q .k) hs (held-distinct w) ∙ ap (min (q .k)) (length-held w);
+      length-is = ap length list ∙ length-top (q .rule) (q .k) hs (held-distinct w);
       marks-are = is;
-      steps-are = come .counted ∙ exact .number (isMarked p) is;
+      steps-are = come .counted ∙ exact .number (isMarked p) (λ c h. is c);
     }
   where
     hs : List Held
@@ -252,16 +249,16 @@ search-finds w fit q positive small =
     list : lines p ≡ top (q .rule) (q .k) hs
     list = come .list ∙ exact .list
 
-    is : (c : ℕ) → c < 256 → isMarked p c ≡ true ↔ Wanted (q .rule) (q .k) hs (w .counts .entered) c
-    is c h = (
-      λ t. exact .marks-are c h .0 (subst (λ l. c ∈ l) (come .marks-are) (has-in c (marked p) t)),
-      λ v. in-has c (marked p) (subst (λ l. c ∈ l) (sym (come .marks-are)) (exact .marks-are c h .1 v)),
+    is : (c : ℕ) → isMarked p c ≡ true ↔ Wanted (q .rule) (q .k) hs (w .counts .entered) c
+    is c = (
+      λ t. exact .marks-are c .0 (subst (λ l. c ∈ l) (come .marks-are) (has-in c (marked p) t)),
+      λ v. in-has c (marked p) (subst (λ l. c ∈ l) (sym (come .marks-are)) (exact .marks-are c .1 v)),
     )
 
 -- ---- which windows give the same
 
--- Locality: any reports that are the same in the marked cells, and others only in unmarked cells, give the same search.
-pub same-search : (q : Question) (hs hs′ : List Held) → Same (heldIn (searchOf (q .rule)) (marks (searchOf (q .rule)) (q .k) hs) hs) (heldIn (searchOf (q .rule)) (marks (searchOf (q .rule)) (q .k) hs) hs′) → searchedIn q hs ≡ searchedIn q hs′
+-- Locality: any reports of which the same count in the marked cells, whatever the others are, give the same search.
+pub same-search : (q : Question) (hs hs′ : List Held) → Same (countedIn (searchOf (q .rule)) (marks (searchOf (q .rule)) (q .k) hs) hs) (countedIn (searchOf (q .rule)) (marks (searchOf (q .rule)) (q .k) hs) hs′) → searchedIn q hs ≡ searchedIn q hs′
 unfolding searched
 same-search q hs hs′ same =
     ap₂ (λ n l. record { steps = n; question = asked (q .k) (q .rule) l (cellAt (q .rule) n) }) (alike .same-steps) (alike .same-list)
@@ -274,7 +271,7 @@ pub searched-held : (w : Window) → fitWindow w ≡ true → (q : Question) →
 unfolding searchedOn
 searched-held w fit q small =
     if-so (searchedIn q (inRows w)) (record { steps = 0; question = q }) (le-leb (q .k) 16 small)
-    ∙ same-search q (inRows w) (heldReports w) (over (inRows w) (heldReports w) (same .0), over (heldReports w) (inRows w) (same .1))
+    ∙ same-search q (inRows w) (heldReports w) both
   where
     same : Same (inRows w) (heldReports w)
     same = rows-held w fit
@@ -282,8 +279,10 @@ searched-held w fit q small =
     marked-in : Held → Bool
     marked-in h = has (cell (h .values)) (marks (searchOf (q .rule)) (q .k) (inRows w))
 
-    over : (rs rs′ : List Held) → rs ⊆ rs′ → only marked-in rs ⊆ only marked-in rs′
-    over rs rs′ f x m = let r = only-of marked-in rs m in only-in marked-in rs′ (f x (r .0)) (r .1)
+    both : Same (countedIn (searchOf (q .rule)) (marks (searchOf (q .rule)) (q .k) (inRows w)) (inRows w)) (countedIn (searchOf (q .rule)) (marks (searchOf (q .rule)) (q .k) (inRows w)) (heldReports w))
+    both =
+        same-only (isCounted (q .rule)) (only marked-in (inRows w)) (only marked-in (heldReports w))
+        (same-only marked-in (inRows w) (heldReports w) same)
 
 -- ---- by calls alone
 
@@ -292,15 +291,7 @@ module _ (w : Window) (fit : fitWindow w ≡ true) (q : Question) (positive : 1 
   abbrev hs : List Held
   hs = heldReports w
 
-  fewer : {A : Type 0} (p : A → Bool) (l : List A) → length (only p l) ≤ length l
-  fewer p [] = omega arith
-  fewer p (x ∷ l) = go (tested (p x)) (fewer p l)
-    where
-      go : Tested (p x) → length (only p l) ≤ length l → length (only p (x ∷ l)) ≤ suc (length l)
-      go (passed e) h = rw (e, only) (omega arith)
-      go (failed e) h = rw (e, only) (omega arith)
-
-  pub reached-fit : (n : ℕ) → n ≤ 256 → fitQuestion w (reached (q .k) (q .rule) hs n) ≡ true
+  pub reached-fit : (n : ℕ) → n ≤ mostSteps (q .rule) → fitQuestion w (reached (q .k) (q .rule) hs n) ≡ true
   unfolding reached
   reached-fit n h =
       fit-asked w fit (q .k) (q .rule) l (cellAt (q .rule) n)
@@ -308,13 +299,13 @@ module _ (w : Window) (fit : fitWindow w ≡ true) (q : Question) (positive : 1 
         positive = positive;
         small = small;
         rule-fits = fits;
-        cell-range = ⊎-elim near last (lt-or-eq h);
+        cell-fits = ⊎-elim near last (lt-or-eq h);
         short = short;
       })
       (λ e m.
       let r = top-of (q .rule) (q .k) inside (subst (λ z. e ∈ z) after m) in
-      moved (r .2) (entries-in (q .rule) (only-of (λ (h : Held). has (cell (h .values)) steppedLines) hs (r .1) .0)))
-      (best-falling (above (q .rule)) (above-strict (q .rule)) (q .k) (map (entry (q .rule)) inside))
+      moved (r .2) (entries-in (q .rule) (only-of (λ (h : Held). has (cell (h .values)) steppedLines) hs (r .1) .0) (r .3)))
+      (best-falling (above (q .rule)) (above-strict (q .rule)) (q .k) (map (entry (q .rule)) (counted (q .rule) inside)))
     where
       steppedLines : List ℕ
       steppedLines = take n (visiting (q .rule))
@@ -334,18 +325,15 @@ module _ (w : Window) (fit : fitWindow w ≡ true) (q : Question) (positive : 1 
             arith,
             ap length after,
             top-short (q .rule) (q .k) inside (pairwise-only (λ (a b : Held). a .number ≡ b .number → ⊥) (λ r. has (cell (r .values)) steppedLines) hs (held-distinct w)),
-            fewer (λ (r : Held). has (cell (r .values)) steppedLines) hs,
+            only-length (λ (r : Held). has (cell (r .values)) steppedLines) hs,
             length-held w,
           )
 
-      near : n < 256 → cellAt (q .rule) n ≤ 256
-      near g = less (cell-at (q .rule) n g)
-        where
-          less : {m : ℕ} → m < 256 → m ≤ 256
-          less k = omega arith
+      near : n < mostSteps (q .rule) → nextFits (q .rule) (cellAt (q .rule) n) ≡ true
+      near g = next-in (q .rule) (cellAt (q .rule) n) (cell-at (q .rule) n g)
 
-      last : n ≡ 256 → cellAt (q .rule) n ≤ 256
-      last e = le-of-eq (getD-past 256 (visiting (q .rule)) n (left-none (q .rule) n (le-of-eq (sym e))))
+      last : n ≡ mostSteps (q .rule) → nextFits (q .rule) (cellAt (q .rule) n) ≡ true
+      last e = next-none (q .rule) (cellAt (q .rule) n) (getD-past 256 (visiting (q .rule)) n (left-none (q .rule) n (le-of-eq (sym e))))
 
   -- every step before the end is answered, and comes to the question after one step more
   pub calls-step : (n : ℕ) → n < steps (searchOf (q .rule)) (q .k) hs → stepCall w (afterSteps n (begun q) hs) ≡ record { refusal = 0; question = afterSteps (suc n) (begun q) hs }
@@ -355,7 +343,7 @@ module _ (w : Window) (fit : fitWindow w ≡ true) (q : Question) (positive : 1 
       ∙ step-goes w here fit fit-here going
       ∙ ap (λ b. record { refusal = 0; question = b }) (step-held w here fit fit-here going ∙ ap (λ b. stepped b hs) (sym at))
     where
-      within : n ≤ 256
+      within : n ≤ mostSteps (q .rule)
       within = omega (arith, steps-bounded (q .rule) (q .k) hs)
 
       here : Question

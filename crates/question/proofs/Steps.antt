@@ -3,25 +3,24 @@
 use mathlib.Core.Path.{_≡_, sym, ap, _∙_}
 use mathlib.Core.Logic.{⊎-elim}
 use mathlib.Core.Bool.{Bool, false, not, _&&_, _||_}
-use mathlib.Core.List.{List, [], _∷_, _++_, map, Memᴰ·map, Memᴰ·of-map}
+use mathlib.Core.List.{List, [], _∷_, _++_, map}
 use Prim.Native.Nat.{ℕ, suc, _+_, _≤_, _<_}
-use native.Mathlib.Nat.{le-of-eq}
 use native.Mathlib.Numerals.{add-one}
 use native.Mathlib.Omega.{arith}
-use borrow.Author.Tests.{le-leb, lt-leb}
 use lib.Dec.{eqb}
 use lib.ListN.{length, take, drop}
 use Rattle.laws.specs.Lists.{onLast, only}
-use Rattle.laws.proofs.Lists.{Same, moved, getD-past, lt-or-eq, only-same}
-use Rattle.laws.proofs.Tests.{Tested, passed, failed, tested, clash}
+use Rattle.laws.proofs.Lists.{Same, getD-past, lt-or-eq, only-same}
+use Rattle.laws.proofs.Tests.{Tested, passed, failed, tested, clash, if-so}
 use Rattle.search.specs.Best.{best}
 use Rattle.search.specs.Search.{has, heldIn, listAfter, stops, ended, steps}
 use Rattle.search.proofs.Best.{length-best-le, best-same}
 use Rattle.search.proofs.Search.{list-zero, list-suc, ends}
 use Rattle.ranking.specs.declared.Rule.{Rule}
-use Rattle.ranking.specs.Cells.{cell, visiting, placeOf, cellAt}
-use Rattle.ranking.specs.Standing.{Held, Entry, above, entry, entries, top, reaches, searchOf}
-use Rattle.ranking.proofs.Entries.{above-strict, entries-in, entries-of}
+use Rattle.ranking.specs.Cells.{cell, mostSteps, visiting, inOrder, placeOf, cellAt, cellAfter}
+use Rattle.ranking.specs.Standing.{Held, Entry, above, counted, entry, entries, top, reaches, searchOf}
+use Rattle.ranking.proofs.Cells.{no-order}
+use Rattle.ranking.proofs.Entries.{above-strict}
 use Rattle.ranking.proofs.Scan.{place-at, cell-at, left-at, left-none}
 use Rattle.ranking.proofs.Standing.{steps-bounded}
 use Rattle.question.specs.declared.Question.{Question}
@@ -30,11 +29,9 @@ use Rattle.question.proofs.Stored.{lines-asked}
 use Rattle.question.proofs.Taking.{same-behind}
 
 -- what reports bring to a list is what a search takes them for
-pub entries-search : (rule : Rule) (hs : List Held) → Same (entries rule hs) (map (entry rule) hs)
-entries-search rule hs = (
-  λ e m. let r = entries-of rule hs m in moved (r .2) (Memᴰ·map (entry rule) (r .1)),
-  λ e m. let r = Memᴰ·of-map (entry rule) hs m in moved (r .2) (entries-in rule (r .1)),
-)
+pub entries-search : (rule : Rule) (hs : List Held) → Same (entries rule hs) (map (entry rule) (counted rule hs))
+unfolding entries
+entries-search rule hs = (λ e m. m, λ e m. m)
 
 -- a question after n steps of its search
 unfoldable pub reached : ℕ → Rule → List Held → ℕ → Question
@@ -42,7 +39,7 @@ reached k w hs n = asked k w (listAfter (searchOf w) k hs n) (cellAt w n)
 
 module _ (k : ℕ) (small : k ≤ 16) (w : Rule) (hs : List Held) where
   list-room : (n : ℕ) → length (listAfter (searchOf w) k hs n) ≤ 16
-  list-room n = omega (arith, length-best-le (above w) (above-strict w) k (map (entry w) (heldIn (searchOf w) (take n (visiting w)) hs)))
+  list-room n = omega (arith, length-best-le (above w) (above-strict w) k (map (entry w) (counted w (heldIn (searchOf w) (take n (visiting w)) hs))))
 
   pub reached-lines : (n : ℕ) → lines (reached k w hs n) ≡ listAfter (searchOf w) k hs n
   unfolding reached
@@ -58,19 +55,19 @@ module _ (k : ℕ) (small : k ≤ 16) (w : Rule) (hs : List Held) where
   after-top n =
       let inside = heldIn (searchOf w) (take n (visiting w)) hs in
       let same = entries-search w inside in
-      best-same (above w) (above-strict w) k (map (entry w) inside) (entries w inside) (same .1, same .0)
+      best-same (above w) (above-strict w) k (map (entry w) (counted w inside)) (entries w inside) (same .1, same .0)
 
   -- one step more
-  pub reached-more : (n : ℕ) → n < 256 → stepped (reached k w hs n) hs ≡ reached k w hs (suc n)
-  unfolding reached stepped
+  pub reached-more : (n : ℕ) → n < mostSteps w → stepped (reached k w hs n) hs ≡ reached k w hs (suc n)
+  unfolding reached stepped cellAfter
   reached-more n h =
       ap (λ l. asked k w (best (above w) k (l ++ entries w (only (inCell (cellAt w n)) hs))) after) (reached-lines n)
       ∙ ap (λ r. asked k w (best (above w) k (listAfter (searchOf w) k hs n ++ entries w r)) after)
       (only-same (inCell (cellAt w n)) (λ r. has (cell (r .values)) (cellAt w n ∷ [])) hs (λ r m. one (cell (r .values))))
       ∙ ap (λ l. asked k w l after)
-      (best-same (above w) (above-strict w) k (old ++ entries w new) (old ++ map (entry w) new) (same-behind old (entries w new) (map (entry w) new) (entries-search w new))
+      (best-same (above w) (above-strict w) k (old ++ entries w new) (old ++ map (entry w) (counted w new)) (same-behind old (entries w new) (map (entry w) (counted w new)) (entries-search w new))
       ∙ sym (list-suc (searchOf w) (above-strict w) k hs n (cellAt w n) (drop (suc n) (visiting w)) (left-at w n h)))
-      ∙ ap (λ m. asked k w (listAfter (searchOf w) k hs (suc n)) (cellAt w m)) (ap (λ m. m + 1) (place-at w n h) ∙ add-one n)
+      ∙ ap (asked k w (listAfter (searchOf w) k hs (suc n))) (then ∙ ap (cellAt w) (ap (λ m. m + 1) (place-at w n h) ∙ add-one n))
     where
       old : List Entry
       old = listAfter (searchOf w) k hs n
@@ -79,7 +76,10 @@ module _ (k : ℕ) (small : k ≤ 16) (w : Rule) (hs : List Held) where
       new = heldIn (searchOf w) (cellAt w n ∷ []) hs
 
       after : ℕ
-      after = cellAt w (placeOf w (cellAt w n) + 1)
+      after = cellAfter w (cellAt w n)
+
+      then : cellAfter w (cellAt w n) ≡ cellAt w (placeOf w (cellAt w n) + 1)
+      then = if-so (cellAt w (placeOf w (cellAt w n) + 1)) 256 (cell-at w n h)
 
       one : (c : ℕ) → eqb c (cellAt w n) ≡ has c (cellAt w n ∷ [])
       one c = go (tested (eqb c (cellAt w n)))
@@ -89,7 +89,7 @@ module _ (k : ℕ) (small : k ≤ 16) (w : Rule) (hs : List Held) where
           go (failed e) = rw (e, has)
 
   -- it has ended when the search has
-  pub reached-end : (n : ℕ) → n ≤ 256 → finished (reached k w hs n) ≡ ended (searchOf w) k hs n
+  pub reached-end : (n : ℕ) → n ≤ mostSteps w → finished (reached k w hs n) ≡ ended (searchOf w) k hs n
   unfolding reached finished
   reached-end n h = ⊎-elim some-left none (lt-or-eq h)
     where
@@ -99,19 +99,19 @@ module _ (k : ℕ) (small : k ≤ 16) (w : Rule) (hs : List Held) where
       short : List Entry → Bool
       short m = eqb (length l) k && onLast (λ e. not (reaches w (cellAt w n) e)) m
 
-      some-left : n < 256 → finished (reached k w hs n) ≡ ended (searchOf w) k hs n
+      some-left : n < mostSteps w → finished (reached k w hs n) ≡ ended (searchOf w) k hs n
       some-left g =
-          ap (λ b. b || short (lines (reached k w hs n))) (lt-leb 256 (cellAt w n) (cell-at w n g))
+          ap (λ b. not b || short (lines (reached k w hs n))) (cell-at w n g)
           ∙ ap short (reached-lines n)
           ∙ sym (ap (stops (searchOf w) k l) (left-at w n g))
 
-      none : n ≡ 256 → finished (reached k w hs n) ≡ ended (searchOf w) k hs n
+      none : n ≡ mostSteps w → finished (reached k w hs n) ≡ ended (searchOf w) k hs n
       none e =
           let left = left-none w n (omega arith) in
-          ap (λ b. b || short (lines (reached k w hs n))) (le-leb 256 (cellAt w n) (le-of-eq (sym (getD-past 256 (visiting w) n left))))
+          ap (λ b. not b || short (lines (reached k w hs n))) (ap (inOrder w) (getD-past 256 (visiting w) n left) ∙ no-order w)
           ∙ sym (ap (stops (searchOf w) k l) left)
 
-  within : (n : ℕ) → n ≤ steps (searchOf w) k hs → n ≤ 256
+  within : (n : ℕ) → n ≤ steps (searchOf w) k hs → n ≤ mostSteps w
   within n h = omega (arith, steps-bounded w k hs)
 
   -- a search that has not ended has not taken all its steps

@@ -2,24 +2,24 @@
 -- Assumes nothing.
 use mathlib.Core.Path.{_≡_, sym, ap, ap₂, _∙_}
 use mathlib.Core.Logic.{⊎-elim}
-use mathlib.Core.Bool.{true, false, _&&_, and-false}
-use mathlib.Core.List.{List, [], _∷_, _++_, append-nil, List·Memᴰ·head, List·Memᴰ·cases-cons, Memᴰ·append-left, Memᴰ·append-right, List·Memᴰ·append-cases}
+use mathlib.Core.Bool.{true, false}
+use mathlib.Core.List.{List, _∷_, _++_, append-nil, List·Memᴰ·head, List·Memᴰ·cases-cons, Memᴰ·append-left, Memᴰ·append-right, List·Memᴰ·append-cases}
 use Prim.Native.Nat.{ℕ, suc, _+_, min, _≤_, _<_}
 use native.Mathlib.Numerals.{add-one}
 use native.Mathlib.Omega.{arith}
-use borrow.Author.Tests.{lt-leb, le-leb, le-ltb, lt-ltb}
-use lib.Dec.{eqb, leb, ltb}
+use borrow.Author.Tests.{lt-leb, le-leb}
+use lib.Dec.{eqb, leb}
 use lib.ListN.{length, take, getD, length-take}
 use lib.Seq.{take-take}
 use Rattle.laws.specs.Lists.{only}
 use Rattle.laws.proofs.Lists.{_⊆_, Same, there, only-yes, only-no}
-use Rattle.laws.proofs.Tests.{Tested, passed, failed, tested, and-true, if-so, if-not}
+use Rattle.laws.proofs.Tests.{Tested, passed, failed, tested, and-true, and-stops, and-no, if-so, if-not}
 use Rattle.search.specs.Best.{best, placed}
 use Rattle.search.proofs.Best.{best-cons, best-append, best-same, length-best-le}
 use Rattle.ranking.specs.declared.Rule.{Rule}
-use Rattle.ranking.specs.Cells.{placeOf, cellAt}
-use Rattle.ranking.specs.Standing.{Held, Entry, above, entry, entries}
-use Rattle.ranking.proofs.Entries.{above-strict, entries-none, entries-one, entries-append}
+use Rattle.ranking.specs.Cells.{inOrder, cellAfter}
+use Rattle.ranking.specs.Standing.{Held, Entry, above, isCounted, entry, entries}
+use Rattle.ranking.proofs.Entries.{above-strict, entries-none, entries-cons, entries-out}
 use Rattle.window.specs.declared.Window.{Window}
 use Rattle.window.specs.Rows.{reportIn, standing}
 use Rattle.list.proofs.Stored.{fewest, lines-back}
@@ -35,10 +35,6 @@ same-behind {A} l m n s = (over m n (s .0), over n m (s .1))
     over : (a b : List A) → a ⊆ b → (l ++ a) ⊆ (l ++ b)
     over a b f e k = ⊎-elim (λ h. Memᴰ·append-left b h) (λ h. Memᴰ·append-right l (f e h)) (List·Memᴰ·append-cases l k)
 
--- what one report more brings
-entries-cons : (rule : Rule) (h : Held) (hs : List Held) → entries rule (h ∷ hs) ≡ entry rule h ∷ entries rule hs
-entries-cons rule h hs = entries-append rule (h ∷ []) hs ∙ ap (λ l. l ++ entries rule hs) (entries-one rule h)
-
 -- ---- one row
 
 module _ (q : Question) (h : Held) where
@@ -50,9 +46,13 @@ module _ (q : Question) (h : Held) where
   unfolding taking
   taking-other e f = if-not _ _ e ∙ if-not _ _ f
 
-  pub taking-here : eqb (h .number) 0 ≡ false → inCell (q .next) h ≡ true → taking q h ≡ cutWith q (entry (q .rule) h)
+  pub taking-out : eqb (h .number) 0 ≡ false → inCell (q .next) h ≡ true → isCounted (q .rule) h ≡ false → taking q h ≡ q
   unfolding taking
-  taking-here e f = if-not _ _ e ∙ if-so _ _ f
+  taking-out e f g = if-not _ _ e ∙ if-so _ _ f ∙ if-not _ _ g
+
+  pub taking-here : eqb (h .number) 0 ≡ false → inCell (q .next) h ≡ true → isCounted (q .rule) h ≡ true → taking q h ≡ cutWith q (entry (q .rule) h)
+  unfolding taking
+  taking-here e f g = if-not _ _ e ∙ if-so _ _ f ∙ if-so _ _ g
 
 -- ---- one entry
 
@@ -81,7 +81,7 @@ within-joined q x = ap (withList q) (fewest (q .k) 16 whole ∙ ap (take (q .k))
 module _ (q : Question) (small : q .k ≤ 16) (w : Window) where
   -- one row more
   pub taken-more : (row : ℕ) → taking (listTaken q w row) (reportIn w row) ≡ listTaken q w (row + 1)
-  taken-more row = go (tested (eqb (getD (w .numbers) row 0) 0)) (tested (inCell (q .next) (reportIn w row))) ∙ ap (listTaken q w) (sym (add-one row))
+  taken-more row = go (tested (eqb (getD (w .numbers) row 0) 0)) (tested (inCell (q .next) (reportIn w row))) (tested (isCounted (q .rule) (reportIn w row))) ∙ ap (listTaken q w) (sym (add-one row))
     where
       e : Entry
       e = entry (q .rule) (reportIn w row)
@@ -111,17 +111,22 @@ module _ (q : Question) (small : q .k ≤ 16) (w : Window) where
               (λ h. ⊎-elim (λ t. Memᴰ·append-left (e ∷ old) t) (λ t. Memᴰ·append-right (lines q) (there t)) (List·Memᴰ·append-cases (lines q) h))
               (List·Memᴰ·cases-cons m)
 
-      go : Tested (eqb (getD (w .numbers) row 0) 0) → Tested (inCell (q .next) (reportIn w row)) → taking (listTaken q w row) (reportIn w row) ≡ listTaken q w (suc row)
-      go (passed z) t = taking-none (listTaken q w row) (reportIn w row) z ∙ ap rows (sym (if-so (standing w row) (reportIn w row ∷ standing w row) z))
-      go (failed z) (failed t) =
+      go : Tested (eqb (getD (w .numbers) row 0) 0) → Tested (inCell (q .next) (reportIn w row)) → Tested (isCounted (q .rule) (reportIn w row)) → taking (listTaken q w row) (reportIn w row) ≡ listTaken q w (suc row)
+      go (passed z) t u = taking-none (listTaken q w row) (reportIn w row) z ∙ ap rows (sym (if-so (standing w row) (reportIn w row ∷ standing w row) z))
+      go (failed z) (failed t) u =
           taking-other (listTaken q w row) (reportIn w row) z t
           ∙ ap (λ hs. listing (lines q ++ entries (q .rule) hs)) (sym (only-no (inCell (q .next)) (reportIn w row) (standing w row) t))
           ∙ ap rows (sym (if-not (standing w row) (reportIn w row ∷ standing w row) z))
-      go (failed z) (passed t) =
-          taking-here (listTaken q w row) (reportIn w row) z t
+      go (failed z) (passed t) (failed u) =
+          taking-out (listTaken q w row) (reportIn w row) z t u
+          ∙ ap (λ l. listing (lines q ++ l)) (sym (entries-out (q .rule) (reportIn w row) (only (inCell (q .next)) (standing w row)) u))
+          ∙ ap (λ hs. listing (lines q ++ entries (q .rule) hs)) (sym (only-yes (inCell (q .next)) (reportIn w row) (standing w row) t))
+          ∙ ap rows (sym (if-not (standing w row) (reportIn w row ∷ standing w row) z))
+      go (failed z) (passed t) (passed u) =
+          taking-here (listTaken q w row) (reportIn w row) z t u
           ∙ joined-best (q .k) (q .rule) (lines q ++ old) (q .next) e small
           ∙ ap (withList q) (sym middle)
-          ∙ ap (λ l. listing (lines q ++ l)) (sym (entries-cons (q .rule) (reportIn w row) (only (inCell (q .next)) (standing w row))))
+          ∙ ap (λ l. listing (lines q ++ l)) (sym (entries-cons (q .rule) (reportIn w row) (only (inCell (q .next)) (standing w row)) u))
           ∙ ap (λ hs. listing (lines q ++ entries (q .rule) hs)) (sym (only-yes (inCell (q .next)) (reportIn w row) (standing w row) t))
           ∙ ap rows (sym (if-not (standing w row) (reportIn w row ∷ standing w row) z))
 
@@ -153,18 +158,17 @@ module _ (q first : Question) (small : q .k ≤ 16) (e : first ≡ withList q (b
 module _ (q : Question) (w : Window) where
   pub step-wide : 16 < q .k → stepOn q w ≡ q
   unfolding stepOn
-  step-wide h = if-not (stepped q (inRows w)) q (ap (λ b. b && ltb (q .next) 256) (lt-leb (q .k) 16 h))
+  step-wide h = if-not (stepped q (inRows w)) q (and-stops (inOrder (q .rule) (q .next)) (lt-leb (q .k) 16 h))
 
-  pub step-none : 256 ≤ q .next → stepOn q w ≡ q
+  pub step-none : inOrder (q .rule) (q .next) ≡ false → stepOn q w ≡ q
   unfolding stepOn
-  step-none h =
-      if-not (stepped q (inRows w)) q (ap (λ b. leb (q .k) 16 && b) (le-ltb (q .next) 256 h) ∙ and-false (leb (q .k) 16))
+  step-none h = if-not (stepped q (inRows w)) q (and-no (leb (q .k) 16) h)
 
-  module _ (small : q .k ≤ 16) (left : q .next < 256) where
+  module _ (small : q .k ≤ 16) (left : inOrder (q .rule) (q .next) ≡ true) where
     pub step-is : stepOn q w ≡ stepped q (inRows w)
     unfolding stepOn
-    step-is = if-so (stepped q (inRows w)) q (and-true (le-leb (q .k) 16 small) (lt-ltb (q .next) 256 left))
+    step-is = if-so (stepped q (inRows w)) q (and-true (le-leb (q .k) 16 small) left)
 
-    pub step-taken : stepOn q w ≡ withNext (listTaken q w 1024) (cellAt (q .rule) (placeOf (q .rule) (q .next) + 1))
+    pub step-taken : stepOn q w ≡ withNext (listTaken q w 1024) (cellAfter (q .rule) (q .next))
     unfolding stepped inRows
     step-taken = step-is

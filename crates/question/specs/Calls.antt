@@ -1,12 +1,12 @@
 -- Which questions are fit, and what a step and a beginning answer (docs/RULES.md, section 9).
 use Prim.Native.Nat.{ℕ, _+_, min}
-use mathlib.Core.Bool.{Bool, cond, _&&_}
+use mathlib.Core.Bool.{Bool, cond, _&&_, _||_}
 use lib.ListN.{drop}
-use lib.Dec.{leb, ltb}
+use lib.Dec.{leb, ltb, eqb}
 use Rattle.laws.specs.Whole.{equal}
 use Rattle.ranking.specs.declared.Rule.{Rule}
-use Rattle.ranking.specs.Cells.{cellCount, fitRule}
-use Rattle.ranking.specs.Standing.{Entry, above, entry}
+use Rattle.ranking.specs.Cells.{cellCount, fitRule, inOrder}
+use Rattle.ranking.specs.Standing.{Held, Entry, above, isCounted, entry}
 use Rattle.window.specs.declared.Counts.{Counts}
 use Rattle.window.specs.declared.Window.{Window}
 use Rattle.window.specs.Rows.{sized, rowOf, reportIn, heldReports, fitWindow}
@@ -20,17 +20,24 @@ use Rattle.question.specs.declared.Stepped.{Stepped}
 unfoldable pub holdsNumber : Counts → ℕ → Bool
 holdsNumber c m = sized (c .size) && leb 1 m && leb m (c .entered) && ltb (c .entered) (m + c .held)
 
--- A line names a report that is held, with its score, as its row has it.
+-- Rules 9.5 and 16.6: a line is that of a report that counts.
+abbrev pub isLineOf : Rule → Entry → Held → Bool
+isLineOf rule e h = isCounted rule h && equal (e .score) (entry rule h .score)
+
+-- A line names a report that is held and counts, with its score, as its row has it.
 unfoldable pub heldAs : Window → Rule → Entry → Bool
-heldAs w rule e =
-    holdsNumber (w .counts) (e .number) && equal (e .score) (entry rule (reportIn w (rowOf (w .counts .size) (e .number))) .score)
+heldAs w rule e = holdsNumber (w .counts) (e .number) && isLineOf rule e (reportIn w (rowOf (w .counts .size) (e .number)))
+
+-- Rules 9.5 and 16.6: the cell that is next is in the visiting order, or none is.
+unfoldable pub nextFits : Rule → ℕ → Bool
+nextFits rule next = eqb next cellCount || inOrder rule next
 
 -- Rule 9.5: every number is in its range, and the list has at most k lines, and no more than reports are held.
 unfoldable pub rangesFit : Question → ℕ → Bool
 rangesFit q held =
-    leb 1 (q .k) && leb (q .k) mostLines && fitRule (q .rule) && leb (q .next) cellCount && leb (q .len) (min (q .k) held)
+    leb 1 (q .k) && leb (q .k) mostLines && fitRule (q .rule) && nextFits (q .rule) (q .next) && leb (q .len) (min (q .k) held)
 
--- Rules 9.5 and 9.6: each line names a held report with its score, the lines fall in rank, and places past the list's end are 0.
+-- Rules 9.5 and 9.6: each line names a held report that counts, with its score, the lines fall in rank, and places past the list's end are 0.
 unfoldable pub fitQuestion : Window → Question → Bool
 fitQuestion w q =
     rangesFit q (w .counts .held)

@@ -2,7 +2,7 @@
 use Prim.Native.Nat.{ℕ, min}
 use mathlib.Core.Bool.{cond, _&&_}
 use lib.Dec.{eqb}
-use Rattle.ranking.specs.Standing.{Held, entry}
+use Rattle.ranking.specs.Standing.{Held, isCounted, entry}
 use Rattle.window.specs.declared.Window.{Window}
 use Rattle.window.specs.Rows.{standing, fitWindow}
 use Rattle.list.specs.Lines.{mostLines}
@@ -14,10 +14,10 @@ use Rattle.question.specs.declared.Question.{Question}
 abbrev pub lineCount : Question → ℕ
 lineCount q = min (q .len) mostLines
 
--- The report of one row joins the lines, if there is one and it lies in the next cell.
+-- The report of one row joins the lines, if there is one, it lies in the next cell, and it counts.
 unfoldable pub taking : Question → Held → Question
 taking q h =
-    cond (eqb (h .number) 0) q (cond (inCell (q .next) h) (cutWith q (entry (q .rule) h)) q)
+    cond (eqb (h .number) 0) q (cond (inCell (q .next) h) (cond (isCounted (q .rule) h) (cutWith q (entry (q .rule) h)) q) q)
 
 -- The best k of the lines and of the next cell's reports in the first `n` rows.
 abbrev pub listTaken : Question → Window → ℕ → Question

@@ -1,14 +1,14 @@
 -- A question as it is stored, and what its search does to it (docs/RULES.md, sections 6 and 7).
-use Prim.Native.Nat.{ℕ, zero, suc, _+_}
-use mathlib.Core.Bool.{Bool, cond, not, _&&_, _||_}
+use Prim.Native.Nat.{ℕ, zero, suc}
+use mathlib.Core.Bool.{Bool, true, cond, not, _&&_, _||_}
 use mathlib.Core.List.{List, [], _++_, map}
 use lib.ListN.{length, take}
-use lib.Dec.{leb, ltb, eqb}
+use lib.Dec.{leb, eqb}
 use Rattle.laws.specs.Lists.{onLast, only}
 use Rattle.search.specs.Best.{best, placed}
 use Rattle.search.specs.Search.{has, steps, found}
 use Rattle.ranking.specs.declared.Rule.{Rule}
-use Rattle.ranking.specs.Cells.{noRule, cell, cellCount, cells, visiting, placeOf, cellAt, reaching}
+use Rattle.ranking.specs.Cells.{noRule, cell, cellCount, before, cells, mostSteps, visiting, inOrder, cellAt, cellAfter, stepsTo, reaching}
 use Rattle.ranking.specs.Standing.{Held, Entry, above, entries, reaches, searchOf}
 use Rattle.window.specs.declared.Window.{Window}
 use Rattle.window.specs.Rows.{rowCount, standing}
@@ -48,8 +48,8 @@ abbrev pub emptySlot : Question
 emptySlot = asked 0 noRule [] 0
 
 -- The steps that the search has taken: the cells before the next one in the visiting order, all of them where none is left.
-unfoldable pub stepsTaken : Question → ℕ
-stepsTaken q = cond (ltb (q .next) cellCount) (placeOf (q .rule) (q .next)) cellCount
+abbrev pub stepsTaken : Question → ℕ
+stepsTaken q = stepsTo (q .rule) (q .next)
 
 -- Rule 7.5: the cells that the search has taken are the marked ones.
 unfoldable pub marked : Question → List ℕ
@@ -58,6 +58,10 @@ marked q = take (stepsTaken q) (visiting (q .rule))
 -- The cell is among them.
 unfoldable pub isMarked : Question → ℕ → Bool
 isMarked q c = has c (marked q)
+
+-- The search has come past the cell, if it can take it: for a cell of the order, that is its mark.
+unfoldable pub isPast : Question → ℕ → Bool
+isPast q c = cond (inOrder (q .rule) (q .next)) (before (q .rule) c (q .next)) true
 
 -- Of each cell, whether it is marked.
 unfoldable pub marksOf : Question → List Bool
@@ -74,7 +78,7 @@ cutToK q = withList q (take (q .k) (lines q))
 -- Rule 7.6: the search has ended: no cell is left, or the list has k lines and the next cell doesn't reach the last of them.
 unfoldable pub finished : Question → Bool
 finished q =
-    leb cellCount (q .next) || eqb (q .len) (q .k) && onLast (λ e. not (reaches (q .rule) (q .next) e)) (lines q)
+    not (inOrder (q .rule) (q .next)) || eqb (q .len) (q .k) && onLast (λ e. not (reaches (q .rule) (q .next) e)) (lines q)
 
 -- Rule 7.8: a search begun: no line, no mark, no step taken.
 abbrev pub begun : Question → Question
@@ -92,7 +96,7 @@ steppedLines q hs =
 -- Rule 7.7: a step: that list, and one cell more is marked.
 unfoldable pub stepped : Question → List Held → Question
 stepped q hs =
-    asked (q .k) (q .rule) (steppedLines q hs) (cellAt (q .rule) (placeOf (q .rule) (q .next) + 1))
+    asked (q .k) (q .rule) (steppedLines q hs) (cellAfter (q .rule) (q .next))
 
 -- n steps, one after the other.
 unfoldable pub afterSteps : ℕ → Question → List Held → Question
@@ -115,7 +119,7 @@ inRows w = standing w rowCount
 
 -- A step on whatever stands in a window's rows; none, where k is over 16 or no cell is left.
 unfoldable pub stepOn : Question → Window → Question
-stepOn q w = cond (leb (q .k) mostLines && ltb (q .next) cellCount) (stepped q (inRows w)) q
+stepOn q w = cond (leb (q .k) mostLines && inOrder (q .rule) (q .next)) (stepped q (inRows w)) q
 
 -- A search of whatever stands in a window's rows, and its steps; none, where k is over 16.
 unfoldable pub searchedOn : Question → Window → Searched
@@ -142,7 +146,7 @@ endedOf q =
       steps = reaching (q .rule) (barOf q .score);
       question = withNext q (cellAt (q .rule) (reaching (q .rule) (barOf q .score)));
     })
-    (record { steps = cellCount; question = withNext q cellCount })
+    (record { steps = mostSteps (q .rule); question = withNext q cellCount })
 
 -- One entry among the first k.
 abbrev pub cutWith : Question → Entry → Question

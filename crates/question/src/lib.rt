@@ -9,13 +9,14 @@ ghost use Rattle.ranking.specs.Standing.{above};
 ghost use Rattle.window.specs.Rows.{rowCount};
 ghost use Rattle.list.specs.Lines.{mostLines, linesOf, allOf, blank};
 ghost use Rattle.list.specs.Rows.{rowsOf};
-ghost use Rattle.question.specs.Lines.{asked, listOf, holding, withList, lines, emptySlot, withEntry, cutToK, finished, begun, stepOn, searchedOn, searchedFirst, stepsTaken, isMarked, marksOf, endedOf, withNext, cutWith};
-ghost use Rattle.question.specs.Calls.{holdsNumber, heldAs, rangesFit, fitQuestion, stepCall, beginCall};
+ghost use Rattle.question.specs.Lines.{asked, listOf, holding, withList, lines, emptySlot, withEntry, cutToK, finished, begun, stepOn, searchedOn, searchedFirst, stepsTaken, isMarked, isPast, marksOf, endedOf, withNext, cutWith};
+ghost use Rattle.question.specs.Calls.{holdsNumber, heldAs, nextFits, rangesFit, fitQuestion, stepCall, beginCall};
 ghost use Rattle.question.specs.Inner.{taking, listTaken, stepRefusal};
 use list::Lines;
 use list::gathered;
 use ranking::Grid;
 use ranking::Rule;
+use ranking::Score;
 use values::Values;
 use window::Counts;
 use window::Window;
@@ -141,7 +142,7 @@ impl Question {
         ensures { λ r. ⌜ r ≡ finished self ⌝ }
     {
         let next = self.next;
-        if Grid::CELLS <= next {
+        if !self.rule.in_order(next) {
             return true;
         }
         let bar = self.list().bar(self.k);
@@ -155,7 +156,7 @@ impl Question {
     fn begun(self) -> Question
         ensures { λ r. ⌜ r ≡ begun self ⌝ }
     {
-        Question::without_lines(self.k, self.rule, self.rule.first_cell() as u16)
+        Question::without_lines(self.k, self.rule, self.rule.first_cell())
     }
 
     // The best k of the lines.
@@ -166,7 +167,7 @@ impl Question {
         self.holding(self.list().best(self.rule, self.k as usize))
     }
 
-    // The report of one row joins the lines, if it lies in the next cell.
+    // The report of one row joins the lines, if it lies in the next cell and counts.
     fn taking(self, number: u32, values: Values) -> Question
         ensures { λ r. ⌜ r ≡ taking self (record { number = number; values = low values }) ⌝ }
     {
@@ -178,7 +179,10 @@ impl Question {
         if cell != next {
             return self;
         }
-        self.cut_with(number, self.rule.score(values))
+        match self.rule.score(values) {
+            Score::Scored(score) => self.cut_with(number, score),
+            Score::DoesNotCount => self,
+        }
     }
 
     // The best k of the lines and of the next cell's reports.
@@ -214,11 +218,11 @@ impl Question {
         if Question::LINES < self.k {
             return self;
         }
-        if Grid::CELLS <= next {
+        if !self.rule.in_order(next) {
             return self;
         }
         let list = self.list_taken(window);
-        list.with_next(self.rule.next_cell(next as u8))
+        list.with_next(self.rule.next_cell(next))
     }
 
     // A search from its beginning to its end, whatever the window's rows hold; none, where k is over 16.
@@ -266,7 +270,7 @@ impl Question {
             };
         }
         Searched {
-            steps: Grid::CELLS,
+            steps: self.rule.most_steps(),
             question: self.with_next(Grid::CELLS),
         }
     }
@@ -275,19 +279,25 @@ impl Question {
     pub fn steps(self) -> u16
         ensures { λ r. ⌜ r ≡ stepsTaken self ⌝ }
     {
-        let next = self.next;
-        if next < Grid::CELLS {
-            return self.rule.place_of(next as u8);
-        }
-        Grid::CELLS
+        self.rule.steps_to(self.next)
     }
 
     // The search has taken this cell.
     pub fn is_marked(self, cell: u8) -> bool
         ensures { λ r. ⌜ r ≡ isMarked self cell ⌝ }
     {
+        if self.rule.cell_counts(cell) {
+            return self.is_past(cell);
+        }
+        false
+    }
+
+    // The search has taken this cell, if it can be taken: so it is for a report that counts.
+    pub fn is_past(self, cell: u8) -> bool
+        ensures { λ r. ⌜ r ≡ isPast self cell ⌝ }
+    {
         let next = self.next;
-        if next < Grid::CELLS {
+        if self.rule.in_order(next) {
             return self.rule.before(cell, next as u8);
         }
         true
@@ -306,8 +316,8 @@ impl Question {
         marks
     }
 
-    // Every stored number is in its range, and the lines are reports that the window holds, with their scores, strictly
-    // falling in rank. Of the window itself `Window::fit` speaks.
+    // Every stored number is in its range, and the lines are reports that the window holds and that count, with their
+    // scores, strictly falling in rank. Of the window itself `Window::fit` speaks.
     pub fn fit(self, window: Window) -> bool
         ensures { λ r. ⌜ r ≡ fitQuestion window self ⌝ }
     {
@@ -391,7 +401,7 @@ impl Question {
         if !self.rule.fit() {
             return false;
         }
-        if Grid::CELLS < self.next {
+        if !self.next_fits() {
             return false;
         }
         if k < len {
@@ -400,7 +410,18 @@ impl Question {
         len as u16 <= held
     }
 
-    // Every line names a report that the window holds, with its score.
+    // The next cell is one that can be taken, or CELLS.
+    fn next_fits(self) -> bool
+        ensures { λ r. ⌜ r ≡ nextFits (self .rule) (self .next) ⌝ }
+    {
+        let next = self.next;
+        if next == Grid::CELLS {
+            return true;
+        }
+        self.rule.in_order(next)
+    }
+
+    // Every line names a report that the window holds and that counts, with its score.
     fn lines_held(self, window: Window) -> bool
         ensures { λ r. ⌜ r ≡ allOf (heldAs window (self .rule)) (lines self) ⌝ }
     {
@@ -423,7 +444,7 @@ impl Question {
     }
 }
 
-// The window holds the report of that number, with that score.
+// The window holds the report of that number, and it counts, with that score.
 fn held_as(window: Window, rule: Rule, number: u32, score: i32) -> bool
     ensures { λ r. ⌜ r ≡ heldAs window rule (record { number = number; score = score }) ⌝ }
 {
@@ -434,7 +455,10 @@ fn held_as(window: Window, rule: Rule, number: u32, score: i32) -> bool
     let row = ((number - 1) % (counts.size as u32)) as usize;
     let loss = window.losses[row];
     let shake = window.shakes[row];
-    score == rule.score(Values { loss, shake })
+    match rule.score(Values { loss, shake }) {
+        Score::Scored(own) => score == own,
+        Score::DoesNotCount => false,
+    }
 }
 
 // A window of these counts holds the report of that number.

@@ -1,29 +1,32 @@
--- The visiting order holds each cell once, by falling best possible score; a score is at most its cell's best, which the cell's corner attains; scores fit 32 bits.
+-- The visiting order holds each cell that counts once, by falling best possible score; a score is at most its cell's best, which the corner in cell and ranges attains; scores fit 32 bits.
 -- Assumes nothing.
 use mathlib.Core.Path.{_≡_, refl, sym, ap, _∙_, subst}
 use mathlib.Core.Logic.{_⊎_, inl, inr, ⊎-elim}
-use mathlib.Core.Bool.{Bool, true, false}
+use mathlib.Core.Bool.{Bool, true, false, _&&_}
 use mathlib.Core.List.{List, [], _∷_, List·Memᴰ·head, List·Memᴰ·cases-cons, List·Memᴰ·not-nil}
 use Prim.Native.Nat.{ℕ, zero, suc, _+_, _*_, _-_, _/_, _%_, _≤_, _<_}
 use native.Mathlib.Nat.{le-of-suc-le-suc, mul-le-mul, not-suc-le-zero}
 use native.Mathlib.Omega.{arith}
-use borrow.Author.Tests.{lt-ltb, leb-true}
+use borrow.Author.Tests.{lt-ltb, ltb-true, le-leb, leb-true}
 use lib.Dec.{ltb, leb}
 use lib.ListN.{length}
 use lib.IntN.{ℤ, pos, negsuc, natAbs, _*ℤ_}
-use lib.Signed.{ltZ, natAbs-le}
+use lib.Signed.{ltZ, mag, natAbs-le}
 use mir.Syntax.{w16, w32}
 use mir.Val.{SFits}
-use Rattle.laws.specs.Lists.{_∈_}
+use Rattle.laws.specs.Lists.{_∈_, only}
 use Rattle.values.specs.declared.Values.{Values}
 use Rattle.values.specs.Range.{inRange}
 use Rattle.values.proofs.Facts.{range-facts, range-is}
-use Rattle.ranking.specs.Cells.{weightFits, fitRule, score, cell, corner, cornerOf, bestScore, greater, before, numbersBelow, cells, visiting}
+use Rattle.ranking.specs.Cells.{inside, weightFits, weightsFit, isProper, rangesProper, fitRule, counts, sum, score, isScored, points, ScoreFits, fromLeast, cell, meets, cellCounts, nearest, corner, cornerOf, bestScore, greater, before, numbersBelow, cells, countedCells, mostSteps, visiting, inOrder}
+use Rattle.ranking.specs.declared.Range.{Range}
 use Rattle.ranking.specs.declared.Rule.{Rule}
-use Rattle.laws.proofs.Tests.{Tested, passed, failed, tested, clash, and-both}
-use Rattle.laws.proofs.Lists.{Pairwise, Distinct, Same, there, pairwise-map, lt-or-eq}
+use Rattle.ranking.specs.declared.Score.{Score}
+use Rattle.ranking.specs.declared.Score.the-variants.{Scored, DoesNotCount}
+use Rattle.laws.proofs.Tests.{Tested, passed, failed, tested, clash, and-both, and-true, if-so, if-not}
+use Rattle.laws.proofs.Lists.{Pairwise, Distinct, Other, Same, there, pairwise-map, pairwise-only, only-in, only-of, only-only, only-length, same-only, lt-or-eq}
 use Rattle.laws.proofs.Orders.{StrictTotal, one-way, ltb-strict}
-use Rattle.search.proofs.Best.{Falling, rank-in, rank-of, rank-falling, falling-distinct, length-rank}
+use Rattle.search.proofs.Best.{Falling, rank-in, rank-of, rank-falling, falling-distinct, length-rank, length-same}
 use Rattle.laws.proofs.Whole.{ltZ-strict, Up, up-le, up-sum, up-times, down-times, mag-le, abs-times, abs-sum}
 
 -- ---- by a number, and then by a tie
@@ -161,27 +164,61 @@ cells-distinct = pairwise-map apart cells (count-rises 256 [] (λ c m. absurd (L
 -- ---- the visiting order
 
 module _ (rule : Rule) where
-  pub visiting-in : (c : ℕ) → c < 256 → c ∈ visiting rule
-  unfolding visiting
-  visiting-in c h = rank-in (before rule) (before-strict rule) cells c (cells-in c h)
+  pub in-order : (c : ℕ) → inOrder rule c ≡ true → (c < 256) × (cellCounts rule c ≡ true)
+  unfolding inOrder
+  in-order c h = let both = and-both (ltb c 256) (cellCounts rule c) h in (ltb-true c 256 (both .0), both .1)
 
-  pub visiting-of : (c : ℕ) → c ∈ visiting rule → c < 256
-  unfolding visiting
-  visiting-of c m = cells-of c (rank-of (before rule) (before-strict rule) cells c m)
+  pub order-in : (c : ℕ) → c < 256 → cellCounts rule c ≡ true → inOrder rule c ≡ true
+  unfolding inOrder
+  order-in c h t = and-true (lt-ltb c 256 h) t
 
-  pub visiting-same : Same cells (visiting rule)
-  visiting-same = (λ c m. visiting-in c (cells-of c m), λ c m. cells-in c (visiting-of c m))
+  -- 256 is no cell
+  pub no-order : inOrder rule 256 ≡ false
+  unfolding inOrder
+  no-order = refl
+
+  counted-in : (c : ℕ) → inOrder rule c ≡ true → c ∈ countedCells rule
+  counted-in c h = let both = in-order c h in only-in (cellCounts rule) cells (cells-in c (both .0)) (both .1)
+
+  counted-of : (c : ℕ) → c ∈ countedCells rule → inOrder rule c ≡ true
+  counted-of c m = let r = only-of (cellCounts rule) cells m in order-in c (cells-of c (r .0)) (r .1)
+
+  pub counted-distinct : Distinct (countedCells rule)
+  counted-distinct = pairwise-only Other (cellCounts rule) cells cells-distinct
+
+  pub visiting-in : (c : ℕ) → inOrder rule c ≡ true → c ∈ visiting rule
+  unfolding visiting
+  visiting-in c h = rank-in (before rule) (before-strict rule) (countedCells rule) c (counted-in c h)
+
+  pub visiting-of : (c : ℕ) → c ∈ visiting rule → inOrder rule c ≡ true
+  unfolding visiting
+  visiting-of c m = counted-of c (rank-of (before rule) (before-strict rule) (countedCells rule) c m)
+
+  pub visiting-same : Same (countedCells rule) (visiting rule)
+  visiting-same = (λ c m. visiting-in c (counted-of c m), λ c m. counted-in c (visiting-of c m))
 
   pub visiting-falling : Falling (before rule) (visiting rule)
   unfolding visiting
-  visiting-falling = rank-falling (before rule) (before-strict rule) cells
+  visiting-falling = rank-falling (before rule) (before-strict rule) (countedCells rule)
 
   pub visiting-distinct : Distinct (visiting rule)
   visiting-distinct = falling-distinct (before rule) (before-strict rule) (visiting rule) visiting-falling
 
-  pub length-visiting : length (visiting rule) ≡ 256
-  unfolding visiting
-  length-visiting = length-rank (before rule) (before-strict rule) cells cells-distinct
+  pub length-visiting : length (visiting rule) ≡ mostSteps rule
+  unfolding visiting mostSteps
+  length-visiting = length-rank (before rule) (before-strict rule) (countedCells rule) counted-distinct
+
+  pub most-cells : mostSteps rule ≤ 256
+  unfolding mostSteps
+  most-cells = only-length (cellCounts rule) cells
+
+  -- as many of the cells pass a test as of the order
+  pub counted-order : (p : ℕ → Bool) → length (only (λ c. cellCounts rule c && p c) cells) ≡ length (only p (visiting rule))
+  counted-order p =
+      ap length (sym (only-only p (cellCounts rule) cells))
+      ∙ length-same ltb ltb-strict (only p (countedCells rule)) (only p (visiting rule))
+      (pairwise-only Other p (countedCells rule) counted-distinct) (pairwise-only Other p (visiting rule) visiting-distinct)
+      (same-only p (countedCells rule) (visiting rule) visiting-same)
 
   -- what is taken later has no greater best possible score
   pub before-best : (c d : ℕ) → before rule c d ≡ true → ltZ (bestScore rule c) (bestScore rule d) ≡ false
@@ -193,29 +230,86 @@ module _ (rule : Rule) where
 
 -- ---- corners and bounds
 
-pub corner-high : (a : ℤ) (i : ℕ) → ltZ (pos 0) a ≡ true → corner a i ≡ 256 * i + 255
-corner-high a i e = rw (e, corner)
+-- what it means that a value lies inside a range, and that some value of a column or row does
+pub record Inside (range : Range) (v : ℕ) : Type 0 where
+  pub from-low : range .low ≤ v
+  pub to-high : v ≤ range .high
 
-pub corner-low : (a : ℤ) (i : ℕ) → ltZ (pos 0) a ≡ false → corner a i ≡ 256 * i
-corner-low a i e = rw (e, corner)
+pub record Meets (range : Range) (i : ℕ) : Type 0 where
+  pub in-order : range .low ≤ range .high
+  pub starts : range .low ≤ 256 * i + 255
+  pub ends : 256 * i ≤ range .high
+
+module _ (range : Range) where
+  pub inside-facts : (v : ℕ) → inside range v ≡ true → Inside range v
+  inside-facts v h =
+      let both = and-both (leb (range .low) v) (leb v (range .high)) h in
+      record { from-low = leb-true (range .low) v (both .0); to-high = leb-true v (range .high) (both .1) }
+
+  pub inside-is : (v : ℕ) → Inside range v → inside range v ≡ true
+  inside-is v f = and-true (le-leb (range .low) v (f .from-low)) (le-leb v (range .high) (f .to-high))
+
+  pub meets-facts : (i : ℕ) → meets range i ≡ true → Meets range i
+  meets-facts i h =
+      let one = and-both (leb (range .low) (range .high) && leb (range .low) (256 * i + 255)) (leb (256 * i) (range .high)) h in
+      let two = and-both (leb (range .low) (range .high)) (leb (range .low) (256 * i + 255)) (one .0) in
+      record {
+        in-order = leb-true (range .low) (range .high) (two .0);
+        starts = leb-true (range .low) (256 * i + 255) (two .1);
+        ends = leb-true (256 * i) (range .high) (one .1);
+      }
+
+  pub meets-is : (i : ℕ) → Meets range i → meets range i ≡ true
+  meets-is i f =
+      and-true (and-true (le-leb (range .low) (range .high) (f .in-order)) (le-leb (range .low) (256 * i + 255) (f .starts)))
+      (le-leb (256 * i) (range .high) (f .ends))
+
+  -- the column or row of a value inside the range has one
+  pub inside-meets : (v : ℕ) → inside range v ≡ true → meets range (v / 256) ≡ true
+  inside-meets v h =
+      let f = inside-facts v h in
+      meets-is (v / 256) (record { in-order = omega arith; starts = omega arith; ends = omega arith })
+
+pub corner-high : (a : ℤ) (range : Range) (i : ℕ) → ltZ (pos 0) a ≡ true → corner a range i ≡ nearest (range .high) i
+corner-high a range i e = rw (e, corner)
+
+pub corner-low : (a : ℤ) (range : Range) (i : ℕ) → ltZ (pos 0) a ≡ false → corner a range i ≡ nearest (range .low) i
+corner-low a range i e = rw (e, corner)
+
+nearest-index : (v i : ℕ) → nearest v i / 256 ≡ i
+nearest-index v i = omega arith
 
 -- a corner lies in its cell
-pub corner-index : (a : ℤ) (i : ℕ) → corner a i / 256 ≡ i
-corner-index a i = go (tested (ltZ (pos 0) a))
+pub corner-index : (a : ℤ) (range : Range) (i : ℕ) → corner a range i / 256 ≡ i
+corner-index a range i = go (tested (ltZ (pos 0) a))
   where
-    high : (i : ℕ) → (256 * i + 255) / 256 ≡ i
-    high i = omega arith
-
-    low : (i : ℕ) → (256 * i) / 256 ≡ i
-    low i = omega arith
-
-    go : Tested (ltZ (pos 0) a) → corner a i / 256 ≡ i
-    go (passed e) = rw (corner-high a i e) (high i)
-    go (failed e) = rw (corner-low a i e) (low i)
+    go : Tested (ltZ (pos 0) a) → corner a range i / 256 ≡ i
+    go (passed e) = rw (corner-high a range i e) (nearest-index (range .high) i)
+    go (failed e) = rw (corner-low a range i e) (nearest-index (range .low) i)
 
 -- what lies in a cell of the grid is permitted
 pub in-grid : (v : ℕ) → v / 256 < 16 → v ≤ 4095
 in-grid v h = omega arith
+
+pub corner-small : (a : ℤ) (range : Range) (i : ℕ) → i < 16 → corner a range i ≤ 4095
+corner-small a range i h = in-grid (corner a range i) (rw (corner-index a range i) h)
+
+-- and inside the range, where some value of its column or row does
+pub corner-inside : (a : ℤ) (range : Range) (i : ℕ) → meets range i ≡ true → inside range (corner a range i) ≡ true
+corner-inside a range i h = go (tested (ltZ (pos 0) a))
+  where
+    f : Meets range i
+    f = meets-facts range i h
+
+    high : Inside range (nearest (range .high) i)
+    high = let g = f in record { from-low = omega arith; to-high = omega arith }
+
+    low : Inside range (nearest (range .low) i)
+    low = let g = f in record { from-low = omega arith; to-high = omega arith }
+
+    go : Tested (ltZ (pos 0) a) → inside range (corner a range i) ≡ true
+    go (passed e) = rw (corner-high a range i e) (inside-is range (nearest (range .high) i) high)
+    go (failed e) = rw (corner-low a range i e) (inside-is range (nearest (range .low) i) low)
 
 pub column : (c : ℕ) → c % 16 < 16
 column c = omega arith
@@ -240,23 +334,24 @@ pub cell-fits : (v : Values) → inRange v ≡ true → cell v < 256
 unfolding cell
 cell-fits v h = let f = range-facts v h in omega (arith, f .loss-fits, f .shake-fits)
 
--- no value of a cell's column or row counts for more than the corner
-pub corner-up : (a : ℤ) (v : ℕ) → Up (a *ℤ pos v) (a *ℤ pos (corner a (v / 256)))
-corner-up (pos zero) v = record { gap = 0; is = ap pos nought }
+-- no value of a cell's column or row inside the range counts for more than the corner
+pub corner-up : (a : ℤ) (range : Range) (v : ℕ) → inside range v ≡ true → Up (a *ℤ pos v) (a *ℤ pos (corner a range (v / 256)))
+corner-up (pos zero) range v h = record { gap = 0; is = ap pos nought }
   where
-    nought : 0 * v + 0 ≡ 0 * (256 * (v / 256))
+    nought : 0 * v + 0 ≡ 0 * nearest (range .low) (v / 256)
     nought = omega arith
-corner-up (pos (suc n)) v =
-    rw (corner-high (pos (suc n)) (v / 256) (lt-ltb 0 (suc n) (omega arith)))
-    (subst (λ u. Up (pos (suc n) *ℤ pos v) (pos (suc n) *ℤ pos u)) top (up-times (suc n) v (255 - v % 256)))
+corner-up (pos (suc n)) range v h =
+    rw (corner-high (pos (suc n)) range (v / 256) (lt-ltb 0 (suc n) (omega arith)))
+    (subst (λ u. Up (pos (suc n) *ℤ pos v) (pos (suc n) *ℤ pos u)) top (up-times (suc n) v (nearest (range .high) (v / 256) - v)))
   where
-    top : v + (255 - v % 256) ≡ 256 * (v / 256) + 255
-    top = omega arith
-corner-up (negsuc n) v =
-    subst (λ u. Up (negsuc n *ℤ pos u) (negsuc n *ℤ pos (256 * (v / 256)))) bottom (down-times n (256 * (v / 256)) (v % 256))
+    top : v + (nearest (range .high) (v / 256) - v) ≡ nearest (range .high) (v / 256)
+    top = let f = inside-facts range v h in omega arith
+corner-up (negsuc n) range v h =
+    subst (λ u. Up (negsuc n *ℤ pos u) (negsuc n *ℤ pos (nearest (range .low) (v / 256)))) bottom
+    (down-times n (nearest (range .low) (v / 256)) (v - nearest (range .low) (v / 256)))
   where
-    bottom : 256 * (v / 256) + v % 256 ≡ v
-    bottom = omega arith
+    bottom : nearest (range .low) (v / 256) + (v - nearest (range .low) (v / 256)) ≡ v
+    bottom = let f = inside-facts range v h in omega arith
 
 -- a weight of 16 bits times a permitted value
 part-small : (a : ℤ) (v : ℕ) → SFits w16 a → v ≤ 4095 → natAbs (a *ℤ pos v) ≤ 134184960
@@ -270,50 +365,172 @@ weight-word (pos n) t = record { sfits = omega (arith, leb-true n 1000 (and-both
 weight-word (negsuc n) t = record { sfits = omega (arith, leb-true n 999 (and-both (leb n 999) true t .0)) }
 
 module _ (rule : Rule) where
-  -- a score is at most the best possible score of its cell
-  pub score-bound : (v : Values) → inRange v ≡ true → ltZ (bestScore rule (cell v)) (score rule v) ≡ false
-  unfolding bestScore score
-  score-bound v h =
+  abbrev losses : Range
+  losses = rule .ranges .loss
+
+  abbrev shakes : Range
+  shakes = rule .ranges .shake
+
+  pub counts-facts : (v : Values) → counts rule v ≡ true → (inside losses (v .loss) ≡ true) × (inside shakes (v .shake) ≡ true)
+  unfolding counts
+  counts-facts v h = and-both (inside losses (v .loss)) (inside shakes (v .shake)) h
+
+  -- the cell of values that count has some
+  pub counts-cell : (v : Values) → inRange v ≡ true → counts rule v ≡ true → cellCounts rule (cell v) ≡ true
+  unfolding cellCounts
+  counts-cell v h t =
       let f = range-facts v h in
+      let g = counts-facts v t in
+      rw (cell-column v (f .loss-fits), cell-row v (f .loss-fits)) (and-true (inside-meets losses (v .loss) (g .0)) (inside-meets shakes (v .shake) (g .1)))
+
+  pub counts-order : (v : Values) → inRange v ≡ true → counts rule v ≡ true → inOrder rule (cell v) ≡ true
+  counts-order v h t = order-in rule (cell v) (cell-fits v h) (counts-cell v h t)
+
+  -- the sum of values that count is at most the best possible score of their cell
+  pub score-bound : (v : Values) → inRange v ≡ true → counts rule v ≡ true → ltZ (bestScore rule (cell v)) (sum rule v) ≡ false
+  unfolding bestScore sum
+  score-bound v h t =
+      let f = range-facts v h in
+      let g = counts-facts v t in
       rw (cell-column v (f .loss-fits), cell-row v (f .loss-fits))
-      (up-le (up-sum (corner-up (rule .weights .loss) (v .loss)) (corner-up (rule .weights .shake) (v .shake))))
+      (up-le (up-sum (corner-up (rule .weights .loss) losses (v .loss) (g .0)) (corner-up (rule .weights .shake) shakes (v .shake) (g .1))))
 
   -- the best possible score is the score of the cell's corner, which is permitted
   pub corner-cell : (c : ℕ) → cell (cornerOf rule c) ≡ c
-  corner-cell c = cell-index (cornerOf rule c) c (corner-index (rule .weights .loss) (c % 16)) (corner-index (rule .weights .shake) (c / 16))
+  corner-cell c =
+      cell-index (cornerOf rule c) c (corner-index (rule .weights .loss) losses (c % 16)) (corner-index (rule .weights .shake) shakes (c / 16))
 
   pub corner-loss : (c : ℕ) → cornerOf rule c .loss ≤ 4095
-  corner-loss c = in-grid (cornerOf rule c .loss) (rw (corner-index (rule .weights .loss) (c % 16)) (column c))
+  corner-loss c = corner-small (rule .weights .loss) losses (c % 16) (column c)
 
   pub corner-shake : (c : ℕ) → c < 256 → cornerOf rule c .shake ≤ 4095
-  corner-shake c h = in-grid (cornerOf rule c .shake) (rw (corner-index (rule .weights .shake) (c / 16)) (row c h))
+  corner-shake c h = corner-small (rule .weights .shake) shakes (c / 16) (row c h)
 
   pub corner-in : (c : ℕ) → c < 256 → inRange (cornerOf rule c) ≡ true
   corner-in c h = range-is (cornerOf rule c) (corner-loss c) (corner-shake c h)
 
-  pub corner-best : (c : ℕ) → score rule (cornerOf rule c) ≡ bestScore rule c
+  -- and counts, where some values of the cell do
+  pub corner-counts : (c : ℕ) → cellCounts rule c ≡ true → counts rule (cornerOf rule c) ≡ true
+  unfolding counts cellCounts
+  corner-counts c h =
+      let both = and-both (meets losses (c % 16)) (meets shakes (c / 16)) h in
+      and-true (corner-inside (rule .weights .loss) losses (c % 16) (both .0)) (corner-inside (rule .weights .shake) shakes (c / 16) (both .1))
+
+  pub corner-best : (c : ℕ) → sum rule (cornerOf rule c) ≡ bestScore rule c
   unfolding bestScore
   corner-best c = refl
 
-  -- every score fits 32 bits, whatever the weights of 16
-  pub word-fits : (v : Values) → SFits w16 (rule .weights .loss) → SFits w16 (rule .weights .shake) → inRange v ≡ true → SFits w32 (score rule v)
-  unfolding score
-  word-fits v a b h =
-      let f = range-facts v h in
-      record {
-        sfits =
-            omega (
-              arith,
-              mag-le (score rule v),
-              abs-sum (rule .weights .loss *ℤ pos (v .loss)) (rule .weights .shake *ℤ pos (v .shake)),
-              part-small (rule .weights .loss) (v .loss) a (f .loss-fits),
-              part-small (rule .weights .shake) (v .shake) b (f .shake-fits),
-            );
-      }
+  -- ---- what scoring answers
 
-  -- and so it does by a fit rule
-  pub score-fits : fitRule rule ≡ true → (v : Values) → inRange v ≡ true → SFits w32 (score rule v)
+  pub score-counted : (v : Values) → counts rule v ≡ true → score rule v ≡ Scored (sum rule v)
+  unfolding score
+  score-counted v h = if-so (Scored (sum rule v)) DoesNotCount h
+
+  pub score-out : (v : Values) → counts rule v ≡ false → score rule v ≡ DoesNotCount
+  unfolding score
+  score-out v h = if-not (Scored (sum rule v)) DoesNotCount h
+
+  pub scored-counts : (v : Values) → isScored (score rule v) ≡ counts rule v
+  scored-counts v = go (tested (counts rule v))
+    where
+      go : Tested (counts rule v) → isScored (score rule v) ≡ counts rule v
+      go (passed e) = ap isScored (score-counted v e) ∙ sym e
+      go (failed e) = ap isScored (score-out v e) ∙ sym e
+
+  -- the same from a least score on
+  pub from-counted : (v : Values) (least : ℤ) → counts rule v ≡ true → ltZ (sum rule v) least ≡ false → fromLeast least (score rule v) ≡ Scored (sum rule v)
+  from-counted v least h e = ap (fromLeast least) (score-counted v h) ∙ if-not DoesNotCount (Scored (sum rule v)) e
+
+  pub from-out : (v : Values) (least : ℤ) → counts rule v ≡ false → fromLeast least (score rule v) ≡ DoesNotCount
+  from-out v least h = ap (fromLeast least) (score-out v h)
+
+  pub from-low : (v : Values) (least : ℤ) → ltZ (sum rule v) least ≡ true → fromLeast least (score rule v) ≡ DoesNotCount
+  from-low v least e = go (tested (counts rule v))
+    where
+      go : Tested (counts rule v) → fromLeast least (score rule v) ≡ DoesNotCount
+      go (passed h) = ap (fromLeast least) (score-counted v h) ∙ if-so DoesNotCount (Scored (sum rule v)) e
+      go (failed h) = from-out v least h
+
+  pub points-sum : (v : Values) → isScored (score rule v) ≡ true → points (score rule v) ≡ sum rule v
+  points-sum v h = ap points (score-counted v (sym (scored-counts v) ∙ h))
+
+  -- no sum is large, whatever the weights of 16 bits, so every one fits 32
+  pub sum-small : (v : Values) → SFits w16 (rule .weights .loss) → SFits w16 (rule .weights .shake) → inRange v ≡ true → mag (sum rule v) ≤ 268369920
+  unfolding sum
+  sum-small v a b h =
+      let f = range-facts v h in
+      omega (
+        arith,
+        mag-le (sum rule v),
+        abs-sum (rule .weights .loss *ℤ pos (v .loss)) (rule .weights .shake *ℤ pos (v .shake)),
+        part-small (rule .weights .loss) (v .loss) a (f .loss-fits),
+        part-small (rule .weights .shake) (v .shake) b (f .shake-fits),
+      )
+
+  pub word-fits : (v : Values) → SFits w16 (rule .weights .loss) → SFits w16 (rule .weights .shake) → inRange v ≡ true → SFits w32 (sum rule v)
+  word-fits v a b h = record { sfits = omega (arith, sum-small v a b h) }
+
+  -- a score fits where the sum does
+  pub points-fit : (v : Values) → SFits w32 (sum rule v) → ScoreFits rule v
+  unfolding score
+  points-fit v h = go (tested (counts rule v))
+    where
+      go : Tested (counts rule v) → SFits w32 (points (score rule v))
+      go (passed e) = rw e h
+      go (failed e) = rw e (record { sfits = omega arith })
+
+  -- a rule is fit in both parts
+  pub fit-both : weightsFit rule ≡ true → rangesProper rule ≡ true → fitRule rule ≡ true
   unfolding fitRule
+  fit-both a b = and-true a b
+
+  -- the low ends of a fit rule's ranges are values that count
+  pub fit-counts : fitRule rule ≡ true → (inRange (record { loss = losses .low; shake = shakes .low }) ≡ true) × (counts rule (record { loss = losses .low; shake = shakes .low }) ≡ true)
+  unfolding fitRule rangesProper counts
+  fit-counts fit =
+      let both = and-both (isProper losses) (isProper shakes) (and-both (weightsFit rule) (rangesProper rule) fit .1) in
+      let a = ends losses (both .0) in
+      let b = ends shakes (both .1) in
+      (range-is (record { loss = losses .low; shake = shakes .low }) (a .0) (b .0), and-true (a .1) (b .1))
+    where
+      ends : (range : Range) → isProper range ≡ true → (range .low ≤ 4095) × (inside range (range .low) ≡ true)
+      ends range h =
+          let both = and-both (leb (range .low) (range .high)) (leb (range .high) 4095) h in
+          let order = leb-true (range .low) (range .high) (both .0) in
+          let high = leb-true (range .high) 4095 (both .1) in
+          (omega arith, and-true (le-leb (range .low) (range .low) (omega arith)) (both .0))
+
+  -- every score by a fit rule fits
+  pub score-fits : fitRule rule ≡ true → (v : Values) → inRange v ≡ true → ScoreFits rule v
+  unfolding fitRule weightsFit
   score-fits fit v h =
-      let both = and-both (weightFits (rule .weights .loss)) (weightFits (rule .weights .shake)) fit in
-      word-fits v (weight-word (rule .weights .loss) (both .0)) (weight-word (rule .weights .shake) (both .1)) h
+      let both = and-both (weightFits (rule .weights .loss)) (weightFits (rule .weights .shake)) (and-both (weightsFit rule) (rangesProper rule) fit .0) in
+      points-fit v (word-fits v (weight-word (rule .weights .loss) (both .0)) (weight-word (rule .weights .shake) (both .1)) h)
+
+-- ---- scores from a least one on
+
+pub from-is : (least : ℤ) (sc : Score) (s : ℤ) → fromLeast least sc ≡ Scored s → sc ≡ Scored s
+from-is least (Scored t) s h = go (tested (ltZ t least))
+  where
+    go : Tested (ltZ t least) → Scored t ≡ Scored s
+    go (passed e) = absurd (other (sym (if-so DoesNotCount (Scored t) e) ∙ h))
+      where
+        other : DoesNotCount ≡ Scored s → ⊥
+        other q = let z : _≡_ {A = ℕ} 0 1 = cc in omega arith
+    go (failed e) = sym (if-not DoesNotCount (Scored t) e) ∙ h
+from-is least DoesNotCount s h = absurd (other h)
+  where
+    other : DoesNotCount ≡ Scored s → ⊥
+    other q = let z : _≡_ {A = ℕ} 0 1 = cc in omega arith
+
+-- none: it doesn't count, or is below
+pub from-none : (least : ℤ) (sc : Score) → fromLeast least sc ≡ DoesNotCount → (isScored sc ≡ false) ⊎ ((isScored sc ≡ true) × (ltZ (points sc) least ≡ true))
+from-none least (Scored t) h = go (tested (ltZ t least))
+  where
+    go : Tested (ltZ t least) → (isScored (Scored t) ≡ false) ⊎ ((isScored (Scored t) ≡ true) × (ltZ t least ≡ true))
+    go (passed e) = inr (refl, e)
+    go (failed e) = absurd (other (sym h ∙ if-not DoesNotCount (Scored t) e))
+      where
+        other : DoesNotCount ≡ Scored t → ⊥
+        other q = let z : _≡_ {A = ℕ} 0 1 = cc in omega arith
+from-none least DoesNotCount h = inl refl

@@ -3,7 +3,7 @@
 -- Assumes nothing.
 use mathlib.Core.Path.{_≡_, refl, sym, ap, _∙_, subst}
 use mathlib.Core.Bool.{Bool, true, false, not, cond, _||_}
-use mathlib.Core.List.{List, [], _∷_, _++_, Memᴰ·map, Memᴰ·of-map}
+use mathlib.Core.List.{List, [], _∷_, _++_, map, Memᴰ·map, Memᴰ·of-map}
 use mathlib.Core.Logic.{_⊎_, inl, inr}
 use Prim.Native.Nat.{ℕ, min, _≤_, _<_}
 use native.Mathlib.Omega.{arith}
@@ -12,15 +12,16 @@ use lib.Dec.{ltb}
 use lib.ListN.{length, take, length-map}
 use lib.IntN.{ℤ, pos}
 use lib.Signed.{ltZ}
-use Rattle.laws.specs.Lists.{_∈_, onLast}
+use Rattle.laws.specs.Lists.{_∈_, onLast, only}
 use Rattle.laws.proofs.Tests.{and-true}
-use Rattle.laws.proofs.Lists.{Same, Pairwise, Distinct, same-map, map-append, last-same}
+use Rattle.laws.proofs.Lists.{Same, Pairwise, Distinct, pairwise-only, only-in, only-of, only-yes, only-no, only-append, only-length, same-only, same-map, map-append, last-same}
 use Rattle.laws.proofs.Orders.{StrictTotal, one-way, ltb-strict}
 use Rattle.laws.proofs.Whole.{ltZ-strict, le-is, equal-refl}
-use Rattle.search.specs.Best.{placed}
+use Rattle.search.specs.Best.{placed, best}
 use Rattle.search.proofs.Best.{best-same, best-of, best-rule, best-cons, length-best}
-use Rattle.ranking.specs.Cells.{noRule, isNone, score, greater}
-use Rattle.ranking.specs.Standing.{Held, Entry, goesFirst, above, entry, entries, top, passes, hasPlace, placeBy}
+use Rattle.values.specs.declared.Values.{Values}
+use Rattle.ranking.specs.Cells.{noRule, isNone, sum, greater}
+use Rattle.ranking.specs.Standing.{Held, Entry, goesFirst, above, isCounted, counted, entry, entries, top, passes, hasPlace, placeBy, mightPass}
 use Rattle.ranking.specs.declared.Rule.{Rule}
 use Rattle.ranking.proofs.Cells.{more, less, equal, Numbers, numbers, greater-by, less-by, greater-tie, greater-of, greater-strict}
 
@@ -80,54 +81,68 @@ module _ (rule : Rule) where
   unfolding entries
   entries-none = refl
 
-  pub entries-one : (h : Held) → entries rule (h ∷ []) ≡ entry rule h ∷ []
+  -- a report that counts brings its entry
+  pub entries-cons : (h : Held) (hs : List Held) → isCounted rule h ≡ true → entries rule (h ∷ hs) ≡ entry rule h ∷ entries rule hs
   unfolding entries
-  entries-one h = refl
+  entries-cons h hs e = ap (map (entry rule)) (only-yes (isCounted rule) h hs e)
+
+  -- one that doesn't brings nothing
+  pub entries-out : (h : Held) (hs : List Held) → isCounted rule h ≡ false → entries rule (h ∷ hs) ≡ entries rule hs
+  unfolding entries
+  entries-out h hs e = ap (map (entry rule)) (only-no (isCounted rule) h hs e)
 
   pub entries-append : (xs ys : List Held) → entries rule (xs ++ ys) ≡ entries rule xs ++ entries rule ys
   unfolding entries
-  entries-append xs ys = map-append (entry rule) xs ys
+  entries-append xs ys =
+      ap (map (entry rule)) (only-append (isCounted rule) xs ys)
+      ∙ map-append (entry rule) (only (isCounted rule) xs) (only (isCounted rule) ys)
 
-  pub entries-in : {h : Held} {hs : List Held} → h ∈ hs → entry rule h ∈ entries rule hs
+  pub entries-in : {h : Held} {hs : List Held} → h ∈ hs → isCounted rule h ≡ true → entry rule h ∈ entries rule hs
   unfolding entries
-  entries-in m = Memᴰ·map (entry rule) m
+  entries-in {hs} m e = Memᴰ·map (entry rule) (only-in (isCounted rule) hs m e)
 
-  pub entries-of : (hs : List Held) {e : Entry} → e ∈ entries rule hs → (h : Held) × (h ∈ hs) × (entry rule h ≡ e)
+  pub entries-of : (hs : List Held) {e : Entry} → e ∈ entries rule hs → (h : Held) × (h ∈ hs) × (entry rule h ≡ e) × (isCounted rule h ≡ true)
   unfolding entries
-  entries-of hs m = Memᴰ·of-map (entry rule) hs m
+  entries-of hs m =
+      let r = Memᴰ·of-map (entry rule) (only (isCounted rule) hs) m in
+      let q = only-of (isCounted rule) hs (r .1) in
+      (r .0, q .0, r .2, q .1)
 
   pub entries-same : (l m : List Held) → Same l m → Same (entries rule l) (entries rule m)
   unfolding entries
-  entries-same l m s = same-map (entry rule) l m s
+  entries-same l m s = same-map (entry rule) (only (isCounted rule) l) (only (isCounted rule) m) (same-only (isCounted rule) l m s)
 
   -- reports of different numbers bring different entries
   pub entries-distinct : (hs : List Held) → Pairwise (λ (g h : Held). g .number ≡ h .number → ⊥) hs → Distinct (entries rule hs)
   unfolding entries
-  entries-distinct [] d = tt
-  entries-distinct (h ∷ hs) d = (
-    λ e m q.
-        let r = entries-of hs m in
-        d .0 (r .0) (r .1) (ap (λ (z : Entry). z .number) (q ∙ sym (r .2))),
-    entries-distinct hs (d .1),
-  )
+  entries-distinct hs d = apart (only (isCounted rule) hs) (pairwise-only (λ (g h : Held). g .number ≡ h .number → ⊥) (isCounted rule) hs d)
+    where
+      apart : (gs : List Held) → Pairwise (λ (g h : Held). g .number ≡ h .number → ⊥) gs → Distinct (map (entry rule) gs)
+      apart [] w = tt
+      apart (g ∷ gs) w = (
+        λ e m q.
+            let r = Memᴰ·of-map (entry rule) gs m in
+            w .0 (r .0) (r .1) (ap (λ (z : Entry). z .number) (q ∙ sym (r .2))),
+        apart gs (w .1),
+      )
 
   -- ---- the best k
 
   pub top-same : (k : ℕ) (l m : List Held) → Same l m → top rule k l ≡ top rule k m
   top-same k l m s = best-same (above rule) above-strict k (entries rule l) (entries rule m) (entries-same l m s)
 
-  -- each line is the entry of a report
-  pub top-of : (k : ℕ) (hs : List Held) {e : Entry} → e ∈ top rule k hs → (h : Held) × (h ∈ hs) × (entry rule h ≡ e)
+  -- each line is the entry of a report that counts
+  pub top-of : (k : ℕ) (hs : List Held) {e : Entry} → e ∈ top rule k hs → (h : Held) × (h ∈ hs) × (entry rule h ≡ e) × (isCounted rule h ≡ true)
   top-of k hs {e} m = entries-of hs (best-of (above rule) above-strict k (entries rule hs) e m)
 
-  -- rule 6.4: k of them, or as many as there are
-  pub length-top : (k : ℕ) (hs : List Held) → Pairwise (λ (g h : Held). g .number ≡ h .number → ⊥) hs → length (top rule k hs) ≡ min k (length hs)
+  -- rules 6.4 and 16.5: k of them, or as many as there are that count
+  pub length-top : (k : ℕ) (hs : List Held) → Pairwise (λ (g h : Held). g .number ≡ h .number → ⊥) hs → length (top rule k hs) ≡ min k (length (counted rule hs))
   unfolding entries
-  length-top k hs d = length-best (above rule) above-strict k (entries rule hs) (entries-distinct hs d) ∙ ap (min k) (length-map hs (entry rule))
+  length-top k hs d = length-best (above rule) above-strict k (entries rule hs) (entries-distinct hs d) ∙ ap (min k) (length-map (counted rule hs) (entry rule))
 
-  -- there are no more of them
+  -- there are no more of them than reports
   pub top-short : (k : ℕ) (hs : List Held) → Pairwise (λ (g h : Held). g .number ≡ h .number → ⊥) hs → length (top rule k hs) ≤ min k (length hs)
-  top-short k hs d = omega (arith, length-top k hs d)
+  top-short k hs d = omega (arith, length-top k hs d, only-length (isCounted rule) hs)
 
   -- ---- entering after all others
 
@@ -164,18 +179,22 @@ module _ (rule : Rule) where
         not-less : (n : ℕ) → n < n → ⊥
         not-less n l = omega arith
 
-    -- a report that enters after all others is put in its rank and the list is cut to k where it has a place, and else nothing changes
-    pub top-enters : top rule k (h ∷ hs) ≡ cond (hasPlace rule k (length (top rule k hs)) (top rule k hs) (score rule (h .values))) (take k (placed (above rule) (entry rule h) (top rule k hs))) (top rule k hs)
-    unfolding entries
-    top-enters =
-        best-rule (above rule) above-strict k (entry rule h) (entries rule hs) new-one
+    -- a report that counts and enters after all others is put in its rank and the list is cut to k where it has a place, and else nothing changes
+    pub top-enters : isCounted rule h ≡ true → top rule k (h ∷ hs) ≡ cond (hasPlace rule k (length (top rule k hs)) (top rule k hs) (entry rule h .score)) (take k (placed (above rule) (entry rule h) (top rule k hs))) (top rule k hs)
+    top-enters counts =
+        ap (best (above rule) k) (entries-cons h hs counts)
+        ∙ best-rule (above rule) above-strict k (entry rule h) (entries rule hs) new-one
         ∙ ap (λ b. cond b (take k (placed (above rule) (entry rule h) (top rule k hs))) (top rule k hs))
         (sym (place-rule k (entry rule h) (top rule k hs) older))
 
-  -- one report more, whether it has a place or not
-  pub top-cons : (k : ℕ) (h : Held) (hs : List Held) → top rule k (h ∷ hs) ≡ take k (placed (above rule) (entry rule h) (top rule k hs))
-  unfolding entries
-  top-cons k h hs = best-cons (above rule) above-strict k (entry rule h) (entries rule hs)
+  -- one report more that counts, whether it has a place or not
+  pub top-cons : (k : ℕ) (h : Held) (hs : List Held) → isCounted rule h ≡ true → top rule k (h ∷ hs) ≡ take k (placed (above rule) (entry rule h) (top rule k hs))
+  top-cons k h hs counts =
+      ap (best (above rule) k) (entries-cons h hs counts) ∙ best-cons (above rule) above-strict k (entry rule h) (entries rule hs)
+
+  -- one that doesn't count changes nothing
+  pub top-out : (k : ℕ) (h : Held) (hs : List Held) → isCounted rule h ≡ false → top rule k (h ∷ hs) ≡ top rule k hs
+  top-out k h hs out = ap (best (above rule) k) (entries-out h hs out)
 
   -- ---- a place by the last entry's score
 
@@ -197,6 +216,11 @@ module _ (rule : Rule) where
 
 -- ---- the rule of an empty slot
 
+-- values that can't pass a score don't
+pub might-not : (rule : Rule) (v : Values) (s : ℤ) → mightPass (rule .weights) v s ≡ false → passes rule (sum rule v) s ≡ false
+unfolding mightPass passes sum
+might-not rule v s e = e
+
 pub is-none : isNone noRule ≡ true
 unfolding isNone
-is-none = and-true (equal-refl (pos 0)) (equal-refl (pos 0))
+is-none = and-true (and-true (and-true (equal-refl (pos 0)) (equal-refl (pos 0))) refl) refl

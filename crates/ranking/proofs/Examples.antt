@@ -1,19 +1,22 @@
--- The bench examples P5 to P8 of the definitions. P5 to P7 by computing them, P8 since all scores and bounds are 0.
+-- The examples P5 to P8 and P12 to P15 of the definitions: by computing them, and P8 since all scores and bounds are 0.
 -- Assumes nothing.
 use mathlib.Core.Path.{_≡_, refl, sym, ap, _∙_}
 use mathlib.Core.Bool.{true, not}
 use mathlib.Core.List.{List, [], _∷_}
-use Prim.Native.Nat.{ℕ}
+use Prim.Native.Nat.{ℕ, _*_}
 use lib.IntN.{ℤ, pos, negsuc, _+ℤ_, _*ℤ_, zero-*ℤ}
 use lib.Signed.{ltZ}
 use Rattle.laws.specs.Lists.{_∈_}
 use Rattle.search.specs.Search.{steps, marks}
 use Rattle.search.proofs.Search.{all-steps}
 use Rattle.values.specs.declared.Values.{Values}
-use Rattle.ranking.specs.Cells.{score, cell, bestScore, before, cornerOf, visiting, ruleOf, noRule}
-use Rattle.ranking.specs.Standing.{Held, Entry, goesFirst, above, entries, searchOf, reaches}
+use Rattle.ranking.specs.Cells.{counts, sum, score, cell, cellCounts, bestScore, before, cornerOf, mostSteps, visiting, wholeRange, ruleOf, ruleWithin}
+use Rattle.ranking.specs.Standing.{Held, Entry, goesFirst, above, entries, top, searchOf, reaches}
+use Rattle.ranking.specs.Inner.{stripesOf}
+use Rattle.ranking.specs.declared.Range.{Range}
 use Rattle.ranking.specs.declared.Rule.{Rule}
-use Rattle.ranking.proofs.Cells.{length-visiting, corner-best}
+use Rattle.ranking.proofs.Cells.{length-visiting, corner-best, points-sum}
+use Rattle.ranking.proofs.Columns.{width, most-steps}
 use Rattle.ranking.proofs.Entries.{above-strict, entries-of}
 
 abbrev weighing : ℤ → ℤ → Rule
@@ -22,20 +25,55 @@ weighing a b = ruleOf (record { loss = a; shake = b })
 abbrev report : ℕ → ℕ → ℕ → Held
 report number loss shake = record { number = number; values = record { loss = loss; shake = shake } }
 
-nothing : (v : Values) → score noRule v ≡ pos 0
-unfolding score
+-- weights 0 and 0, and all values
+abbrev evenly : Rule
+evenly = weighing (pos 0) (pos 0)
+
+nothing : (v : Values) → sum evenly v ≡ pos 0
+unfolding sum
 nothing v = ap (λ z. z +ℤ pos 0 *ℤ pos (v .shake)) (zero-*ℤ (pos (v .loss))) ∙ ap (λ z. pos 0 +ℤ z) (zero-*ℤ (pos (v .shake)))
 
-every-cell : (k : ℕ) (hs : List Held) → steps (searchOf noRule) k hs ≡ 256
-unfolding entries
-every-cell k hs = all-steps (searchOf noRule) (above-strict noRule) k hs reached ∙ length-visiting noRule
+every-cell : (k : ℕ) (hs : List Held) → steps (searchOf evenly) k hs ≡ 256
+unfolding entries width stripesOf
+every-cell k hs = all-steps (searchOf evenly) (above-strict evenly) k hs reached ∙ length-visiting evenly ∙ most-steps evenly ∙ all-columns
   where
-    reached : (c : ℕ) (e : Entry) → e ∈ entries noRule hs → reaches noRule c e ≡ true
+    all-columns : width wholeRange * width wholeRange ≡ 256
+    all-columns = refl
+
+    reached : (c : ℕ) (e : Entry) → e ∈ entries evenly hs → reaches evenly c e ≡ true
     reached c e m =
-        let r = entries-of noRule hs m in
-        let high = sym (corner-best noRule c) ∙ nothing (cornerOf noRule c) in
-        let its : e .score ≡ pos 0 = sym (ap (λ (z : Entry). z .score) (r .2)) ∙ nothing (r .0 .values) in
+        let r = entries-of evenly hs m in
+        let high = sym (corner-best evenly c) ∙ nothing (cornerOf evenly c) in
+        let its : e .score ≡ pos 0 = sym (ap (λ (z : Entry). z .score) (r .2)) ∙ points-sum evenly (r .0 .values) (r .3) ∙ nothing (r .0 .values) in
         ap (λ z. not (ltZ z (e .score))) high ∙ ap (λ z. not (ltZ (pos 0) z)) its
+
+abbrev line : ℕ → ℕ → Entry
+line number score = record { number = number; score = pos score }
+
+abbrev from-to : ℕ → ℕ → Range
+from-to low high = record { low = low; high = high }
+
+abbrev within : ℤ → ℤ → Range → Range → Rule
+within a b losses shakes = ruleWithin (record { loss = a; shake = b }) (record { loss = losses; shake = shakes })
+
+-- the worst shake among reports with loss from 500 to 900
+abbrev threshing : Rule
+threshing = within (pos 0) (pos 1) (from-to 500 900) wholeRange
+
+abbrev threshed : List Held
+threshed = report 1 700 1000 ∷ report 2 400 3000 ∷ report 3 900 1500 ∷ report 4 901 2000 ∷ []
+
+-- loss 500 and shake 300, and nothing else
+abbrev one-value : Rule
+one-value = within (pos 1) (pos 2) (from-to 500 500) (from-to 300 300)
+
+-- loss 260 to 300 and shake 520 to 600, all of them in cell 33
+abbrev one-cell : Rule
+one-cell = within (pos 1) (pos 2) (from-to 260 300) (from-to 520 600)
+
+-- loss 1,000 to 1,100
+abbrev unmet : Rule
+unmet = within (pos 1) (pos 0) (from-to 1000 1100) wholeRange
 
 pub record Examples : Type 0 where
   -- P5: 4 steps, cells 255, 254, 239, 253
@@ -46,8 +84,43 @@ pub record Examples : Type 0 where
   -- P7: 32 steps, for a cell that equals the last score is still taken
   pub p7 : steps (searchOf (weighing (negsuc 0) (pos 0))) 1 (report 1 256 7 ∷ []) ≡ 32
   -- P8: weights 0 and 0, 256 steps whatever the window holds
-  pub p8 : (k : ℕ) (hs : List Held) → steps (searchOf noRule) k hs ≡ 256
+  pub p8 : (k : ℕ) (hs : List Held) → steps (searchOf evenly) k hs ≡ 256
+  -- P12: 3:1500, though 2 and 4 shake more: 33 steps, three cells of each row from 15 down to 5
+  pub p12-list : top threshing 1 threshed ≡ line 3 1500 ∷ []
+  pub p12-steps : steps (searchOf threshing) 1 threshed ≡ 33
+  pub p12-cells : marks (searchOf threshing) 1 threshed
+      ≡ 241 ∷ 242 ∷ 243 ∷ 225 ∷ 226 ∷ 227 ∷ 209 ∷ 210 ∷ 211 ∷ 193 ∷ 194 ∷ 195 ∷ 177 ∷ 178 ∷ 179 ∷ 161 ∷ 162 ∷ 163
+      ∷ 145 ∷ 146 ∷ 147 ∷ 129 ∷ 130 ∷ 131 ∷ 113 ∷ 114 ∷ 115 ∷ 97 ∷ 98 ∷ 99 ∷ 81 ∷ 82 ∷ 83 ∷ []
+  -- P13: a range of one value: the list is short, and its one cell is taken
+  pub p13-list : top one-value 2 (report 1 500 300 ∷ report 2 500 301 ∷ []) ≡ line 1 1100 ∷ []
+  pub p13-cells : marks (searchOf one-value) 2 (report 1 500 300 ∷ report 2 500 301 ∷ []) ≡ 17 ∷ []
+  -- P14: ranges inside one cell: its best possible score is that of 300 and 600, not of 511 and 767
+  pub p14-best : bestScore one-cell 33 ≡ pos 1500
+  pub p14-list : top one-cell 1 (report 1 300 600 ∷ report 2 301 600 ∷ []) ≡ line 1 1500 ∷ []
+  pub p14-cells : marks (searchOf one-cell) 1 (report 1 300 600 ∷ report 2 301 600 ∷ []) ≡ 33 ∷ []
+  -- P15: no report lies inside: an empty list, and all 32 cells of the order
+  pub p15-list : top unmet 1 (report 1 10 10 ∷ report 2 2000 5 ∷ []) ≡ []
+  pub p15-order : mostSteps unmet ≡ 32
+  pub p15-steps : steps (searchOf unmet) 1 (report 1 10 10 ∷ report 2 2000 5 ∷ []) ≡ 32
 
 pub examples : Examples
-unfolding steps visiting before bestScore score cell above goesFirst
-examples = record { p5-steps = refl; p5-cells = refl; p6 = refl; p7 = refl; p8 = every-cell }
+unfolding steps visiting before bestScore sum score counts cellCounts cell above goesFirst entries mostSteps
+examples =
+    record {
+      p5-steps = refl;
+      p5-cells = refl;
+      p6 = refl;
+      p7 = refl;
+      p8 = every-cell;
+      p12-list = refl;
+      p12-steps = refl;
+      p12-cells = refl;
+      p13-list = refl;
+      p13-cells = refl;
+      p14-best = refl;
+      p14-list = refl;
+      p14-cells = refl;
+      p15-list = refl;
+      p15-order = refl;
+      p15-steps = refl;
+    }

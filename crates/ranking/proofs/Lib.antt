@@ -3,6 +3,8 @@ pub mod Cells
 pub mod Entries
 pub mod Standing
 pub mod Scan
+pub mod Columns
 pub mod Reaching
+pub mod Whole
 pub mod Examples
 pub mod Outcomes

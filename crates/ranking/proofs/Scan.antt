@@ -13,14 +13,14 @@ use lib.Dec.{ltb}
 use lib.ListN.{length, take, drop, length-append, take-append-drop, drop-of-length-le}
 use lib.Seq.{take-suc, drop-cons}
 use Rattle.laws.specs.Lists.{_∈_, only}
-use Rattle.ranking.specs.Cells.{before, numbersBelow, cells, visiting, placeOf, cellAt}
+use Rattle.ranking.specs.Cells.{fitRule, cellCounts, before, numbersBelow, mostSteps, visiting, inOrder, placeOf, cellAt, cellAfter}
 use Rattle.ranking.specs.declared.Rule.{Rule}
-use Rattle.laws.proofs.Tests.{Tested, passed, failed, tested, clash, and-both, and-true}
-use Rattle.laws.proofs.Lists.{Pairwise, here, drop-⊆, lt-or-eq, pairwise-at, pairwise-drop, pairwise-only, only-in, only-of, index-of, getD-in, getD-left, getD-past, only-append, Other}
-use Rattle.laws.proofs.Orders.{opposite, differs, ltb-strict}
-use Rattle.search.proofs.Best.{falling-place, length-same}
-use Rattle.ranking.proofs.Cells.{before-strict, visiting-in, visiting-of, visiting-same, visiting-falling, visiting-distinct, length-visiting, cells-distinct}
-use Rattle.ranking.specs.Inner.{leads, nearer, placeAfter}
+use Rattle.laws.proofs.Tests.{Tested, passed, failed, tested, clash, and-both, and-true, if-so}
+use Rattle.laws.proofs.Lists.{Pairwise, here, drop-⊆, lt-or-eq, pairwise-at, pairwise-drop, index-of, getD-in, getD-left, getD-past, only-append}
+use Rattle.laws.proofs.Orders.{opposite, differs}
+use Rattle.search.proofs.Best.{falling-place}
+use Rattle.ranking.proofs.Cells.{before-strict, fit-counts, counts-order, in-order, order-in, visiting-in, visiting-of, visiting-falling, length-visiting, counted-order}
+use Rattle.ranking.specs.Inner.{leads, follows, nearer, placeAfter}
 
 -- ---- counting
 
@@ -52,28 +52,35 @@ module _ (rule : Rule) where
   Earlier c d = before rule c d ≡ true
 
   -- the place of the cell at a place
-  pub place-at : (n : ℕ) → n < 256 → placeOf rule (cellAt rule n) ≡ n
+  pub place-at : (n : ℕ) → n < mostSteps rule → placeOf rule (cellAt rule n) ≡ n
   place-at n h =
-      length-same ltb ltb-strict (only p cells) (only p (visiting rule))
-      (pairwise-only Other p cells cells-distinct) (pairwise-only Other p (visiting rule) (visiting-distinct rule)) (
-        λ c m. let r = only-of p cells m in only-in p (visiting rule) (visiting-same rule .0 c (r .0)) (r .1),
-        λ c m. let r = only-of p (visiting rule) m in only-in p cells (visiting-same rule .1 c (r .0)) (r .1),
-      )
+      counted-order rule (λ d. before rule d (cellAt rule n))
       ∙ falling-place (before rule) (before-strict rule) 256 (visiting rule) n (visiting-falling rule) (rw (length-visiting rule) h)
-    where
-      p : ℕ → Bool
-      p d = before rule d (cellAt rule n)
 
-  -- each cell stands at its place
-  pub at-place : (c : ℕ) → c < 256 → (placeOf rule c < 256) × (cellAt rule (placeOf rule c) ≡ c)
+  -- each cell of the order stands at its place
+  pub at-place : (c : ℕ) → inOrder rule c ≡ true → (placeOf rule c < mostSteps rule) × (cellAt rule (placeOf rule c) ≡ c)
   at-place c h =
       let r = index-of 256 (visiting rule) (visiting-in rule c h) in
-      let below : r .0 < 256 = subst (λ n. r .0 < n) (length-visiting rule) (r .1) in
+      let below : r .0 < mostSteps rule = subst (λ n. r .0 < n) (length-visiting rule) (r .1) in
       let e : placeOf rule c ≡ r .0 = ap (placeOf rule) (sym (r .2)) ∙ place-at (r .0) below in
-      (subst (λ n. n < 256) (sym e) below, ap (cellAt rule) e ∙ r .2)
+      (subst (λ n. n < mostSteps rule) (sym e) below, ap (cellAt rule) e ∙ r .2)
 
-  pub cell-at : (n : ℕ) → n < 256 → cellAt rule n < 256
+  pub cell-at : (n : ℕ) → n < mostSteps rule → inOrder rule (cellAt rule n) ≡ true
   cell-at n h = visiting-of rule (cellAt rule n) (getD-in 256 (visiting rule) n (rw (length-visiting rule) h))
+
+  -- a fit rule has a cell that can be taken
+  pub fit-some : fitRule rule ≡ true → 0 < mostSteps rule
+  fit-some fit =
+      let c = fit-counts rule fit in
+      first (at-place _ (counts-order rule (record { loss = rule .ranges .loss .low; shake = rule .ranges .shake .low }) (c .0) (c .1)) .0)
+    where
+      first : {m n : ℕ} → m < n → 0 < n
+      first h = omega arith
+
+  -- what comes after a cell of the order
+  pub next-at : (c : ℕ) → inOrder rule c ≡ true → cellAfter rule c ≡ cellAt rule (placeOf rule c + 1)
+  unfolding cellAfter
+  next-at c h = if-so (cellAt rule (placeOf rule c + 1)) 256 h
 
   pub place-after : (c : ℕ) → c < 256 → placeAfter rule c ≡ placeOf rule c + 1
   place-after c h = let e = lt-ltb c 256 h in rw (e, placeAfter) (sym (add-one (placeOf rule c)))
@@ -99,10 +106,10 @@ module _ (rule : Rule) where
       go (passed e) = rw (e, last, leads)
       go (failed e) = rw (e, leads)
 
-  pub nearer-yes : (from found d : ℕ) → leads rule from d ≡ true → leads rule d found ≡ true → nearer rule from found d ≡ d
+  pub nearer-yes : (from found d : ℕ) → follows rule from d ≡ true → leads rule d found ≡ true → nearer rule from found d ≡ d
   nearer-yes from found d p q = let e = and-true p q in rw (e, nearer)
 
-  pub nearer-no : (from found d : ℕ) → leads rule from d && leads rule d found ≡ false → nearer rule from found d ≡ found
+  pub nearer-no : (from found d : ℕ) → follows rule from d && leads rule d found ≡ false → nearer rule from found d ≡ found
   nearer-no from found d e = rw (e, nearer)
 
   -- what is known of the cells that pass a test after those below d have been looked at: the one that is taken first
@@ -158,9 +165,9 @@ module _ (rule : Rule) where
             subst (λ z. (found < 256) × (before rule z found ≡ false)) (sym h) (n (subst (λ z. p z ≡ true) h l))
 
   -- the cells that follow `from`
-  module _ (from found d : ℕ) (cell : d < 256) (so-far : Scanned (leads rule from) d found) where
-    pub scanned-more : Scanned (leads rule from) (d + 1) (nearer rule from found d)
-    scanned-more = go (tested (leads rule from d && leads rule d found))
+  module _ (from found d : ℕ) (cell : d < 256) (so-far : Scanned (follows rule from) d found) where
+    pub scanned-more : Scanned (follows rule from) (d + 1) (nearer rule from found d)
+    scanned-more = go (tested (follows rule from d && leads rule d found))
       where
         ahead : leads rule d found ≡ true → found < 256 → before rule d found ≡ true
         ahead q h = sym (leads-cells d found cell h) ∙ q
@@ -169,18 +176,18 @@ module _ (rule : Rule) where
         at-d q (inl h) = (h, sym (leads-cells d found cell h) ∙ q)
         at-d q (inr h) = clash (leads-to d found (omega arith)) q
 
-        go : Tested (leads rule from d && leads rule d found) → Scanned (leads rule from) (d + 1) (nearer rule from found d)
+        go : Tested (follows rule from d && leads rule d found) → Scanned (follows rule from) (d + 1) (nearer rule from found d)
         go (passed e) =
-            let r = and-both (leads rule from d) (leads rule d found) e in
-            subst (Scanned (leads rule from) (d + 1)) (sym (nearer-yes from found d (r .0) (r .1)))
-            (scanned-take (leads rule from) found d cell so-far (r .0) (ahead (r .1)))
+            let r = and-both (follows rule from d) (leads rule d found) e in
+            subst (Scanned (follows rule from) (d + 1)) (sym (nearer-yes from found d (r .0) (r .1)))
+            (scanned-take (follows rule from) found d cell so-far (r .0) (ahead (r .1)))
         go (failed e) =
-            subst (Scanned (leads rule from) (d + 1)) (sym (nearer-no from found d e))
-            (scanned-leave (leads rule from) found d cell so-far
+            subst (Scanned (follows rule from) (d + 1)) (sym (nearer-no from found d e))
+            (scanned-leave (follows rule from) found d cell so-far
             (λ p. at-d (sym (ap (λ b. b && leads rule d found) p) ∙ e) (lt-or-eq (so-far .at-most))))
 
-  -- a cell with its place: it ends the cells up to its place, and what follows it is left
-  module _ (from : ℕ) (h : from < 256) where
+  -- a cell of the order with its place: it ends the cells up to its place, and what follows it is left
+  module _ (from : ℕ) (h : inOrder rule from ≡ true) where
     n : ℕ
     n = placeOf rule from
 
@@ -201,7 +208,7 @@ module _ (rule : Rule) where
         pairwise-at Earlier (suc n) (visiting rule) (visiting-falling rule) from e
         (subst (λ l. from ∈ l) (sym up-to) (Memᴰ·append-right (take n (visiting rule)) here)) m
 
-    follows-left : (e : ℕ) → e < 256 → before rule from e ≡ true → e ∈ drop (suc n) (visiting rule)
+    follows-left : (e : ℕ) → inOrder rule e ≡ true → before rule from e ≡ true → e ∈ drop (suc n) (visiting rule)
     follows-left e g b =
         ⊎-elim (λ m. absurd (not-up-to (List·Memᴰ·append-cases (take n (visiting rule)) (subst (λ l. e ∈ l) up-to m)))) (λ m. m)
         (List·Memᴰ·append-cases (take (suc n) (visiting rule)) (subst (λ l. e ∈ l) (sym (take-append-drop (suc n) (visiting rule))) (visiting-in rule e g)))
@@ -211,17 +218,26 @@ module _ (rule : Rule) where
         not-up-to (inr m) = differs (before rule) (before-strict rule) from e b (sym (List·Memᴰ·eq-of-singleton m))
 
   -- the cells that follow are those that are left
-  following : (from e : ℕ) → e < 256 → leads rule from e ≡ true ↔ e ∈ drop (placeAfter rule from) (visiting rule)
+  following : (from : ℕ) → (from < 256 → cellCounts rule from ≡ true) → (e : ℕ) → e < 256 → follows rule from e ≡ true ↔ e ∈ drop (placeAfter rule from) (visiting rule)
   unfolding n
-  following from e g = go (tested (ltb from 256))
+  following from in-it e g = go (tested (ltb from 256))
     where
-      go : Tested (ltb from 256) → leads rule from e ≡ true ↔ e ∈ drop (placeAfter rule from) (visiting rule)
+      both : follows rule from e ≡ true → (cellCounts rule e ≡ true) × (leads rule from e ≡ true)
+      both l = and-both (cellCounts rule e) (leads rule from e) l
+
+      there : (m : ℕ) → e ∈ drop m (visiting rule) → cellCounts rule e ≡ true
+      there m k = in-order rule e (visiting-of rule e (drop-⊆ m (visiting rule) e k)) .1
+
+      go : Tested (ltb from 256) → follows rule from e ≡ true ↔ e ∈ drop (placeAfter rule from) (visiting rule)
       go (passed t) =
           let h = ltb-true from 256 t in
-          rw (t, placeAfter)
-          (λ l. follows-left from h e g (sym (leads-cells from e h g) ∙ l), λ m. leads-cells from e h g ∙ left-follows from h e m)
+          let at = order-in rule from h (in-it h) in
+          rw (t, placeAfter) (
+            λ l. let r = both l in follows-left from at e (order-in rule e g (r .0)) (sym (leads-cells from e h g) ∙ r .1),
+            λ m. and-true (there (suc (placeOf rule from)) m) (leads-cells from e h g ∙ left-follows from at e m),
+          )
       go (failed t) =
-          rw (t, placeAfter) (λ l. visiting-in rule e g, λ m. leads-from from e (ltb-false from 256 t))
+          rw (t, placeAfter) (λ l. visiting-in rule e (order-in rule e g (both l .0)), λ m. and-true (there 0 m) (leads-from from e (ltb-false from 256 t)))
 
   -- where those that pass the test are what is left after the place m, all the cells looked at show the one at m
   pub scanned-left : (p : ℕ → Bool) (m found : ℕ) → ((e : ℕ) → e < 256 → p e ≡ true ↔ e ∈ drop m (visiting rule)) → Scanned p 256 found → found ≡ cellAt rule m
@@ -236,7 +252,7 @@ module _ (rule : Rule) where
           (lt-or-eq (s .at-most))
       go (x ∷ xs) q =
           let x-left : x ∈ drop m (visiting rule) = subst (λ l. x ∈ l) (sym q) here in
-          let x-cell = visiting-of rule x (drop-⊆ m (visiting rule) x x-left) in
+          let x-cell = in-order rule x (visiting-of rule x (drop-⊆ m (visiting rule) x x-left)) .0 in
           let r = s .soonest x x-cell (left x x-cell .1 x-left) in
           ⊎-elim (λ e. e)
           (λ k. clash (subst (Pairwise Earlier) q (pairwise-drop Earlier m (visiting rule) (visiting-falling rule)) .0 found k) (r .1))
@@ -244,20 +260,20 @@ module _ (rule : Rule) where
           ∙ sym (getD-left 256 (visiting rule) m q)
 
   -- after all the cells the scan has found the one that follows
-  pub scanned-all : (from found : ℕ) → Scanned (leads rule from) 256 found → found ≡ cellAt rule (placeAfter rule from)
-  scanned-all from found s = scanned-left (leads rule from) (placeAfter rule from) found (following from) s
+  pub scanned-all : (from found : ℕ) → (from < 256 → cellCounts rule from ≡ true) → Scanned (follows rule from) 256 found → found ≡ cellAt rule (placeAfter rule from)
+  scanned-all from found in-it s = scanned-left (follows rule from) (placeAfter rule from) found (following from in-it) s
 
   -- ---- the cells taken so far, by the next one
 
   -- the next cell begins what is left
-  pub left-at : (m : ℕ) → m < 256 → drop m (visiting rule) ≡ cellAt rule m ∷ drop (suc m) (visiting rule)
+  pub left-at : (m : ℕ) → m < mostSteps rule → drop m (visiting rule) ≡ cellAt rule m ∷ drop (suc m) (visiting rule)
   left-at m h = drop-cons (visiting rule) m 256 (rw (length-visiting rule) h)
 
-  pub left-none : (m : ℕ) → 256 ≤ m → drop m (visiting rule) ≡ []
+  pub left-none : (m : ℕ) → mostSteps rule ≤ m → drop m (visiting rule) ≡ []
   left-none m h = drop-of-length-le (visiting rule) {i = m} (subst (λ n. n ≤ m) (sym (length-visiting rule)) h)
 
-  -- while cells are left, a cell is among the first m exactly where it stands before the next one
-  pub taken-before : (m c : ℕ) → m < 256 → c < 256 → c ∈ take m (visiting rule) ↔ before rule c (cellAt rule m) ≡ true
+  -- while cells are left, one of the order is among the first m exactly where it stands before the next one
+  pub taken-before : (m c : ℕ) → m < mostSteps rule → inOrder rule c ≡ true → c ∈ take m (visiting rule) ↔ before rule c (cellAt rule m) ≡ true
   taken-before m c h g = (to, from)
     where
       to : c ∈ take m (visiting rule) → before rule c (cellAt rule m) ≡ true

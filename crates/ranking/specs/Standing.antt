@@ -6,12 +6,13 @@ use Prim.Native.Nat.{ℕ, _+_}
 use lib.Dec.{ltb, eqb}
 use lib.IntN.{ℤ}
 use lib.Signed.{ltZ, leZ}
-use Rattle.laws.specs.Lists.{_∈_, onLast}
+use Rattle.laws.specs.Lists.{_∈_, onLast, only}
 use Rattle.search.specs.Best.{best}
 use Rattle.search.specs.Search.{Search}
 use Rattle.values.specs.declared.Values.{Values}
 use Rattle.values.specs.Range.{inRange}
-use Rattle.ranking.specs.Cells.{score, cell, bestScore, greater, visiting}
+use Rattle.ranking.specs.Cells.{weighed, score, isScored, points, cell, bestScore, greater, visiting}
+use Rattle.ranking.specs.declared.Weights.{Weights}
 use Rattle.ranking.specs.declared.Rule.{Rule}
 
 -- a report that a window holds
@@ -34,13 +35,21 @@ goesFirst rule m n = ltb n m
 unfoldable pub above : Rule → Entry → Entry → Bool
 above rule e f = greater (e .score) (f .score) (goesFirst rule (e .number) (f .number))
 
--- how a report stands on a list
-abbrev pub entry : Rule → Held → Entry
-entry rule h = record { number = h .number; score = score rule (h .values) }
+-- Rule 16.2: the report counts for the question.
+abbrev pub isCounted : Rule → Held → Bool
+isCounted rule h = isScored (score rule (h .values))
 
--- what some reports bring to a list: each its entry
+-- those of some reports that do
+abbrev pub counted : Rule → List Held → List Held
+counted rule hs = only (isCounted rule) hs
+
+-- how a report that counts stands on a list
+abbrev pub entry : Rule → Held → Entry
+entry rule h = record { number = h .number; score = points (score rule (h .values)) }
+
+-- what some reports bring to a list: each that counts its entry
 unfoldable pub entries : Rule → List Held → List Entry
-entries rule hs = map (entry rule) hs
+entries rule hs = map (entry rule) (counted rule hs)
 
 -- Rule 6.4: the list of some reports.
 abbrev pub top : Rule → ℕ → List Held → List Entry
@@ -60,6 +69,10 @@ hasPlace rule k len l s = ltb len k || onLast (λ e. passes rule s (e .score)) l
 unfoldable pub placeBy : Rule → (k len : ℕ) → (last s : ℤ) → Bool
 placeBy rule k len last s = ltb len k || (not (eqb len 0) && passes rule s last)
 
+-- Values of that sum could pass that score, whatever else the rule says.
+unfoldable pub mightPass : Weights → Values → ℤ → Bool
+mightPass w v s = leZ s (weighed w v)
+
 -- ---- the search
 
 -- the cell's best possible score is not below the entry's
@@ -70,6 +83,7 @@ abbrev pub searchOf : Rule → Search Entry Held
 searchOf rule =
     record {
       above = above rule;
+      counts = isCounted rule;
       entry = entry rule;
       cellOf = λ h. cell (h .values);
       reaches = reaches rule;
@@ -86,10 +100,12 @@ Permitted h = inRange (h .values) ≡ true
 unfoldable pub foremost : Rule → ℕ → ℕ
 foremost rule entered = entered + 1
 
--- Rule 12.3, demand 3: some permitted pair of values of the cell c, added to the window as that report, stands on the best-k list of that larger window.
+-- Rules 12.3 and 16.5, demand 3: some permitted pair of values of the cell c that lies inside the ranges, added to the window as that report, stands on the best-k list of that larger
+-- window.
 pub record Wanted (rule : Rule) (k : ℕ) (hs : List Held) (entered c : ℕ) : Type 0 where
   pub pair : Held
   pub numbered : pair .number ≡ foremost rule entered
   pub permitted : Permitted pair
+  pub counted : isCounted rule pair ≡ true
   pub in-cell : cell (pair .values) ≡ c
   pub listed : entry rule pair ∈ top rule k (pair ∷ hs)

@@ -1,13 +1,14 @@
 // A question's rule: its scores, the rank order, the grid and the order in which a search takes its cells.
 
 ghost use mathlib.Core.Path.{_≡_};
-ghost use Prim.Native.Nat.{_+_, _*_, _%_, _<_, _≤_};
+ghost use mathlib.Core.Bool.{true, _&&_};
+ghost use Prim.Native.Nat.{_+_, _*_, _-_, _%_, _<_, _≤_, min};
 ghost use lib.IntN.{pos, _*ℤ_};
 ghost use Rattle.laws.specs.Whole.{equal};
 ghost use Rattle.values.specs.Range.{valueCount, low};
-ghost use Rattle.ranking.specs.Cells.{columns, cellCount, ruleOf, noRule, isNone, weightFits, fitRule, score, cell, corner, bestScore, greater, before, placeOf, cellAt, reachOf};
-ghost use Rattle.ranking.specs.Standing.{above, passes, placeBy};
-ghost use Rattle.ranking.specs.Inner.{leads, nearer, placeAfter, met, metRow};
+ghost use Rattle.ranking.specs.Cells.{columns, cellCount, inside, wholeRanges, ruleWithin, ruleOf, noRule, isNoRange, isNone, weightFits, weightsFit, isProper, rangesProper, fitRule, counts, weighed, sum, score, ScoreFits, fromLeast, cell, meets, cellCounts, nearest, corner, bestScore, greater, before, inOrder, placeOf, cellAt, cellAfter, mostSteps, stepsTo, reachOf};
+ghost use Rattle.ranking.specs.Standing.{above, passes, placeBy, mightPass};
+ghost use Rattle.ranking.specs.Inner.{leads, nearer, placeAfter, met, metRow, stripesOf, edgeOf, FirstOf, lossPart, shakePart, Words, Across};
 use values::Values;
 
 // What a score is made with: a for loss, b for shake.
@@ -20,15 +21,48 @@ impl Weights {
     pub const SMALLEST: i16 = -1000;
 
     pub const LARGEST: i16 = 1000;
+
+    // Values that would pass that score, if they count.
+    pub fn might_pass(self, values: Values, score: i32) -> bool
+        ensures { λ r. ⌜ r ≡ mightPass self (low values) score ⌝ }
+    {
+        score <= self.sum(values)
+    }
+
+    // The weighted sum of the values.
+    fn sum(self, values: Values) -> i32
+        ensures { λ r. ⌜ r ≡ weighed self (low values) ⌝ }
+    {
+        weighted(self.loss, values.loss) + weighted(self.shake, values.shake)
+    }
+}
+
+// The values from one to another, both included.
+pub struct Range {
+    pub low: u16,
+    pub high: u16,
+}
+
+// The losses and the shakes that count.
+pub struct Ranges {
+    pub loss: Range,
+    pub shake: Range,
 }
 
 // All that a question goes by.
 pub struct Rule {
     pub weights: Weights,
+    pub ranges: Ranges,
 }
 
-// How many cells have a best possible score of at least some score, and which of the others a search takes first; CELLS,
-// where there is none.
+// What a report is for a question: a score, or none where it doesn't count.
+pub enum Score {
+    Scored(i32),
+    DoesNotCount,
+}
+
+// How many of the cells that a search can take have a best possible score of at least some score, and which of the others it
+// takes first; CELLS, where there is none.
 pub struct Reach {
     pub cells: u16,
     pub next: u16,
@@ -41,19 +75,100 @@ struct Sought {
     best: i32,
 }
 
+// Columns or rows of the grid: from the first up to the end.
+struct Stripes {
+    first: u16,
+    end: u16,
+}
+
+impl Ranges {
+    // Every value that a report can have.
+    pub fn whole() -> Ranges
+        ensures { λ r. ⌜ r ≡ wholeRanges ⌝ }
+    {
+        let loss = Range {
+            low: 0,
+            high: Values::LARGEST,
+        };
+        let shake = loss;
+        Ranges { loss, shake }
+    }
+}
+
+impl Range {
+    // The value lies inside.
+    fn has(self, value: u16) -> bool
+        ensures { λ r. ⌜ r ≡ inside self value ⌝ }
+    {
+        self.low <= value && value <= self.high
+    }
+
+    // In order, and with no end over the largest value.
+    fn is_proper(self) -> bool
+        ensures { λ r. ⌜ r ≡ isProper self ⌝ }
+    {
+        self.low <= self.high && self.high <= Values::LARGEST
+    }
+
+    // Both ends are 0.
+    fn is_none(self) -> bool
+        ensures { λ r. ⌜ r ≡ isNoRange self ⌝ }
+    {
+        self.low == 0 && self.high == 0
+    }
+
+    // Some value of that column or row lies inside.
+    fn meets(self, index: u16) -> bool
+        requires { ⌜ index < columns ⌝ }
+        ensures { λ r. ⌜ r ≡ meets self index ⌝ }
+    {
+        let least = Grid::SIDE * index;
+        if self.low <= self.high {
+            return self.low <= least + (Grid::SIDE - 1) && least <= self.high;
+        }
+        false
+    }
+
+    // The columns or rows that have a value inside.
+    fn stripes(self) -> Stripes
+        ensures { λ r. ⌜ r ≡ stripesOf self ⌝ }
+    {
+        let last = self.high / Grid::SIDE;
+        if self.high < self.low {
+            return Stripes { first: 0, end: 0 };
+        }
+        if Values::LARGEST < self.low {
+            return Stripes { first: 0, end: 0 };
+        }
+        Stripes {
+            first: self.low / Grid::SIDE,
+            end: smaller(last, Grid::COLUMNS - 1) + 1,
+        }
+    }
+}
+
 impl Rule {
+    // A question about all values.
     pub fn of(weights: Weights) -> Rule
         ensures { λ r. ⌜ r ≡ ruleOf weights ⌝ }
     {
-        Rule { weights }
+        Rule::within(weights, Ranges::whole())
+    }
+
+    // A question about the values inside these ranges.
+    pub fn within(weights: Weights, ranges: Ranges) -> Rule
+        ensures { λ r. ⌜ r ≡ ruleWithin weights ranges ⌝ }
+    {
+        Rule { weights, ranges }
     }
 
     // The rule of an empty slot: all 0.
     pub fn none() -> Rule
         ensures { λ r. ⌜ r ≡ noRule ⌝ }
     {
-        let weights = Weights { loss: 0, shake: 0 };
-        Rule { weights }
+        let loss = Range { low: 0, high: 0 };
+        let shake = loss;
+        Rule::within(Weights { loss: 0, shake: 0 }, Ranges { loss, shake })
     }
 
     // All of it is 0.
@@ -61,8 +176,13 @@ impl Rule {
         ensures { λ r. ⌜ r ≡ isNone self ⌝ }
     {
         let weights = self.weights;
+        let ranges = self.ranges;
         if is_zero(weights.loss) {
-            return is_zero(weights.shake);
+            if is_zero(weights.shake) {
+                if ranges.loss.is_none() {
+                    return ranges.shake.is_none();
+                }
+            }
         }
         false
     }
@@ -71,16 +191,68 @@ impl Rule {
     pub fn fit(self) -> bool
         ensures { λ r. ⌜ r ≡ fitRule self ⌝ }
     {
+        if self.weights_fit() {
+            return self.ranges_proper();
+        }
+        false
+    }
+
+    // Both weights are in their range.
+    pub fn weights_fit(self) -> bool
+        ensures { λ r. ⌜ r ≡ weightsFit self ⌝ }
+    {
         let weights = self.weights;
         weight_fits(weights.loss) && weight_fits(weights.shake)
     }
 
-    // The score of some values, of which the low 12 bits count.
-    pub fn score(self, values: Values) -> i32
+    // Both ranges are in order, with no end over the largest value.
+    pub fn ranges_proper(self) -> bool
+        ensures { λ r. ⌜ r ≡ rangesProper self ⌝ }
+    {
+        let ranges = self.ranges;
+        ranges.loss.is_proper() && ranges.shake.is_proper()
+    }
+
+    // What some values are for the question; the low 12 bits of each are looked at.
+    pub fn score(self, values: Values) -> Score
         ensures { λ r. ⌜ r ≡ score self (low values) ⌝ }
     {
-        let weights = self.weights;
-        weighted(weights.loss, values.loss) + weighted(weights.shake, values.shake)
+        if self.counts(values) {
+            return Score::Scored(self.sum(values));
+        }
+        Score::DoesNotCount
+    }
+
+    // The same, and none also where the score is below `least`. Most values fail by that alone, so it is looked at first.
+    pub fn score_from(self, values: Values, least: i32) -> Score
+        ensures { λ r. ⌜ (r ≡ fromLeast least (score self (low values))) × ScoreFits self (low values) ⌝ }
+    {
+        let sum = self.sum(values);
+        if sum < least {
+            return Score::DoesNotCount;
+        }
+        if self.counts(values) {
+            return Score::Scored(sum);
+        }
+        Score::DoesNotCount
+    }
+
+    // Each value lies inside its range.
+    fn counts(self, values: Values) -> bool
+        ensures { λ r. ⌜ r ≡ counts self (low values) ⌝ }
+    {
+        let ranges = self.ranges;
+        if ranges.loss.has(values.loss % Values::COUNT) {
+            return ranges.shake.has(values.shake % Values::COUNT);
+        }
+        false
+    }
+
+    // The weighted sum of the values.
+    fn sum(self, values: Values) -> i32
+        ensures { λ r. ⌜ r ≡ sum self (low values) ⌝ }
+    {
+        self.weights.sum(values)
     }
 
     // A report ranks above another (rule 6.3): by its score, and of equal ones by its number.
@@ -113,15 +285,38 @@ impl Rule {
         self.passes(score, last)
     }
 
-    // A cell's best possible score.
+    // A cell's best possible score; of a cell with no value inside the ranges, that of its values nearest to them.
     pub fn best_score(self, cell: u8) -> i32
         ensures { λ r. ⌜ r ≡ bestScore self cell ⌝ }
     {
         let n = cell as u16;
         let weights = self.weights;
-        let loss = corner(weights.loss, n % Grid::COLUMNS);
-        let shake = corner(weights.shake, n / Grid::COLUMNS);
-        self.score(Values { loss, shake })
+        let ranges = self.ranges;
+        let loss = corner(weights.loss, ranges.loss, n % Grid::COLUMNS);
+        let shake = corner(weights.shake, ranges.shake, n / Grid::COLUMNS);
+        self.sum(Values { loss, shake })
+    }
+
+    // Some values of the cell count.
+    pub fn cell_counts(self, cell: u8) -> bool
+        ensures { λ r. ⌜ r ≡ cellCounts self cell ⌝ }
+    {
+        let n = cell as u16;
+        let ranges = self.ranges;
+        if ranges.loss.meets(n % Grid::COLUMNS) {
+            return ranges.shake.meets(n / Grid::COLUMNS);
+        }
+        false
+    }
+
+    // A search can take this cell; CELLS and more are none.
+    pub fn in_order(self, cell: u16) -> bool
+        ensures { λ r. ⌜ r ≡ inOrder self cell ⌝ }
+    {
+        if cell < Grid::CELLS {
+            return self.cell_counts(cell as u8);
+        }
+        false
     }
 
     // A search takes the cell c before the cell d.
@@ -132,13 +327,13 @@ impl Rule {
     }
 
     // How many cells a search takes before this one.
-    pub fn place_of(self, cell: u8) -> u16
+    fn place_of(self, cell: u8) -> u16
         ensures { λ r. ⌜ r ≡ placeOf self cell ⌝ }
     {
         let mut n: u16 = 0;
         let mut d: u16 = 0;
         while d < Grid::CELLS {
-            if self.before(d as u8, cell) {
+            if self.comes_before(d as u8, cell) {
                 n += 1;
             }
             d += 1;
@@ -146,32 +341,66 @@ impl Rule {
         n
     }
 
-    // The cell that a search takes first.
-    pub fn first_cell(self) -> u8
-        ensures { λ r. ⌜ r ≡ cellAt self 0 ⌝ }
+    // A search takes the cell c, and does so before d.
+    fn comes_before(self, c: u8, d: u8) -> bool
+        ensures { λ r. ⌜ r ≡ (cellCounts self c && before self c d) ⌝ }
     {
-        self.seek(Grid::CELLS) as u8
+        if self.cell_counts(c) {
+            return self.before(c, d);
+        }
+        false
     }
 
-    // The cell that a search takes after this one; CELLS, where it is the last.
-    pub fn next_cell(self, cell: u8) -> u16
-        ensures { λ r. ⌜ r ≡ cellAt self (placeOf self cell + 1) ⌝ }
+    // How many cells a search can take.
+    pub fn most_steps(self) -> u16
+        ensures { λ r. ⌜ r ≡ mostSteps self ⌝ }
     {
-        self.seek(cell as u16)
+        let ranges = self.ranges;
+        let columns = ranges.loss.stripes();
+        let rows = ranges.shake.stripes();
+        columns.width() * rows.width()
+    }
+
+    // The steps of a search that takes this cell next; all, where it can't be taken.
+    pub fn steps_to(self, cell: u16) -> u16
+        ensures { λ r. ⌜ r ≡ stepsTo self cell ⌝ }
+    {
+        if self.in_order(cell) {
+            return self.place_of(cell as u8);
+        }
+        self.most_steps()
+    }
+
+    // The cell that a search takes first; CELLS, where there is none.
+    pub fn first_cell(self) -> u16
+        ensures { λ r. ⌜ r ≡ cellAt self 0 ⌝ }
+    {
+        self.seek(Grid::CELLS)
+    }
+
+    // The cell that a search takes after this one; CELLS, where it is the last or can't be taken.
+    pub fn next_cell(self, cell: u16) -> u16
+        ensures { λ r. ⌜ r ≡ cellAfter self cell ⌝ }
+    {
+        if self.in_order(cell) {
+            return self.seek(cell);
+        }
+        Grid::CELLS
     }
 
     // How far a search goes whose list ends in that score.
     pub fn reach(self, score: i32) -> Reach
         ensures { λ r. ⌜ r ≡ reachOf self score ⌝ }
     {
+        let across = self.across();
         let mut sought = Sought {
             cells: 0,
             next: Grid::CELLS,
-            best: 0,
+            best: -2147483648,
         };
         let mut row: u16 = 0;
         while row < Grid::ROWS {
-            sought = self.row_met(sought, row, score);
+            sought = self.row_sought(across, sought, row, score);
             row += 1;
         }
         Reach {
@@ -180,16 +409,87 @@ impl Rule {
         }
     }
 
-    // The cells of one row more.
-    fn row_met(self, sought: Sought, row: u16, score: i32) -> Sought
-        requires { ⌜ (row < columns) × (sought .cells ≤ columns * row) ⌝ }
+    // What the best loss of each column counts for.
+    fn across(self) -> [i32; Grid::ACROSS]
+        ensures { λ r. ⌜ Across self r ⌝ }
+    {
+        let mut parts = [0i32; Grid::ACROSS];
+        let mut column: usize = 0;
+        while column < Grid::ACROSS {
+            parts[column] = self.loss_part(column as u16);
+            column += 1;
+        }
+        parts
+    }
+
+    // What the best loss of a column counts for.
+    fn loss_part(self, column: u16) -> i32
+        requires { ⌜ column < columns ⌝ }
+        ensures { λ r. ⌜ (r ≡ lossPart self column) × Words self ⌝ }
+    {
+        let weights = self.weights;
+        let ranges = self.ranges;
+        weighted(weights.loss, corner(weights.loss, ranges.loss, column))
+    }
+
+    // What the best shake of a row counts for.
+    fn shake_part(self, row: u16) -> i32
+        requires { ⌜ row < columns ⌝ }
+        ensures { λ r. ⌜ r ≡ shakePart self row ⌝ }
+    {
+        let weights = self.weights;
+        let ranges = self.ranges;
+        weighted(weights.shake, corner(weights.shake, ranges.shake, row))
+    }
+
+    // The cells of one row more. Where the one that is taken first is below the score, all are, and it alone matters.
+    fn row_sought(self, across: [i32; Grid::ACROSS], sought: Sought, row: u16, score: i32) -> Sought
+        requires { ⌜ (row < columns) × (sought .cells ≤ columns * row) × Across self across ⌝ }
         ensures { λ r. ⌜ r ≡ metRow self score sought row columns ⌝ }
     {
+        let cell = self.row_first(row);
+        if cell < Grid::CELLS {
+            let best = self.best_score(cell as u8);
+            if best < score {
+                return sought.met(cell, best, score);
+            }
+        }
+        self.row_met(across, sought, row, score)
+    }
+
+    // The cell of a row that a search takes first; CELLS, where it takes none of them.
+    fn row_first(self, row: u16) -> u16
+        requires { ⌜ row < columns ⌝ }
+        ensures { λ r. ⌜ (r < cellCount → FirstOf self row r) ⌝ }
+    {
+        let weights = self.weights;
+        let ranges = self.ranges;
+        let across = ranges.loss.stripes();
+        if across.first < across.end {
+            if ranges.shake.meets(row) {
+                return Grid::COLUMNS * row + across.edge(weights.loss);
+            }
+        }
+        Grid::CELLS
+    }
+
+    // The cells of a row, one by one.
+    fn row_met(self, across: [i32; Grid::ACROSS], sought: Sought, row: u16, score: i32) -> Sought
+        requires { ⌜ (row < columns) × (sought .cells ≤ columns * row) × Across self across ⌝ }
+        ensures { λ r. ⌜ r ≡ metRow self score sought row columns ⌝ }
+    {
+        let ranges = self.ranges;
+        if !ranges.shake.meets(row) {
+            return sought;
+        }
+        let part = self.shake_part(row);
+        let stripes = ranges.loss.stripes();
+        let end = stripes.end;
         let mut found = sought;
-        let mut column: u16 = 0;
-        while column < Grid::COLUMNS {
+        let mut column = stripes.first;
+        while column < end {
             let cell = Grid::COLUMNS * row + column;
-            found = found.met(cell, self.best_score(cell as u8), score);
+            found = found.met(cell, across[column as usize] + part, score);
             column += 1;
         }
         found
@@ -197,6 +497,7 @@ impl Rule {
 
     // The cell that is taken next after `from`, or first where `from` is no cell.
     fn seek(self, from: u16) -> u16
+        requires { ⌜ (from < cellCount → cellCounts self from ≡ true) ⌝ }
         ensures { λ r. ⌜ r ≡ cellAt self (placeAfter self from) ⌝ }
     {
         let mut found: u16 = Grid::CELLS;
@@ -210,11 +511,14 @@ impl Rule {
 
     // Of the cell found so far and d, the one that follows `from` sooner.
     fn nearer(self, from: u16, found: u16, d: u16) -> u16
+        requires { ⌜ d < cellCount ⌝ }
         ensures { λ r. ⌜ r ≡ nearer self from found d ⌝ }
     {
-        if self.leads(from, d) {
-            if self.leads(d, found) {
-                return d;
+        if self.cell_counts(d as u8) {
+            if self.leads(from, d) {
+                if self.leads(d, found) {
+                    return d;
+                }
             }
         }
         found
@@ -233,6 +537,26 @@ impl Rule {
     }
 }
 
+impl Stripes {
+    // The one whose values count for most by that weight, or the first of several such.
+    fn edge(self, weight: i16) -> u16
+        requires { ⌜ self .first < self .end ⌝ }
+        ensures { λ r. ⌜ r ≡ edgeOf weight self ⌝ }
+    {
+        if 0 < weight { self.end - 1 } else { self.first }
+    }
+
+    // How many they are.
+    fn width(self) -> u16
+        ensures { λ r. ⌜ r ≡ self .end - self .first ⌝ }
+    {
+        if self.first < self.end {
+            return self.end - self.first;
+        }
+        0
+    }
+}
+
 impl Sought {
     // One cell more, of a greater number than those before: it is below the score and taken sooner than the
     // others that are, or not, or it counts.
@@ -243,28 +567,21 @@ impl Sought {
         let cells = self.cells;
         let next = self.next;
         let top = self.best;
-        if best < score {
-            if next < Grid::CELLS {
-                if top < best {
-                    return Sought {
-                        cells,
-                        next: cell,
-                        best,
-                    };
-                }
-                return self;
-            }
+        if score <= best {
+            return Sought {
+                cells: cells + 1,
+                next,
+                best: top,
+            };
+        }
+        if top < best {
             return Sought {
                 cells,
                 next: cell,
                 best,
             };
         }
-        Sought {
-            cells: cells + 1,
-            next,
-            best: top,
-        }
+        self
     }
 }
 
@@ -290,16 +607,36 @@ fn weighted(weight: i16, value: u16) -> i32
     a * v
 }
 
-// The value of a column or a row that counts for most by its weight.
-fn corner(weight: i16, index: u16) -> u16
+// The value of a column or a row that counts for most by its weight and lies inside the range, where one does.
+fn corner(weight: i16, range: Range, index: u16) -> u16
     requires { ⌜ index < columns ⌝ }
-    ensures { λ r. ⌜ r ≡ corner weight index ⌝ }
+    ensures { λ r. ⌜ r ≡ corner weight range index ⌝ }
 {
     if 0 < weight {
-        Grid::SIDE * index + (Grid::SIDE - 1)
+        nearest(range.high, index)
     } else {
-        Grid::SIDE * index
+        nearest(range.low, index)
     }
+}
+
+// The value of a column or a row that is nearest to this one.
+fn nearest(value: u16, index: u16) -> u16
+    requires { ⌜ index < columns ⌝ }
+    ensures { λ r. ⌜ r ≡ nearest value index ⌝ }
+{
+    let least = Grid::SIDE * index;
+    let most = least + (Grid::SIDE - 1);
+    if value < least {
+        return least;
+    }
+    smaller(value, most)
+}
+
+// The smaller of two numbers.
+fn smaller(a: u16, b: u16) -> u16
+    ensures { λ r. ⌜ r ≡ min a b ⌝ }
+{
+    if a < b { a } else { b }
 }
 
 // a is greater than b, or they are equal and the tie holds.
@@ -327,7 +664,10 @@ impl Grid {
 
     pub const CELLS: u16 = 256;
 
-    // The cell of some values, of which the low 12 bits count.
+    // The columns, as a length.
+    const ACROSS: usize = 16;
+
+    // The cell of some values, of which the low 12 bits are looked at.
     pub fn cell(values: Values) -> u8
         ensures { λ r. ⌜ r ≡ cell (low values) ⌝ }
     {

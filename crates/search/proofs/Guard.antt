@@ -42,12 +42,12 @@ module _ {E I : Type 0} (s : Search E I) where
         low (failed h) = h
 
     -- What enters an unmarked cell changes nothing.
-    pub guard-unmarked : (marked : List ℕ) (l : List E) → Guarded k marked (best (s .above) k l) → (i : I) → Good i → (s .cellOf i ∈ marked → ⊥) → best (s .above) k (s .entry i ∷ l) ≡ best (s .above) k l
-    guard-unmarked marked l g i good off =
-        let r = g (s .cellOf i) (sound .covers i good) off in
+    pub guard-unmarked : (marked : List ℕ) (l : List E) → Guarded k marked (best (s .above) k l) → (i : I) → Good i → s .counts i ≡ true → (s .cellOf i ∈ marked → ⊥) → best (s .above) k (s .entry i ∷ l) ≡ best (s .above) k l
+    guard-unmarked marked l g i good counted off =
+        let r = g (s .cellOf i) (sound .covers i good counted) off in
         let low = lowest-full l (r .0) in
         best-below (s .above) (sound .strict) k (s .entry i) l (r .0)
-        (low .is-last (λ z. s .above z (s .entry i)) ∙ sound .bound i good (low .entry) (sym (low .is-last (s .reaches (s .cellOf i))) ∙ r .1))
+        (low .is-last (λ z. s .above z (s .entry i)) ∙ sound .bound i good counted (low .entry) (sym (low .is-last (s .reaches (s .cellOf i))) ∙ r .1))
 
     module _ (rises : (c : ℕ) (e f : E) → s .above e f ≡ true → s .reaches c f ≡ false → s .reaches c e ≡ false) where
       -- Marks go on guarding the list when one more enters: a full list stays full, and its last entry doesn't fall.

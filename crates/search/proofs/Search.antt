@@ -1,4 +1,4 @@
--- The search finds the best k of all that is held, and takes exactly the cells that could matter: a cell whose bound is below the final
+-- The search finds the best k of all that is held and counts, and takes exactly the cells that could matter: a cell whose bound is below the final
 -- last entry is taken after all the cells of the list's entries, and by then the search has stopped.
 -- Assumes nothing.
 use mathlib.Core.Path.{_≡_, refl, sym, ap, _∙_, subst}
@@ -14,7 +14,7 @@ use lib.ListN.{length, take, drop, take-append-drop, length-drop}
 use lib.Seq.{drop-length, length-take-le, take-nil}
 use Rattle.laws.specs.Lists.{_∈_, onLast, only}
 use Rattle.search.specs.Best.{best}
-use Rattle.search.specs.Search.{Search, has, entries, heldIn, listAfter, stops, ended, steps, found, marks}
+use Rattle.search.specs.Search.{Search, has, entries, heldIn, countedIn, listAfter, stops, ended, steps, found, marks}
 use Rattle.laws.proofs.Tests.{Tested, passed, failed, tested, clash, and-both, and-true, or-either, or-left, or-right}
 use Rattle.laws.proofs.Lists.{_⊆_, Same, Pairwise, Distinct, there, moved, take-⊆, take-more, lt-or-eq, pairwise-drop, pairwise-take, pairwise-only, only-in, only-of, only-all-fail, placed, take-next, Other}
 use Rattle.laws.proofs.Orders.{StrictTotal, ltb-strict, opposite, differs}
@@ -50,12 +50,12 @@ All {I} Good hs = (i : I) → i ∈ hs → Good i
 pub record Sound {E I : Type 0} (s : Search E I) (Good : I → Type 0) : Type 0 where
   pub strict : StrictTotal (s .above)
   pub distinct : Distinct (s .order)
-  -- each lies in a cell of the order
-  pub covers : (i : I) → Good i → s .cellOf i ∈ s .order
+  -- each that counts lies in a cell of the order
+  pub covers : (i : I) → Good i → s .counts i ≡ true → s .cellOf i ∈ s .order
   -- cells are taken by falling bound
   pub falling : Pairwise (λ c d. (e : E) → s .reaches d e ≡ true → s .reaches c e ≡ true) (s .order)
   -- no item ranks above the bound of its cell
-  pub bound : (i : I) → Good i → (e : E) → s .reaches (s .cellOf i) e ≡ false → s .above e (s .entry i) ≡ true
+  pub bound : (i : I) → Good i → s .counts i ≡ true → (e : E) → s .reaches (s .cellOf i) e ≡ false → s .above e (s .entry i) ≡ true
 
 -- What a value that is added as the newest may do, in a window of things hs: `New c e` says that e is the entry of a permitted value of the cell c.
 pub record Newest {E I : Type 0} (s : Search E I) (hs : List I) (New : ℕ → E → Type 0) : Type 0 where
@@ -66,20 +66,29 @@ pub record Newest {E I : Type 0} (s : Search E I) (hs : List I) (New : ℕ → E
   pub fresh : (c : ℕ) (e : E) → New c e → e ∈ entries s hs → ⊥
 
 module _ {E I : Type 0} (s : Search E I) where
-  pub held-in : (cs : List ℕ) (hs : List I) {i : I} → i ∈ hs → s .cellOf i ∈ cs → s .entry i ∈ entries s (heldIn s cs hs)
-  held-in cs hs {i} m k = Memᴰ·map (s .entry) (only-in (λ j. has (s .cellOf j) cs) hs m (in-has (s .cellOf i) cs k))
+  -- a held thing that counts
+  abbrev pub Counted : List I → I → Type 0
+  Counted hs i = (i ∈ hs) × (s .counts i ≡ true)
 
-  pub held-of : (cs : List ℕ) (hs : List I) {e : E} → e ∈ entries s (heldIn s cs hs) → (i : I) × (i ∈ hs) × (s .cellOf i ∈ cs) × (s .entry i ≡ e)
+  pub entries-in : (hs : List I) {i : I} → Counted hs i → s .entry i ∈ entries s hs
+  entries-in hs m = Memᴰ·map (s .entry) (only-in (s .counts) hs (m .0) (m .1))
+
+  pub entries-of : (hs : List I) {e : E} → e ∈ entries s hs → (i : I) × Counted hs i × (s .entry i ≡ e)
+  entries-of hs m =
+      let r = Memᴰ·of-map (s .entry) (only (s .counts) hs) m in
+      (r .0, only-of (s .counts) hs (r .1), r .2)
+
+  pub held-in : (cs : List ℕ) (hs : List I) {i : I} → Counted hs i → s .cellOf i ∈ cs → s .entry i ∈ entries s (heldIn s cs hs)
+  held-in cs hs {i} m k = entries-in (heldIn s cs hs) (only-in (λ j. has (s .cellOf j) cs) hs (m .0) (in-has (s .cellOf i) cs k), m .1)
+
+  pub held-of : (cs : List ℕ) (hs : List I) {e : E} → e ∈ entries s (heldIn s cs hs) → (i : I) × Counted hs i × (s .cellOf i ∈ cs) × (s .entry i ≡ e)
   held-of cs hs m =
-      let r = Memᴰ·of-map (s .entry) (heldIn s cs hs) m in
-      let q = only-of (λ j. has (s .cellOf j) cs) hs (r .1) in
-      (r .0, q .0, has-in (s .cellOf (r .0)) cs (q .1), r .2)
-
-  pub entries-of : (hs : List I) {e : E} → e ∈ entries s hs → (i : I) × (i ∈ hs) × (s .entry i ≡ e)
-  entries-of hs m = Memᴰ·of-map (s .entry) hs m
+      let r = entries-of (heldIn s cs hs) m in
+      let q = only-of (λ j. has (s .cellOf j) cs) hs (r .1 .0) in
+      (r .0, (q .0, r .1 .1), has-in (s .cellOf (r .0)) cs (q .1), r .2)
 
   pub held-part : (cs : List ℕ) (hs : List I) → entries s (heldIn s cs hs) ⊆ entries s hs
-  held-part cs hs e m = let r = held-of cs hs m in moved (r .3) (Memᴰ·map (s .entry) (r .1))
+  held-part cs hs e m = let r = held-of cs hs m in moved (r .3) (entries-in hs (r .1))
 
   pub steps-le : (k : ℕ) (hs : List I) → steps s k hs ≤ length (s .order)
   unfolding steps
@@ -134,17 +143,15 @@ module _ {E I : Type 0} (s : Search E I) where
         ∙ best-same (s .above) strict k (entries s (heldIn s (first ++ (c ∷ [])) hs)) (entries s (heldIn s first hs) ++ entries s (heldIn s (c ∷ []) hs)) (held-append first (c ∷ []) hs)
         ∙ sym (best-append (s .above) strict k (entries s (heldIn s first hs)) (entries s (heldIn s (c ∷ []) hs)))
 
-    module _ (k : ℕ) (hs hs′ : List I) (w : Same (heldIn s (marks s k hs) hs) (heldIn s (marks s k hs) hs′)) where
-      over : (cs : List ℕ) (gs gs′ : List I) → cs ⊆ marks s k hs → heldIn s (marks s k hs) gs ⊆ heldIn s (marks s k hs) gs′ → entries s (heldIn s cs gs) ⊆ entries s (heldIn s cs gs′)
+    module _ (k : ℕ) (hs hs′ : List I) (w : Same (countedIn s (marks s k hs) hs) (countedIn s (marks s k hs) hs′)) where
+      over : (cs : List ℕ) (gs gs′ : List I) → cs ⊆ marks s k hs → countedIn s (marks s k hs) gs ⊆ countedIn s (marks s k hs) gs′ → entries s (heldIn s cs gs) ⊆ entries s (heldIn s cs gs′)
       over cs gs gs′ h g e m =
           let r = held-of cs gs m in
           let c = s .cellOf (r .0) in
+          let there = only-in (λ j. has (s .cellOf j) (marks s k hs)) gs (r .1 .0) (in-has c (marks s k hs) (h c (r .2))) in
+          let q = only-of (s .counts) (heldIn s (marks s k hs) gs′) (g (r .0) (only-in (s .counts) (heldIn s (marks s k hs) gs) there (r .1 .1))) in
           moved (r .3)
-          (held-in cs gs′
-          (only-of (λ j. has (s .cellOf j) (marks s k hs)) gs′
-          (g (r .0) (only-in (λ j. has (s .cellOf j) (marks s k hs)) gs (r .1) (in-has c (marks s k hs) (h c (r .2)))))
-          .0)
-          (r .2))
+          (held-in cs gs′ (only-of (λ j. has (s .cellOf j) (marks s k hs)) gs′ (q .0) .0, q .1) (r .2))
 
       list-local : (n : ℕ) → n ≤ steps s k hs → listAfter s k hs n ≡ listAfter s k hs′ n
       list-local n h =
@@ -210,16 +217,16 @@ module _ {E I : Type 0} (s : Search E I) {Good : I → Type 0} (sound : Sound s 
 
   module _ (hs : List I) (good : All Good hs) where
     -- before the place n or after it
-    sides : (n : ℕ) (i : I) → i ∈ hs → (s .cellOf i ∈ take n (s .order)) ⊎ (s .cellOf i ∈ drop n (s .order))
+    sides : (n : ℕ) (i : I) → Counted s hs i → (s .cellOf i ∈ take n (s .order)) ⊎ (s .cellOf i ∈ drop n (s .order))
     sides n i m =
         List·Memᴰ·append-cases (take n (s .order))
-        (subst (λ l. s .cellOf i ∈ l) (sym (take-append-drop n (s .order))) (sound .covers i (good i m)))
+        (subst (λ l. s .cellOf i ∈ l) (sym (take-append-drop n (s .order))) (sound .covers i (good i (m .0)) (m .1)))
 
     -- all the things in the cells that are left are below e
-    below : (c : ℕ) (left : List ℕ) (n : ℕ) → drop n (s .order) ≡ c ∷ left → (e : E) → s .reaches c e ≡ false → (i : I) → i ∈ hs → s .cellOf i ∈ drop n (s .order) → s .above e (s .entry i) ≡ true
-    below c left n q e h i m k = sound .bound i (good i m) e (unreached c left n q e h (s .cellOf i) k)
+    below : (c : ℕ) (left : List ℕ) (n : ℕ) → drop n (s .order) ≡ c ∷ left → (e : E) → s .reaches c e ≡ false → (i : I) → Counted s hs i → s .cellOf i ∈ drop n (s .order) → s .above e (s .entry i) ≡ true
+    below c left n q e h i m k = sound .bound i (good i (m .0)) (m .1) e (unreached c left n q e h (s .cellOf i) k)
 
-    -- The list that a search leaves is the best k of all that is held.
+    -- The list that a search leaves is the best k of all that is held and counts.
     pub found-is : (k : ℕ) → found s k hs ≡ best (s .above) k (entries s hs)
     found-is k = go (drop n (s .order)) refl (ends s k hs)
       where
@@ -241,24 +248,26 @@ module _ {E I : Type 0} (s : Search E I) {Good : I → Type 0} (sound : Sound s 
         fall : Falling (s .above) F
         fall = best-falling (s .above) (sound .strict) k inside
 
-        others-of : {x : E} → x ∈ others → (i : I) × (i ∈ hs) × (s .cellOf i ∈ drop n (s .order)) × (s .entry i ≡ x)
+        others-of : {x : E} → x ∈ others → (i : I) × Counted s hs i × (s .cellOf i ∈ drop n (s .order)) × (s .entry i ≡ x)
         others-of m =
-            let r = Memᴰ·of-map (s .entry) (only (λ i. not (has (s .cellOf i) taken)) hs) m in
-            let q = only-of (λ i. not (has (s .cellOf i) taken)) hs (r .1) in (
+            let r = entries-of s (only (λ i. not (has (s .cellOf i) taken)) hs) m in
+            let q = only-of (λ i. not (has (s .cellOf i) taken)) hs (r .1 .0) in (
               r .0,
-              q .0,
-              ⊎-elim (λ z. clash (in-has (s .cellOf (r .0)) taken z) (not-true (has (s .cellOf (r .0)) taken) (q .1))) (λ z. z) (sides n (r .0) (q .0)),
+              (q .0, r .1 .1),
+              ⊎-elim (λ z. clash (in-has (s .cellOf (r .0)) taken z) (not-true (has (s .cellOf (r .0)) taken) (q .1))) (λ z. z) (sides n (r .0) (q .0, r .1 .1)),
               r .2,
             )
 
         apart : others ++ inside ⊆ entries s hs
         apart e m =
-            ⊎-elim (λ z. let r = others-of z in moved (r .3) (Memᴰ·map (s .entry) (r .1))) (held-part s taken hs e)
+            ⊎-elim (λ z. let r = others-of z in moved (r .3) (entries-in s hs (r .1))) (held-part s taken hs e)
             (List·Memᴰ·append-cases others m)
 
-        put : (i : I) → i ∈ hs → Tested (has (s .cellOf i) taken) → s .entry i ∈ others ++ inside
+        put : (i : I) → Counted s hs i → Tested (has (s .cellOf i) taken) → s .entry i ∈ others ++ inside
         put i m (passed t) = Memᴰ·append-right others (held-in s taken hs m (has-in (s .cellOf i) taken t))
-        put i m (failed t) = Memᴰ·append-left inside (Memᴰ·map (s .entry) (only-in (λ j. not (has (s .cellOf j) taken)) hs m (ap not t)))
+        put i m (failed t) =
+            Memᴰ·append-left inside
+            (entries-in s (only (λ j. not (has (s .cellOf j) taken)) hs) (only-in (λ j. not (has (s .cellOf j) taken)) hs (m .0) (ap not t), m .1))
 
         together : entries s hs ⊆ others ++ inside
         together e m = let r = entries-of s hs m in moved (r .2) (put (r .0) (r .1) (tested (has (s .cellOf (r .0)) taken)))

@@ -9,7 +9,7 @@ use Rattle.search.specs.Best.{best}
 use Rattle.search.specs.Search.{Search, entries}
 
 module _ {E I : Type 0} (s : Search E I) where
-  -- the cell could put an entry on the list of all that is held: it is short, or the cell reaches its last entry
+  -- the cell could put an entry on the list of all that is held and counts: it is short, or the cell reaches its last entry
   abbrev pub matters : ℕ → List I → ℕ → Bool
   matters k hs c =
       let true-list = best (s .above) k (entries s hs) in

@@ -11,7 +11,9 @@ use Rattle.search.specs.Best.{best}
 pub record Search (E I : Type 0) : Type 0 where
   -- the first ranks above the second
   pub above : E → E → Bool
-  -- how a held thing stands on a list
+  -- a held thing that doesn't count stands on no list
+  pub counts : I → Bool
+  -- how one that counts stands there
   pub entry : I → E
   pub cellOf : I → ℕ
   -- the cell's best possible score is not below the entry's
@@ -30,13 +32,17 @@ least p zero n = n
 least p (suc fuel) n = elim (p n) [ true ↦ n | false ↦ least p fuel (suc n) ]
 
 module _ {E I : Type 0} (s : Search E I) where
-  -- the entries of all that is held
+  -- the entries of all that is held and counts
   abbrev pub entries : List I → List E
-  entries hs = map (s .entry) hs
+  entries hs = map (s .entry) (only (s .counts) hs)
 
   -- what is held in those cells
   abbrev pub heldIn : List ℕ → List I → List I
   heldIn cs hs = only (λ i. has (s .cellOf i) cs) hs
+
+  -- those of it that count
+  abbrev pub countedIn : List ℕ → List I → List I
+  countedIn cs hs = only (s .counts) (heldIn cs hs)
 
   -- rule 7.5: after n steps, the best k of what the first n cells hold
   abbrev pub listAfter : ℕ → List I → ℕ → List E

@@ -13,10 +13,11 @@ use lib.IntN.{ℤ, pos}
 use lib.ListN.{length, getD, take, drop}
 use Rattle.laws.specs.Lists.{onLast}
 use Rattle.values.specs.declared.Values.{Values}
-use Rattle.ranking.specs.Cells.{score}
-use Rattle.ranking.specs.Standing.{Entry, passes, hasPlace, placeBy}
+use Rattle.ranking.specs.Cells.{sum, score, isScored, points}
+use Rattle.ranking.specs.Standing.{Entry, passes, hasPlace, placeBy, mightPass}
 use Rattle.ranking.specs.declared.Rule.{Rule}
-use Rattle.ranking.proofs.Entries.{no-place, place-none, place-last}
+use Rattle.ranking.proofs.Cells.{points-sum}
+use Rattle.ranking.proofs.Entries.{might-not, no-place, place-none, place-last}
 use Rattle.laws.proofs.Lists.{lt-or-eq}
 use Rattle.laws.proofs.Tests.{Tested, passed, failed, tested, and-both, and-true, if-so, if-not}
 use Rattle.question.specs.declared.Question.{Question}
@@ -27,7 +28,7 @@ use Rattle.list.proofs.Stored.{Roomy, lineAt, take-line}
 use Rattle.question.proofs.Stored.{all-lines, last-line, no-lines}
 use Rattle.slot.specs.Turn.{placeOn, takes, lists}
 use Rattle.slot.specs.Gauges.{lastScore, leastOf, lowest, lowestOf, gaugeOf, isQuiet, isIdle, upToLast}
-use Rattle.slot.proofs.Listing.{takes-no-place, front-numbers, later-numbers, line-left}
+use Rattle.slot.proofs.Listing.{takes-out, takes-no-place, front-numbers, later-numbers, line-left}
 
 -- ---- what the gauge is read off
 
@@ -102,11 +103,15 @@ full-there q n h = go (tested (ltb (q .len) (q .k)))
 pub quiet-untouched : (q : Question) (gone : ℕ) (v : Values) → isQuiet (gaugeOf q) gone v ≡ true → takes q v || lists q gone ≡ false
 unfolding isQuiet leastOf lists
 quiet-untouched q gone v e =
-    let s = score (q .rule) v in
-    let both = and-both (not (passes (q .rule) s (leastOf q))) (ltb gone (lowestOf q)) e in
+    let s = sum (q .rule) v in
+    let both = and-both (not (mightPass (q .rule .weights) v (leastOf q))) (ltb gone (lowestOf q)) e in
     let there = full-there q gone (ltb-true gone (lowestOf q) (both .1)) in
-    let none = no-place (q .rule) (q .k) (q .len) s (lines q) (there .0) (no-last (q .rule) (lines q) s (not-true _ (both .0))) in
-    rw (takes-no-place q v none, later-numbers gone (lines q) ∙ below-all gone (map (λ x. x .number) (lines q)) (there .1))
+    let none = no-place (q .rule) (q .k) (q .len) s (lines q) (there .0) (no-last (q .rule) (lines q) s (might-not (q .rule) v (leastOf q) (not-true _ (both .0)))) in
+    rw (untaken (tested (isScored (score (q .rule) v))) none, later-numbers gone (lines q) ∙ below-all gone (map (λ x. x .number) (lines q)) (there .1))
+  where
+    untaken : Tested (isScored (score (q .rule) v)) → placeOn q (sum (q .rule) v) ≡ false → takes q v ≡ false
+    untaken (failed c) none = takes-out q v c
+    untaken (passed c) none = takes-no-place q v (ap (placeOn q) (points-sum (q .rule) v c) ∙ none)
 
 -- A slot with no k and no lines takes no report, and lists none.
 pub idle-untouched : (q : Question) (gone : ℕ) (v : Values) → isIdle q ≡ true → takes q v || lists q gone ≡ false
@@ -115,7 +120,7 @@ idle-untouched q gone v e =
     let both = and-both (eqb (q .k) 0) (eqb (q .len) 0) e in
     let k = eqb-true (q .k) 0 (both .0) in
     let empty : lineCount q ≡ 0 = omega (arith, eqb-true (q .len) 0 (both .1)) in
-    let s = score (q .rule) v in
+    let s = points (score (q .rule) v) in
     let none = no-place (q .rule) (q .k) (q .len) s (lines q) (le-ltb (q .len) (q .k) (omega arith)) (ap (onLast (λ e. passes (q .rule) s (e .score))) (no-lines q empty)) in
     rw (takes-no-place q v none, no-lines q empty)
 

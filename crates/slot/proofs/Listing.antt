@@ -1,7 +1,7 @@
 -- What one question does with a report that enters: the tests of the definitions, read off the stored lines.
 -- Assumes nothing.
 use mathlib.Core.Path.{_≡_, refl, sym, ap, _∙_}
-use mathlib.Core.Bool.{true, false, not, _&&_, and-true, and-false}
+use mathlib.Core.Bool.{true, false, not, _&&_}
 use mathlib.Core.List.{List, [], _∷_, map}
 use Prim.Native.Nat.{ℕ, zero, suc, _+_, min, _≤_, _<_}
 use native.Mathlib.Numerals.{add-one}
@@ -11,9 +11,10 @@ use lib.Dec.{ltb}
 use lib.IntN.{ℤ}
 use lib.ListN.{length, take, drop, getD, length-take}
 use lib.Seq.{drop-cons, getD-take}
+use Rattle.laws.proofs.Tests.{and-after, and-stops, and-no, and-true as both-true}
 use Rattle.values.specs.declared.Values.{Values}
-use Rattle.ranking.specs.Cells.{cell, score}
-use Rattle.ranking.specs.Standing.{Held, Entry, entry}
+use Rattle.ranking.specs.Cells.{cell, score, isScored, points}
+use Rattle.ranking.specs.Standing.{Held, Entry, isCounted, entry}
 use Rattle.question.specs.declared.Question.{Question}
 use Rattle.list.specs.Lines.{linesOf, allOf}
 use Rattle.question.specs.Lines.{lines, withEntry, cutToK, isMarked}
@@ -22,31 +23,24 @@ use Rattle.list.proofs.Stored.{Roomy, take-min}
 use Rattle.slot.specs.Turn.{placeOn, takes, listed, later, lists}
 
 module _ (q : Question) (v : Values) where
-  pub takes-both : placeOn q (score (q .rule) v) ≡ true → isMarked q (cell v) ≡ takes q v
+  pub takes-out : isScored (score (q .rule) v) ≡ false → takes q v ≡ false
   unfolding takes
-  takes-both p = sym (rw p (and-true (isMarked q (cell v))))
+  takes-out c = and-stops (placeOn q (points (score (q .rule) v))) (and-stops (isMarked q (cell v)) c)
 
   pub takes-unmarked : isMarked q (cell v) ≡ false → takes q v ≡ false
   unfolding takes
-  takes-unmarked m = rw m
+  takes-unmarked m = and-stops (placeOn q (points (score (q .rule) v))) (and-no (isScored (score (q .rule) v)) m)
 
-  pub takes-no-place : placeOn q (score (q .rule) v) ≡ false → takes q v ≡ false
+  pub takes-no-place : placeOn q (points (score (q .rule) v)) ≡ false → takes q v ≡ false
   unfolding takes
-  takes-no-place p = rw p (and-false (isMarked q (cell v)))
+  takes-no-place p = and-no (isScored (score (q .rule) v) && isMarked q (cell v)) p
+
+  -- a report that counts is taken by its mark and its place
+  pub takes-both : isScored (score (q .rule) v) ≡ true → takes q v ≡ isMarked q (cell v) && placeOn q (points (score (q .rule) v))
+  unfolding takes
+  takes-both c = ap (λ b. b && placeOn q (points (score (q .rule) v))) (and-after (isMarked q (cell v)) c)
 
 module _ (q : Question) (h : Held) where
-  pub listed-taken : isMarked q (cell (h .values)) ≡ true → placeOn q (score (q .rule) (h .values)) ≡ true → listed q h ≡ cutToK (withEntry q (entry (q .rule) h))
-  unfolding listed takes
-  listed-taken m p = rw (m, p)
-
-  pub listed-unmarked : isMarked q (cell (h .values)) ≡ false → listed q h ≡ q
-  unfolding listed takes
-  listed-unmarked m = rw m
-
-  pub listed-no-place : isMarked q (cell (h .values)) ≡ true → placeOn q (score (q .rule) (h .values)) ≡ false → listed q h ≡ q
-  unfolding listed takes
-  listed-no-place m p = rw (m, p)
-
   pub listed-taking : takes q (h .values) ≡ true → listed q h ≡ cutToK (withEntry q (entry (q .rule) h))
   unfolding listed
   listed-taking t = rw t
@@ -54,6 +48,20 @@ module _ (q : Question) (h : Held) where
   pub listed-not : takes q (h .values) ≡ false → listed q h ≡ q
   unfolding listed
   listed-not t = rw t
+
+module _ (q : Question) (h : Held) (counts : isCounted (q .rule) h ≡ true) where
+  pub listed-taken : isMarked q (cell (h .values)) ≡ true → placeOn q (entry (q .rule) h .score) ≡ true → listed q h ≡ cutToK (withEntry q (entry (q .rule) h))
+  listed-taken m p = listed-taking q h (takes-both q (h .values) counts ∙ both-true m p)
+
+  pub listed-unmarked : isMarked q (cell (h .values)) ≡ false → listed q h ≡ q
+  listed-unmarked m = listed-not q h (takes-unmarked q (h .values) m)
+
+  pub listed-no-place : placeOn q (entry (q .rule) h .score) ≡ false → listed q h ≡ q
+  listed-no-place p = listed-not q h (takes-no-place q (h .values) p)
+
+-- a report that doesn't count changes nothing
+pub listed-out : (q : Question) (h : Held) → isCounted (q .rule) h ≡ false → listed q h ≡ q
+listed-out q h c = listed-not q h (takes-out q (h .values) c)
 
 -- ---- whether a list has one that has gone
 

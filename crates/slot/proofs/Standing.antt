@@ -7,22 +7,22 @@ use mathlib.Core.Bool.{true, false, not, _&&_, and-false}
 use mathlib.Core.List.{List, [], _∷_}
 use Prim.Native.Nat.{ℕ, suc, _≤_, _<_}
 use native.Mathlib.Omega.{arith}
-use borrow.Author.Tests.{ltb-true, ltb-false, eqb-true, eq-eqb}
-use lib.Dec.{leb, ltb, eqb}
+use borrow.Author.Tests.{eqb-true, eq-eqb}
+use lib.Dec.{eqb}
 use lib.ListN.{length}
 use Rattle.laws.specs.Lists.{_∈_, onLast}
 use Rattle.laws.specs.Whole.{equal}
-use Rattle.ranking.specs.Cells.{isNone, fitRule, cell, score, cellAt}
+use Rattle.ranking.specs.Cells.{isNone, fitRule, cell, cellCounts, inOrder, cellAt}
 use Rattle.search.specs.Search.{steps}
-use Rattle.ranking.specs.Standing.{Held, Entry, Permitted, above, entry, entries, top, hasPlace, reaches, searchOf}
+use Rattle.ranking.specs.Standing.{Held, Entry, Permitted, above, isCounted, entry, entries, top, hasPlace, reaches, searchOf}
 use Rattle.ranking.specs.declared.Rule.{Rule}
 use Rattle.laws.proofs.Tests.{Tested, passed, failed, tested, clash, and-both, and-true, or-either, or-right, if-not}
 use Rattle.ranking.proofs.Cells.{before-strict, visiting-in}
-use Rattle.ranking.proofs.Scan.{cell-at}
+use Rattle.ranking.proofs.Scan.{cell-at, fit-some}
 use Rattle.laws.proofs.Lists.{last-not, lt-or-eq}
 use Rattle.search.proofs.Best.{best-of, best-falling, length-best-le}
 use Rattle.search.proofs.Search.{in-has, goes-on}
-use Rattle.ranking.proofs.Entries.{above-strict, top-short, top-cons, top-enters, is-none}
+use Rattle.ranking.proofs.Entries.{above-strict, top-short, top-cons, top-out, top-enters, is-none}
 use Rattle.ranking.proofs.Standing.{steps-bounded}
 use Rattle.search.proofs.Guard.{Guarded}
 use Rattle.window.specs.declared.Window.{Window}
@@ -31,8 +31,8 @@ use Rattle.window.proofs.Reports.{held-distinct, length-held}
 use Rattle.window.proofs.Standing.{held-permitted}
 use Rattle.question.specs.declared.Question.{Question}
 use Rattle.list.specs.Lines.{linesOf, allOf, blank}
-use Rattle.question.specs.Lines.{asked, lines, marked, stepsTaken, isMarked, finished, emptySlot, searched, begun, stepped}
-use Rattle.question.specs.Calls.{fitQuestion, rangesFit, stepCall, beginCall}
+use Rattle.question.specs.Lines.{asked, lines, marked, isMarked, finished, emptySlot, searched, begun, stepped}
+use Rattle.question.specs.Calls.{nextFits, fitQuestion, rangesFit, stepCall, beginCall}
 use Rattle.question.proofs.Stored.{lines-asked}
 use Rattle.question.proofs.Steps.{reached, reached-more, reached-none, reached-end, goes-further}
 use Rattle.question.proofs.Taking.{joined-asked}
@@ -44,7 +44,7 @@ use Rattle.question.proofs.Searches.{search-finds, whole-search, searched-is, r
 use Rattle.slot.specs.Turn.{placeOn, listed}
 use Rattle.slot.specs.Fitness.{isEmpty, slotFit}
 use Rattle.slot.proofs.Guards.{marks-guard, unmarked-same, guard-kept}
-use Rattle.slot.proofs.Listing.{listed-taken, listed-unmarked, listed-no-place}
+use Rattle.slot.proofs.Listing.{listed-out, listed-taken, listed-unmarked, listed-no-place}
 
 -- The cells before the next one.
 abbrev pub taken : Rule → ℕ → List ℕ
@@ -62,7 +62,7 @@ pub record Stands (hs : List Held) (q : Question) : Type 0 where
   pub rule : Rule
   pub next : ℕ
   pub asks : Asks k rule
-  pub cell-range : next ≤ 256
+  pub cell-fits : nextFits rule next ≡ true
   pub is : q ≡ asked k rule (top rule k hs) next
   pub guarded : Guarded (searchOf rule) k (taken rule next) (top rule k hs)
 
@@ -83,7 +83,7 @@ pub data Slot (w : Window) (q : Question) : Type 0 where
 -- ---- a search
 
 pub search-stands : (w : Window) → fitWindow w ≡ true → (q : Question) → Asks (q .k) (q .rule) → Stands (heldReports w) (searched q (heldReports w))
-unfolding searched reached marked stepsTaken
+unfolding searched reached marked
 search-stands w fit q asks =
     let hs = heldReports w in
     let n = steps (searchOf (q .rule)) (q .k) hs in
@@ -93,7 +93,7 @@ search-stands w fit q asks =
       rule = q .rule;
       next = cellAt (q .rule) n;
       asks = asks;
-      cell-range = fit-facts w (reached (q .k) (q .rule) hs n) (reached-fit w fit q (asks .positive) (asks .small) (asks .rule-fits) n (steps-bounded (q .rule) (q .k) hs)) .numbers .cell-range;
+      cell-fits = fit-facts w (reached (q .k) (q .rule) hs n) (reached-fit w fit q (asks .positive) (asks .small) (asks .rule-fits) n (steps-bounded (q .rule) (q .k) hs)) .numbers .cell-fits;
       is = come .stored ∙ ap (λ l. asked (q .k) (q .rule) l (cellAt (q .rule) n)) (search-finds w fit q (asks .positive) (asks .small) .list);
       guarded = subst (λ m. Guarded (searchOf (q .rule)) (q .k) m (top (q .rule) (q .k) hs)) (sym (come .marks-are)) (marks-guard (q .rule) (q .k) (asks .positive) hs (held-permitted w fit));
     }
@@ -105,13 +105,13 @@ module _ (hs : List Held) (k : ℕ) (rule : Rule) (next : ℕ) (asks : Asks k ru
   room : length (top rule k hs) ≤ 16
   room = omega (arith, length-best-le (above rule) (above-strict rule) k (entries rule hs), asks .small)
 
-  place-list : placeOn (asked k rule (top rule k hs) next) (score rule (h .values)) ≡ hasPlace rule k (length (top rule k hs)) (top rule k hs) (score rule (h .values))
-  place-list = ap (λ l. hasPlace rule k (length (top rule k hs)) l (score rule (h .values))) (lines-asked k rule (top rule k hs) next room)
+  place-list : placeOn (asked k rule (top rule k hs) next) (entry rule h .score) ≡ hasPlace rule k (length (top rule k hs)) (top rule k hs) (entry rule h .score)
+  place-list = ap (λ l. hasPlace rule k (length (top rule k hs)) l (entry rule h .score)) (lines-asked k rule (top rule k hs) next room)
 
-  -- Whether its cell is marked, and whether it has a place on the list, comes to the best k of one report more.
+  -- Whether it counts, whether its cell is marked, and whether it has a place on the list, comes to the best k of one report more.
   pub listed-is : listed (asked k rule (top rule k hs) next) h ≡ asked k rule (top rule k (h ∷ hs)) next
-  unfolding marked stepsTaken isMarked
-  listed-is = go (tested (isMarked q (cell (h .values)))) (tested (placeOn q (score rule (h .values))))
+  unfolding marked isMarked
+  listed-is = go (tested (isCounted rule h)) (tested (isMarked q (cell (h .values)))) (tested (placeOn q (entry rule h .score)))
     where
       q : Question
       q = asked k rule (top rule k hs) next
@@ -119,17 +119,18 @@ module _ (hs : List Held) (k : ℕ) (rule : Rule) (next : ℕ) (asks : Asks k ru
       same : top rule k hs ≡ top rule k (h ∷ hs) → q ≡ asked k rule (top rule k (h ∷ hs)) next
       same e = ap (λ l. asked k rule l next) e
 
-      go : Tested (isMarked q (cell (h .values))) → Tested (placeOn q (score rule (h .values))) → listed q h ≡ asked k rule (top rule k (h ∷ hs)) next
-      go (failed off) t =
-          listed-unmarked q h off
+      go : Tested (isCounted rule h) → Tested (isMarked q (cell (h .values))) → Tested (placeOn q (entry rule h .score)) → listed q h ≡ asked k rule (top rule k (h ∷ hs)) next
+      go (failed out) t u = listed-out q h out ∙ same (sym (top-out rule k h hs out))
+      go (passed counts) (failed off) t =
+          listed-unmarked q h counts off
           ∙ same (sym (unmarked-same rule k (asks .positive) (taken rule next) hs guarded h permitted (λ m. clash (in-has (cell (h .values)) (marked q) m) off)))
-      go (passed on) (passed p) =
-          listed-taken q h on p
+      go (passed counts) (passed on) (passed p) =
+          listed-taken q h counts on p
           ∙ joined-asked k rule (top rule k hs) next (entry rule h) (asks .small) room
-          ∙ ap (λ l. asked k rule l next) (sym (top-cons rule k h hs))
-      go (passed on) (failed p) =
-          listed-no-place q h on p
-          ∙ same (sym (top-enters rule k h hs newest ∙ if-not _ _ (sym place-list ∙ p)))
+          ∙ ap (λ l. asked k rule l next) (sym (top-cons rule k h hs counts))
+      go (passed counts) (passed on) (failed p) =
+          listed-no-place q h counts p
+          ∙ same (sym (top-enters rule k h hs newest counts ∙ if-not _ _ (sym place-list ∙ p)))
 
   -- The marks go on guarding the list.
   pub guard-more : Guarded (searchOf rule) k (taken rule next) (top rule k (h ∷ hs))
@@ -146,7 +147,7 @@ module _ (w : Window) (fit : fitWindow w ≡ true) where
         positive = s .asks .positive;
         small = s .asks .small;
         rule-fits = s .asks .rule-fits;
-        cell-range = s .cell-range;
+        cell-fits = s .cell-fits;
         short = omega (arith, top-short (s .rule) (s .k) (heldReports w) (held-distinct w), length-held w);
       })
       (best-of (above (s .rule)) (above-strict (s .rule)) (s .k) (entries (s .rule) (heldReports w)))
@@ -154,31 +155,31 @@ module _ (w : Window) (fit : fitWindow w ≡ true) where
 
   -- Its search has ended: the next cell has no mark, so it can't change the list.
   pub stands-ended : (q : Question) → Stands (heldReports w) q → finished q ≡ true
-  unfolding marked stepsTaken isMarked finished
-  stands-ended q s = ap finished (s .is) ∙ go (tested (ltb (s .next) 256))
+  unfolding marked isMarked finished
+  stands-ended q s = ap finished (s .is) ∙ go (tested (inOrder (s .rule) (s .next)))
     where
       p : Question
       p = asked (s .k) (s .rule) (top (s .rule) (s .k) (heldReports w)) (s .next)
 
-      off : (h : s .next < 256) → s .next ∈ taken (s .rule) (s .next) → ⊥
+      off : (h : inOrder (s .rule) (s .next) ≡ true) → s .next ∈ taken (s .rule) (s .next) → ⊥
       off h m = clash (in-has (s .next) (taken (s .rule) (s .next)) m) (marked-left p h (s .next) h ∙ before-strict (s .rule) .irreflexive (s .next))
 
       last : (m : List Entry) → 1 ≤ length m → onLast (reaches (s .rule) (s .next)) m ≡ false → onLast (λ e. not (reaches (s .rule) (s .next) e)) m ≡ true
       last [] h e = absurd (omega arith)
       last (y ∷ m) h e = last-not (reaches (s .rule) (s .next)) y m ∙ ap not e
 
-      ended : (h : s .next < 256) → finished p ≡ true
+      ended : (h : inOrder (s .rule) (s .next) ≡ true) → finished p ≡ true
       ended h =
           let g = s .guarded (s .next) (visiting-in (s .rule) (s .next) h) (off h) in
           let room : length (top (s .rule) (s .k) (heldReports w)) ≤ 16 = omega (arith, g .0, s .asks .small) in
-          or-right (leb 256 (s .next)) (eqb (p .len) (p .k) && onLast (λ e. not (reaches (s .rule) (s .next) e)) (lines p))
+          or-right (not (inOrder (s .rule) (s .next))) (eqb (p .len) (p .k) && onLast (λ e. not (reaches (s .rule) (s .next) e)) (lines p))
           (and-true (eq-eqb (p .len) (p .k) (g .0))
           (ap (onLast (λ e. not (reaches (s .rule) (s .next) e))) (lines-asked (s .k) (s .rule) (top (s .rule) (s .k) (heldReports w)) (s .next) room)
           ∙ last (top (s .rule) (s .k) (heldReports w)) (omega (arith, g .0, s .asks .positive)) (g .1)))
 
-      go : Tested (ltb (s .next) 256) → finished p ≡ true
-      go (passed t) = ended (ltb-true (s .next) 256 t)
-      go (failed t) = finished-none p (ltb-false (s .next) 256 t)
+      go : Tested (inOrder (s .rule) (s .next)) → finished p ≡ true
+      go (passed t) = ended t
+      go (failed t) = finished-none p t
 
   pub searches-fit : (q : Question) → Searches w q → fitQuestion w q ≡ true
   searches-fit q s =
@@ -234,7 +235,7 @@ module _ (w : Window) (fit : fitWindow w ≡ true) where
       (searches (record { k = s .k; rule = s .rule; n = 0; asks = s .asks; before-end = goes-further (s .k) (s .asks .small) (s .rule) (heldReports w) 0 (omega arith) unfinished; is = refl }))
     where
       unfinished : finished (reached (s .k) (s .rule) (heldReports w) 0) ≡ false
-      unfinished = ap finished (sym (reached-none (s .k) (s .asks .small) (s .rule) (heldReports w))) ∙ finished-other (asked (s .k) (s .rule) [] (cellAt (s .rule) 0)) (cell-at (s .rule) 0 (omega arith)) (λ e. none e)
+      unfinished = ap finished (sym (reached-none (s .k) (s .asks .small) (s .rule) (heldReports w))) ∙ finished-other (asked (s .k) (s .rule) [] (cellAt (s .rule) 0)) (cell-at (s .rule) 0 (fit-some (s .rule) (s .asks .rule-fits))) (λ e. none e)
         where
           none : 0 ≡ s .k → ⊥
           none e = omega (arith, s .asks .positive)
@@ -246,7 +247,7 @@ unfolding isEmpty equal
 empty-is = rw is-none
 
 pub empty-waits : finished emptySlot ≡ false
-unfolding finished
+unfolding finished inOrder cellCounts
 empty-waits = refl
 
 empty-k : (q : Question) → isEmpty q ≡ true → q .k ≡ 0

@@ -8,15 +8,16 @@ use mathlib.Core.List.{List, [], _∷_}
 use Prim.Native.Nat.{ℕ, zero, suc, _≤_, _<_}
 use native.Mathlib.Omega.{arith}
 use borrow.Author.Tests.{ltb-true, ltb-false, le-ltb, not-true, not-false}
-use lib.Dec.{eqb, ltb, leb}
+use lib.Dec.{eqb, leb}
 use lib.ListN.{getD, take}
 use Rattle.laws.specs.Lists.{_∈_}
-use Rattle.ranking.specs.Cells.{cell, visiting, placeOf}
+use Rattle.ranking.specs.Cells.{cell, visiting, stepsTo}
 use Rattle.ranking.specs.Standing.{Held, Entry, Permitted, above, entries, top, searchOf}
 use Rattle.ranking.specs.declared.Rule.{Rule}
 use Rattle.laws.proofs.Tests.{Tested, passed, failed, tested, clash, or-neither, if-so, if-not}
 use Rattle.laws.proofs.Lists.{_⊆_, here, there, moved}
 use Rattle.search.proofs.Best.{best-part, length-best-le}
+use Rattle.ranking.proofs.Cells.{most-cells}
 use Rattle.ranking.proofs.Entries.{above-strict, entries-in, entries-of, top-of}
 use Rattle.ranking.proofs.Standing.{steps-bounded}
 use Rattle.search.proofs.Guard.{Guarded}
@@ -25,7 +26,7 @@ use Rattle.window.specs.Rows.{heldReports, fitWindow, reportIn, standing}
 use Rattle.question.specs.declared.Question.{Question}
 use Rattle.question.specs.declared.Searched.{Searched}
 use Rattle.list.specs.Rows.{rowsOf}
-use Rattle.question.specs.Lines.{asked, lines, marked, stepsTaken, isMarked, emptySlot, searchedIn, inRows, searchedOn, searchedFirst}
+use Rattle.question.specs.Lines.{asked, lines, marked, isMarked, emptySlot, searchedIn, inRows, searchedOn, searchedFirst}
 use Rattle.list.specs.Lines.{allOf}
 use Rattle.question.proofs.Stored.{lines-asked}
 use Rattle.list.proofs.Blank.{all-in}
@@ -56,7 +57,7 @@ pub among-few : (q : Question) (reports : List Held) → searchedAmong q reports
 among-few q reports = go (tested (leb (q .k) 16))
   where
     go : Tested (leb (q .k) 16) → searchedAmong q reports .steps ≤ 256
-    go (passed t) = rw t (steps-bounded (q .rule) (q .k) reports)
+    go (passed t) = rw t (omega (arith, steps-bounded (q .rule) (q .k) reports, most-cells (q .rule)))
     go (failed t) = rw t (omega arith)
 
 -- ---- whether a list has one that has gone
@@ -154,11 +155,11 @@ module _ (q : Question) (h : Held) (gone : ℕ) (reports : List Held) where
 
     -- Rule 8.4: between searches no mark changes.
     pub marks-stay : marked (turn q h gone reports .question) ≡ marked q
-    unfolding marked stepsTaken
+    unfolding marked
     marks-stay =
         let s = listed-keeps q h in
         ap (λ (r : Turned). marked (r .question)) left-kept
-        ∙ (λ i. take (cond (ltb (s .same-next i) 256) (placeOf (s .same-rule i) (s .same-next i)) 256) (visiting (s .same-rule i)))
+        ∙ (λ i. take (stepsTo (s .same-rule i) (s .same-next i)) (visiting (s .same-rule i)))
 
 pub empty-stays : (h : Held) (gone : ℕ) (reports : List Held) → turn emptySlot h gone reports ≡ record { searched = false; steps = 0; question = emptySlot }
 empty-stays h gone reports = turn-still emptySlot h gone reports (idle-untouched emptySlot gone (h .values) refl)
@@ -171,7 +172,7 @@ pub record Leaves (hs : List Held) (h : Held) (gone : ℕ) (left : List Held) : 
   pub stays : (r : Held) → r ∈ h ∷ hs → gone < r .number → r ∈ left
 
 entries-⊆ : (rule : Rule) (l m : List Held) → l ⊆ m → entries rule l ⊆ entries rule m
-entries-⊆ rule l m h e k = let r = entries-of rule l k in moved (r .2) (entries-in rule (h (r .0) (r .1)))
+entries-⊆ rule l m h e k = let r = entries-of rule l k in moved (r .2) (entries-in rule (h (r .0) (r .1)) (r .3))
 
 -- A report enters where these stood, and some leave; a window holds what is left.
 module _ (hs : List Held) (h : Held) (permitted : Permitted h) (newest : (r : Held) → r ∈ hs → r .number < h .number) (q : Question) (s : Stands hs q) where
@@ -195,7 +196,7 @@ module _ (hs : List Held) (h : Held) (permitted : Permitted h) (newest : (r : He
         let r = top-of (s .rule) (s .k) (h ∷ hs) m in
         let after : gone < e .number = none-gone (listed q h) gone none e (subst (λ l. e ∈ l) (sym added-lines) m) in
         let stays = leaves .stays (r .0) (r .1) (subst (λ (x : Entry). gone < x .number) (sym (r .2)) after) in
-        moved (r .2) (entries-in (s .rule) stays)))
+        moved (r .2) (entries-in (s .rule) stays (r .3))))
 
   module _ (w : Window) (fit : fitWindow w ≡ true) (gone : ℕ) (leaves : Leaves hs h gone (heldReports w)) where
     -- What a turn leaves has the true list of the reports that the window holds, and marks that guard it.
@@ -218,7 +219,7 @@ module _ (hs : List Held) (h : Held) (permitted : Permitted h) (newest : (r : He
               rule = s .rule;
               next = s .next;
               asks = s .asks;
-              cell-range = s .cell-range;
+              cell-fits = s .cell-fits;
               is = ap (λ l. asked (s .k) (s .rule) l (s .next)) same;
               guarded = subst (Guarded (searchOf (s .rule)) (s .k) (taken (s .rule) (s .next))) same (guard-more hs (s .k) (s .rule) (s .next) (s .asks) (s .guarded) h permitted newest);
             })

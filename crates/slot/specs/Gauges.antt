@@ -6,8 +6,8 @@ use lib.ListN.{getD}
 use lib.Dec.{ltb, eqb}
 use lib.IntN.{ℤ, pos}
 use Rattle.values.specs.declared.Values.{Values}
-use Rattle.ranking.specs.Cells.{noRule, score}
-use Rattle.ranking.specs.Standing.{Entry, passes}
+use Rattle.ranking.specs.Cells.{noRule}
+use Rattle.ranking.specs.Standing.{Entry, mightPass}
 use Rattle.question.specs.declared.Question.{Question}
 use Rattle.question.specs.Lines.{lines}
 use Rattle.slot.specs.declared.gauge.Gauge.{Gauge}
@@ -31,11 +31,11 @@ unfoldable pub lowestOf : Question → ℕ
 lowestOf q = cond (ltb (q .len) (q .k)) 0 (lowest (map (λ e. e .number) (lines q)))
 
 abbrev pub gaugeOf : Question → Gauge
-gaugeOf q = record { rule = q .rule; least = leastOf q; low = lowestOf q }
+gaugeOf q = record { weights = q .rule .weights; least = leastOf q; low = lowestOf q }
 
--- The list is full, a report of these values has no place on it, and none of a number up to `gone` is on it.
+-- The list is full, a report of these values would have no place on it even if it counts, and none of a number up to `gone` is on it.
 unfoldable pub isQuiet : Gauge → ℕ → Values → Bool
-isQuiet g gone v = not (passes (g .rule) (score (g .rule) v) (g .least)) && ltb gone (g .low)
+isQuiet g gone v = not (mightPass (g .weights) v (g .least)) && ltb gone (g .low)
 
 -- What stands past the last slot.
 abbrev pub noQuestion : Question

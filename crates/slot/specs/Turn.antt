@@ -5,7 +5,7 @@ use mathlib.Core.List.{List}
 use lib.Dec.{ltb}
 use lib.IntN.{ℤ}
 use Rattle.values.specs.declared.Values.{Values}
-use Rattle.ranking.specs.Cells.{cell, score}
+use Rattle.ranking.specs.Cells.{cell, score, isScored, points}
 use Rattle.ranking.specs.Standing.{Held, Entry, entry, hasPlace}
 use Rattle.question.specs.declared.Question.{Question}
 use Rattle.question.specs.Lines.{lines, withEntry, cutToK, isMarked}
@@ -17,9 +17,10 @@ use Rattle.slot.specs.Asking.{searchedAmong}
 abbrev pub placeOn : Question → ℤ → Bool
 placeOn q s = hasPlace (q .rule) (q .k) (q .len) (lines q) s
 
--- Rule 8.1: the question has a mark on the cell of these values, and its list has a place for them.
+-- Rules 8.1 and 16.2: these values count, the question has a mark on their cell, and its list has a place for them.
 unfoldable pub takes : Question → Values → Bool
-takes q v = isMarked q (cell v) && placeOn q (score (q .rule) v)
+takes q v =
+    isScored (score (q .rule) v) && isMarked q (cell v) && placeOn q (points (score (q .rule) v))
 
 -- Rule 8.1: the report is put on the list if the question takes it, and the list is cut to k.
 unfoldable pub listed : Question → Held → Question

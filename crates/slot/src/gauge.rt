@@ -10,13 +10,13 @@ ghost use Rattle.slot.specs.Gauges.{lowestOf, gaugeOf, isQuiet, slotCoun
 use crate::least;
 use crate::lines_in;
 use question::Question;
-use ranking::Rule;
+use ranking::Weights;
 use values::Values;
 
-// The rule, the last score of the list, and the lowest number on it; 0 for that while the list has room, which no number is
-// below.
+// The weights, the last score of the list, and the lowest number on it; 0 for that while the list has room, which no number
+// is below.
 pub struct Gauge {
-    pub rule: Rule,
+    pub weights: Weights,
     pub least: i32,
     pub low: u32,
 }
@@ -29,19 +29,20 @@ impl Gauge {
         ensures { λ r. ⌜ r ≡ gaugeOf question ⌝ }
     {
         let rule = question.rule;
+        let weights = rule.weights;
         Gauge {
-            rule,
+            weights,
             least: least(question),
             low: lowest(question),
         }
     }
 
-    // A report of these values has no place on the list, and none of a number up to `gone` is on it.
+    // A report of these values has no place on the list even if it counts, and none of a number up to `gone` is on it.
     pub fn quiet(self, gone: u32, values: Values) -> bool
         ensures { λ r. ⌜ r ≡ isQuiet self gone (low values) ⌝ }
     {
-        let rule = self.rule;
-        if rule.passes(rule.score(values), self.least) {
+        let weights = self.weights;
+        if weights.might_pass(values, self.least) {
             return false;
         }
         gone < self.low
@@ -51,9 +52,9 @@ impl Gauge {
     pub fn of_slots(slots: [Question; Gauge::SLOTS]) -> [Gauge; Gauge::SLOTS]
         ensures { λ r. ⌜ r ≡ map gaugeOf slots ⌝ }
     {
-        let rule = Rule::none();
+        let weights = Weights { loss: 0, shake: 0 };
         let none = Gauge {
-            rule,
+            weights,
             least: 0,
             low: 0,
         };

@@ -1,12 +1,14 @@
 // What setting, removing, reading and entering do to one slot: a standing question with its list, or none.
 ghost use mathlib.Core.Path.{_≡_};
+ghost use mathlib.Core.Bool.{_&&_};
 ghost use Prim.Native.Nat.{min};
 ghost use Rattle.values.specs.Range.{low};
 ghost use Rattle.window.specs.Rows.{rowCount, standing};
 ghost use Rattle.list.specs.Lines.{mostLines};
+ghost use Rattle.question.specs.Lines.{isPast};
 ghost use Rattle.list.specs.Rows.{rowsOf};
 ghost use Rattle.slot.specs.Asking.{askRefusal, setIn, emptyRefusal, emptied, notShown, readIn};
-ghost use Rattle.slot.specs.Turn.{placeOn, takes, listed, lists, turn};
+ghost use Rattle.slot.specs.Turn.{placeOn, listed, lists, turn};
 ghost use Rattle.slot.specs.Gauges.{leastOf};
 ghost use Rattle.slot.specs.Fitness.{isEmpty, slotFit};
 
@@ -17,6 +19,7 @@ use list::Lines;
 use question::Question;
 use ranking::Grid;
 use ranking::Rule;
+use ranking::Score;
 use values::Values;
 use window::Window;
 
@@ -48,6 +51,8 @@ impl Seated {
     pub const WEIGHT_OUT_OF_RANGE: u8 = 15;
 
     pub const IN_USE: u8 = 16;
+
+    pub const RANGE_NOT_PROPER: u8 = 30;
 }
 
 impl Shown {
@@ -68,7 +73,7 @@ impl Shown {
     }
 }
 
-// Sets a question in a slot that holds this one, and searches it over the rows that are lent. Refused 14, 15, 16.
+// Sets a question in a slot that holds this one, and searches it over the rows that are lent. Refused 14, 15, 30, 16.
 pub fn set_in<'a>(
     question: Question,
     k: u8,
@@ -109,8 +114,11 @@ fn ask_refusal(held: u8, k: u8, rule: Rule) -> u8
     if Question::LINES < k {
         return Seated::LINES_OUT_OF_RANGE;
     }
-    if !rule.fit() {
+    if !rule.weights_fit() {
         return Seated::WEIGHT_OUT_OF_RANGE;
+    }
+    if !rule.ranges_proper() {
+        return Seated::RANGE_NOT_PROPER;
     }
     if held == 0 { 0 } else { Seated::IN_USE }
 }
@@ -150,7 +158,8 @@ pub fn read_in(question: Question) -> Shown
 }
 
 // A report enters: the question lists it if its list takes it, and is searched afresh if it lists one that has gone, over the
-// first `rows` of the rows that are lent. The numbers up to `gone` have gone. Of the values the low 12 bits count.
+// first `rows` of the rows that are lent. The numbers up to `gone` have gone. Of the values the low 12 bits
+// are looked at.
 pub fn turn<'a>(
     question: Question,
     number: u32,
@@ -183,22 +192,28 @@ pub fn turn<'a>(
     }
 }
 
-// The question with a report more, if its list takes it. Of the values the low 12 bits count.
+// The question with a report more, if its list takes it. Of the values the low 12 bits are looked at.
 fn listed(question: Question, number: u32, values: Values) -> Question
     ensures { λ r. ⌜ r ≡ listed question (record { number = number; values = low values }) ⌝ }
 {
-    if takes(question, values) {
-        return question.cut_with(number, question.rule.score(values));
+    match question.rule.score(values) {
+        Score::Scored(score) => {
+            if joins(question, score, Grid::cell(values)) {
+                question.cut_with(number, score)
+            } else {
+                question
+            }
+        }
+        Score::DoesNotCount => question,
     }
-    question
 }
 
-// The question has a mark on the report's cell, and its list a place for the score.
-fn takes(question: Question, values: Values) -> bool
-    ensures { λ r. ⌜ r ≡ takes question (low values) ⌝ }
+// The list has a place for the score, and the search has come past the cell: for a report that counts, it is marked.
+fn joins(question: Question, score: i32, cell: u8) -> bool
+    ensures { λ r. ⌜ r ≡ (isPast question cell && placeOn question score) ⌝ }
 {
-    if has_place(question, question.rule.score(values)) {
-        return question.is_marked(Grid::cell(values));
+    if has_place(question, score) {
+        return question.is_past(cell);
     }
     false
 }
@@ -240,10 +255,9 @@ fn lists(question: Question, gone: u32) -> bool
     ensures { λ r. ⌜ r ≡ lists question gone ⌝ }
 {
     let n = lines_in(question.len);
-    let numbers = question.numbers;
     let mut i: usize = 0;
     while i < n {
-        if numbers[i] <= gone {
+        if question.numbers[i] <= gone {
             return true;
         }
         i += 1;

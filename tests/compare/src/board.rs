@@ -1,9 +1,9 @@
-//! The window and its 32 slots as they are stored, fit or not, and the calls on them (docs/RULES.md, sections 5 to 9).
+//! The window and its 32 slots as they are stored, fit or not, and the calls on them (docs/RULES.md, sections 5 to 9 and 16).
 //!
 //! Report m stands in row (m - 1) mod N; rows that hold nothing are 0. The cells before `next` in the visiting order are the marked ones,
-//! all of them where it is 256. Places past the list's end are 0, and so is everything of an empty slot.
+//! all of them where it is 256 or another that isn't in the order. Places past the list's end are 0, and so is everything of an empty slot.
 
-use crate::rules::{above, Entry, Question, Report, MOST_REPORTS};
+use crate::rules::{above, Entry, Question, Range, Ranges, Report, MOST_REPORTS};
 use crate::wrong::Wrong;
 use std::cmp::Ordering;
 use std::collections::VecDeque;
@@ -105,6 +105,7 @@ pub struct Slot {
     pub k: u8,
     pub a: i16,
     pub b: i16,
+    pub ranges: Ranges,
     pub len: u8,
     pub next: u16,
     pub lines: [Entry; LINES],
@@ -113,8 +114,8 @@ pub struct Slot {
 const NO_LINE: Entry = Entry { number: 0, score: 0 };
 
 impl Slot {
-    fn fresh() -> Slot {
-        Slot { k: 0, a: 0, b: 0, len: 0, next: 0, lines: [NO_LINE; LINES] }
+    pub fn fresh() -> Slot {
+        Slot { k: 0, a: 0, b: 0, ranges: Ranges::default(), len: 0, next: 0, lines: [NO_LINE; LINES] }
     }
 
     pub fn listed(&self) -> &[Entry] {
@@ -123,12 +124,18 @@ impl Slot {
 
     /// The question with nothing listed and nothing marked.
     pub fn asked(&self) -> Question {
-        Question::new(self.k as usize, i32::from(self.a), i32::from(self.b))
+        Question::new(self.k as usize, i32::from(self.a), i32::from(self.b), self.ranges)
     }
 
-    /// The steps that its search has taken: the place of the next cell in the order.
+    /// The steps that its search has taken: the place of the next cell in the order, or all.
     pub fn steps(&self, wrong: Wrong) -> usize {
-        self.asked().order(wrong).iter().position(|&c| c == self.next as usize).unwrap_or(256)
+        let order = self.asked().order(wrong);
+        order.iter().position(|&c| c == self.next as usize).unwrap_or(order.len())
+    }
+
+    /// Whether the next cell is one of the order.
+    fn goes_on(&self, wrong: Wrong) -> bool {
+        self.ranges.meet(self.next as usize, wrong)
     }
 
     /// The question with its marks spelled out (rule 7.5).
@@ -158,21 +165,30 @@ impl Slot {
         *self == Slot::fresh()
     }
 
-    /// A question that is fit (rules 9.5 and 9.6), clause by clause.
+    /// A question that is fit (rules 9.5 and 9.6, section 16), clause by clause.
     fn fit(&self, window: &Window, wrong: Wrong) -> bool {
         let weight = |w: i16| (-1000..=1000).contains(&w);
-        let rest = &self.lines[self.listed().len()..];
+        let ordered = |r: Range| r.low <= r.high;
+        let ends = |r: Range| r.low.max(r.high) <= 4095;
+        let (q, rest) = (self.asked(), &self.lines[self.listed().len()..]);
         let held = |e: &Entry| window.holds(e.number);
-        let scored = |e: &Entry| !held(e) || e.score == self.asked().entry(&window.report(e.number), Wrong::No).score;
+        let scored = |e: &Entry| !held(e) || e.score == q.score(&window.report(e.number), Wrong::No);
+        let counted = |e: &Entry| !held(e) || q.entry(&window.report(e.number), wrong).is_some();
         let ranked = |order: Ordering| !self.listed().windows(2).any(|p| above(&p[0], &p[1], Wrong::No) == order);
         let clauses = [
             (self.k <= 16, Wrong::KNotChecked),
             (weight(self.a), Wrong::FirstWeightNotChecked),
             (weight(self.b), Wrong::SecondWeightNotChecked),
+            (ordered(self.ranges.loss), Wrong::LossOrderNotChecked),
+            (ordered(self.ranges.shake), Wrong::ShakeOrderNotChecked),
+            (ends(self.ranges.loss), Wrong::LossEndsNotChecked),
+            (ends(self.ranges.shake), Wrong::ShakeEndsNotChecked),
             (self.next <= 256, Wrong::NextNotChecked),
+            (self.next >= 256 || self.goes_on(wrong), Wrong::NextOutsideTheOrder),
             (self.len <= self.k, Wrong::ListLongerThanK),
             (self.listed().iter().all(held), Wrong::NotHeldListed),
             (self.listed().iter().all(scored), Wrong::ScoresNotChecked),
+            (self.listed().iter().all(counted), Wrong::UncountedLineNotChecked),
             (ranked(Ordering::Greater), Wrong::RankNotChecked),
             (ranked(Ordering::Equal), Wrong::TwiceListed),
             (rest.iter().all(|e| e.number == 0), Wrong::RestNumberNotChecked),
@@ -184,12 +200,16 @@ impl Slot {
     fn ended(&self, wrong: Wrong) -> bool {
         let mut q = self.asked();
         q.list = self.listed().to_vec();
-        self.next >= 256 || q.ended(self.next as usize, wrong)
+        !self.goes_on(wrong) || q.ended(self.next as usize, wrong)
     }
 
     /// A slot of a board is empty, or its question is fit and not under way.
     fn stands(&self, window: &Window, wrong: Wrong) -> bool {
-        let empty = self.zeros() || self.k == 0 && wrong == Wrong::EmptySlotNotChecked;
+        let empty = match wrong {
+            Wrong::EmptySlotNotChecked => self.k == 0,
+            Wrong::EmptySlotRangesNotChecked => Slot { ranges: Ranges::default(), ..self.clone() }.zeros(),
+            _ => self.zeros(),
+        };
         empty || self.fit(window, wrong) && (self.ended(wrong) || wrong == Wrong::UnfinishedOnTheBoard)
     }
 }
@@ -206,6 +226,13 @@ fn first(refusals: &[(bool, u32)]) -> Result<(), u32> {
     refusals.iter().find(|r| r.0).map_or(Ok(()), |r| Err(r.1))
 }
 
+/// Whether refusal 30 applies.
+fn thirty(ranges: Ranges, wrong: Wrong) -> bool {
+    let most = if wrong == Wrong::SetTakes4096 { 4096 } else { 4095 };
+    let falls = |r: &Range| r.low > r.high && wrong != Wrong::SetTakesLowOverHigh;
+    [ranges.loss, ranges.shake].iter().any(|r| falls(r) || r.low > most || r.high > most)
+}
+
 impl Board {
     pub fn fresh(size: u16, wrong: Wrong) -> Board {
         Board { window: Window::fresh(size), slots: vec![Slot::fresh(); SLOTS], wrong }
@@ -216,21 +243,26 @@ impl Board {
     }
 
     /// The steps of the question's search.
-    pub fn set(&mut self, slot: usize, k: u8, a: i16, b: i16) -> Result<usize, u32> {
+    pub fn set(&mut self, slot: usize, k: u8, a: i16, b: i16, ranges: Ranges) -> Result<usize, u32> {
         let wrong = self.wrong;
         let (out, used) = (|w: i16| !(-1000..=1000).contains(&w), self.slots.get(slot).map_or(false, |s| s.k != 0));
+        let thirty = thirty(ranges, wrong);
         first(&[
             (wrong == Wrong::ThirteenFirst && slot > 31, 13),
+            (wrong == Wrong::ThirtyFirst && thirty, 30),
             (!self.fit(), 24),
             (slot > 31, 13),
             (wrong == Wrong::SixteenFirst && used, 16),
             (!(1..=16).contains(&k), 14),
+            (wrong == Wrong::ThirtyBeforeFifteen && thirty, 30),
             (out(a) || out(b), 15),
+            (wrong == Wrong::ThirtyAfterSixteen && used, 16),
+            (thirty, 30),
             (used, 16),
         ])?;
         let held = self.window.reports();
         let new = &mut self.slots[slot];
-        *new = Slot { k, a, b, ..Slot::fresh() };
+        *new = Slot { k, a, b, ranges, ..Slot::fresh() };
         let mut q = new.asked();
         let steps = q.search(&held, wrong);
         new.list(&q.list);
@@ -246,11 +278,12 @@ impl Board {
 
     pub fn remove(&mut self, slot: usize) -> Result<(), u32> {
         self.used(slot)?;
-        let lines = self.slots[slot].lines;
-        self.slots[slot] = Slot::fresh();
-        if self.wrong == Wrong::RemovingLeavesTheLines {
-            self.slots[slot].lines = lines;
-        }
+        let old = self.slots[slot].clone();
+        self.slots[slot] = match self.wrong {
+            Wrong::RemovingLeavesTheLines => Slot { lines: old.lines, ..Slot::fresh() },
+            Wrong::RemovingLeavesTheRanges => Slot { ranges: old.ranges, ..Slot::fresh() },
+            _ => Slot::fresh(),
+        };
         Ok(())
     }
 
@@ -280,6 +313,9 @@ impl Board {
             let mut q = slot.question(wrong);
             q.offer(&new, wrong);
             if left.map_or(false, |r| q.list.iter().any(|e| e.number == r.number)) {
+                if wrong == Wrong::RangesForgottenOnASearch {
+                    q.ranges = Ranges::ALL;
+                }
                 let steps = q.search(&held, wrong);
                 slot.go_on(steps, wrong);
                 searches.push((i, steps));
@@ -308,6 +344,9 @@ impl Board {
         let s = &mut self.slots[slot];
         if wrong != Wrong::BeginKeepsTheList {
             s.list(&[]);
+        }
+        if wrong == Wrong::BeginForgetsTheRanges {
+            s.ranges = Ranges::ALL;
         }
         if wrong != Wrong::BeginKeepsTheMarks {
             s.go_on(0, wrong);

@@ -2,7 +2,7 @@
 
 use crate::bus::Bus;
 use crate::joining::Heard;
-use crate::rules::{le, Question, Report, MOST_REPORTS};
+use crate::rules::{le, Question, Range, Ranges, Report, MOST_REPORTS};
 use crate::wrong::Wrong;
 use std::collections::VecDeque;
 
@@ -105,7 +105,11 @@ impl Cart {
         if used {
             return self.refuse(16);
         }
-        let mut q = Question::new(k, a, b);
+        let ranges = match wrong {
+            Wrong::LogCountsTo4094 => Ranges { loss: Range { low: 0, high: 4094 }, ..Ranges::ALL },
+            _ => Ranges::ALL,
+        };
+        let mut q = Question::new(k, a, b, ranges);
         let steps = q.search(&self.held, wrong);
         self.slots[slot] = Some(q);
         let item = self.item;

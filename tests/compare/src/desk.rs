@@ -1,10 +1,10 @@
 //! The desk (docs/DESK.md) by the rules: its state, and its answer to a line.
 
-use crate::board::{Board, Row};
+use crate::board::{Board, Row, Slot};
 use crate::bus::{Bus, Last};
 use crate::joining::{payload, Brought, Heard, Session, BYTES};
 use crate::orders::{read, Order, FORMS};
-use crate::rules::Entry;
+use crate::rules::{Entry, Range, Ranges};
 use crate::wrong::Wrong;
 
 #[derive(Clone)]
@@ -58,6 +58,11 @@ impl Desk {
             Order::Nothing => return String::new(),
             Order::Wrong(text) => text,
             Order::Numbers(name, n) => self.numbers(name, &n),
+            Order::Ranged(name, n, said) => match &mut self.board {
+                None => String::from("no window"),
+                Some(board) if name == "set" => set(board, &n, ranges(said, Ranges::ALL, self.wrong)),
+                Some(board) => poke_slot(board, &n, said, self.wrong),
+            },
             Order::Frame(id, data, time) => match self.bus.hear(time, id, &data, self.wrong) {
                 Heard::Refused(code) => refused(code),
                 Heard::Kept => String::from("kept"),
@@ -131,11 +136,37 @@ impl Desk {
     }
 }
 
+/// The ranges of loss and shake that are said, and in place of the others those that hold where none is.
+fn ranges([loss, shake]: [Option<Range>; 2], unsaid: Ranges, wrong: Wrong) -> Ranges {
+    let (loss, shake) = if wrong == Wrong::RangesSwapped { (shake, loss) } else { (loss, shake) };
+    Ranges { loss: loss.unwrap_or(unsaid.loss), shake: shake.unwrap_or(unsaid.shake) }
+}
+
+fn set(board: &mut Board, n: &[i64], ranges: Ranges) -> String {
+    let steps = board.set(n[0] as usize, n[1] as u8, n[2] as i16, n[3] as i16, ranges);
+    steps.map_or_else(refused, |steps| format!("steps {}", steps))
+}
+
+/// A slot's numbers; its lines stay, and so do ranges that aren't said.
+fn poke_slot(board: &mut Board, n: &[i64], said: [Option<Range>; 2], wrong: Wrong) -> String {
+    let slot = &mut board.slots[n[0] as usize];
+    let before = if wrong == Wrong::PokeForgetsTheRanges { Ranges::ALL } else { slot.ranges };
+    *slot = Slot {
+        k: n[1] as u8,
+        a: n[2] as i16,
+        b: n[3] as i16,
+        ranges: ranges(said, before, wrong),
+        len: n[4] as u8,
+        next: n[5] as u16,
+        lines: slot.lines,
+    };
+    ok(Ok(()))
+}
+
 /// The lines that make a call on the board, or look at it.
 fn call(board: &mut Board, name: &str, n: &[i64], wrong: Wrong) -> String {
     let slot = n.first().map_or(0, |&s| s as usize);
     match name {
-        "set" => board.set(slot, n[1] as u8, n[2] as i16, n[3] as i16).map_or_else(refused, |steps| format!("steps {}", steps)),
         "remove" => ok(board.remove(slot)),
         "read" => board.read(slot).map_or_else(refused, |list| {
             let lines: Vec<String> = list.iter().map(|e| format!("{}:{}", e.number, e.score)).collect();
@@ -171,14 +202,6 @@ fn poke(board: &mut Board, name: &str, n: &[i64]) -> String {
             window.held = n[2] as u16;
         }
         "poke row" => window.rows[at] = Row { number: n[1] as u32, loss: n[2] as u16, shake: n[3] as u16 },
-        "poke slot" => {
-            let slot = &mut board.slots[at];
-            slot.k = n[1] as u8;
-            slot.a = n[2] as i16;
-            slot.b = n[3] as i16;
-            slot.len = n[4] as u8;
-            slot.next = n[5] as u16;
-        }
         _ => board.slots[at].lines[n[1] as usize] = Entry { number: n[2] as u32, score: n[3] as i32 },
     }
     ok(Ok(()))

@@ -2,7 +2,8 @@
 
 use crate::board::{Slot, Window, LINES, ROWS};
 use crate::logs::{carry, identifier, odd_announcement, Rng};
-use crate::rules::{le, Entry};
+use crate::ranging::both;
+use crate::rules::{le, Entry, Range, Ranges};
 use crate::scripts::{frame_line, hex, some_payload, Script};
 use crate::wrong::Wrong;
 
@@ -53,23 +54,27 @@ fn small_window(s: &mut Script, rng: &mut Rng) {
 // ---- a question
 
 /// A question for a slot: one that its search has brought so far, or one with a list made up from the held reports.
-fn some_slot(rng: &mut Rng, window: &Window) -> Slot {
+fn some_slot(s: &mut Script, rng: &mut Rng) -> Slot {
     let most = rng.pick(&[3, 16]);
     let weight = |rng: &mut Rng| match rng.below(20) {
         0 => rng.pick(&[-1001, 1001]),
         n if n < 6 => rng.pick(&[-1000, -999, 1000, 17]),
         _ => rng.among(-3, 3) as i16,
     };
-    let none = Entry { number: 0, score: 0 };
-    let mut slot = Slot { k: rng.among(1, most) as u8, a: weight(rng), b: weight(rng), len: 0, next: 256, lines: [none; LINES] };
+    let mut slot = Slot { k: rng.among(1, most) as u8, a: weight(rng), b: weight(rng), ranges: s.ranges(), ..Slot::fresh() };
     let mut q = slot.asked();
     let order = q.order(Wrong::No);
-    let mut steps = if rng.chance(20) { 256 } else { rng.below(257) };
-    let held = window.reports();
+    let mut steps = if rng.chance(20) { order.len() } else { rng.below(order.len() + 1) };
+    let held = s.board().window.reports();
+    if s.ranging.chance(40) {
+        // the next cell has reports
+        let cells: Vec<usize> = (0..order.len()).filter(|&i| held.iter().any(|r| r.cell() == order[i])).collect();
+        steps = if cells.is_empty() { steps } else { s.ranging.pick(&cells) };
+    }
     let made_up = rng.chance(40);
     let upto = &order[..steps];
     let listed = held.iter().filter(|r| if made_up { rng.chance(50) } else { upto.contains(&r.cell()) });
-    let listed = listed.map(|r| q.entry(r, Wrong::No)).collect();
+    let listed = listed.filter_map(|r| q.entry(r, Wrong::No)).collect();
     q.rank(listed, Wrong::No);
     if made_up {
         q.list.truncate(rng.below(17));
@@ -82,29 +87,32 @@ fn some_slot(rng: &mut Rng, window: &Window) -> Slot {
 }
 
 fn slot_line(at: usize, s: &Slot) -> String {
-    format!("poke slot {} {} {} {} {} {}", at, s.k, s.a, s.b, s.len, s.next)
+    format!("poke slot {} {} {} {} {} {}{}", at, s.k, s.a, s.b, s.len, s.next, both(s.ranges))
 }
 
 fn line_line(at: usize, place: usize, e: &Entry) -> String {
     format!("poke line {} {} {} {}", at, place, e.number, e.score)
 }
 
-/// Stores a slot, of its lines those that are others than before.
+/// Makes one slot of another: its numbers, and of its lines those that are others than before.
+fn made_of(at: usize, before: &Slot, slot: &Slot) -> Vec<String> {
+    let changed = (0..LINES).filter(|&p| before.lines[p] != slot.lines[p]);
+    let lines = changed.map(|p| line_line(at, p, &slot.lines[p]));
+    std::iter::once(slot_line(at, slot)).chain(lines).collect()
+}
+
 fn store(s: &mut Script, at: usize, slot: &Slot) {
-    let before = s.board().slots[at].clone();
-    s.say(slot_line(at, slot));
-    for place in 0..LINES {
-        if before.lines[place] != slot.lines[place] {
-            s.say(line_line(at, place, &slot.lines[place]));
-        }
+    for line in made_of(at, &s.board().slots[at], slot) {
+        s.say(line);
     }
 }
 
 // ---- damage
 
-/// One number of the state is another: the lines that make it so, and those that put it back.
+/// Something of the state is another: the lines that make it so, and those that put it back.
 fn damage(s: &mut Script, rng: &mut Rng, at: usize) -> Vec<String> {
     let (said, back) = match rng.below(14) {
+        _ if s.ranging.chance(40) => ranges_damaged(s, at),
         0 | 1 | 2 => counts_damaged(s, rng),
         3 | 4 | 5 => row_damaged(s, rng),
         6 | 7 | 8 | 9 => slot_damaged(s, rng, at),
@@ -168,11 +176,51 @@ fn slot_damaged(s: &Script, rng: &mut Rng, at: usize) -> (Vec<String>, Vec<Strin
                 b: rng.pick(&[0, 0, -1]),
                 len: rng.pick(&[0, 0, 1]),
                 next: rng.pick(&[0, 0, 1]),
+                ranges: Ranges::default(),
                 ..old.clone()
             }
         }
     }
     (vec![slot_line(at, &new)], vec![slot_line(at, &old)])
+}
+
+/// Ranges that are unfit or leave out what stands in the slot; the slot is otherwise fit, where it was.
+fn ranges_damaged(s: &mut Script, at: usize) -> (Vec<String>, Vec<String>) {
+    let old = s.board().slots[at].clone();
+    let (drawn, Ranges { loss, shake }) = (s.ranges(), old.ranges);
+    // a question that nothing counts for, and one with another range
+    let none = |ranges: Ranges| Slot { ranges, next: 256, len: 0, lines: Slot::fresh().lines, ..old.clone() };
+    let with = |ranges: Ranges| Slot { ranges, ..old.clone() };
+    let falls = |r: Range| Range { low: r.high.min(4094) + 1, high: r.low.min(4094) };
+    let new = match s.ranging.pick(&[0, 1, 2, 3, 4, 5, 5, 6, 6, 7, 7, 7]) {
+        0 => none(Ranges { loss: falls(loss), shake }),
+        1 => none(Ranges { loss, shake: falls(shake) }),
+        2 => with(Ranges { loss: s.ranging.over(loss.low, loss.high), shake }),
+        3 => with(Ranges { loss, shake: s.ranging.over(shake.low, shake.high) }),
+        4 => with(drawn),
+        5 => Slot { ranges: drawn, ..Slot::fresh() },
+        6 => {
+            let outside: Vec<u16> = (0..256).filter(|&c| !old.ranges.meet(c.into(), Wrong::No)).collect();
+            Slot { next: if outside.is_empty() { 257 } else { s.ranging.pick(&outside) }, ..old.clone() }
+        }
+        _ => uncounted_listed(s, &old),
+    };
+    (made_of(at, &old, &new), made_of(at, &new, &old))
+}
+
+/// A held report that doesn't count stands on the list, in its place by score.
+fn uncounted_listed(s: &mut Script, old: &Slot) -> Slot {
+    let (mut q, mut new) = (old.asked(), old.clone());
+    let held = s.board().window.reports();
+    let uncounted: Vec<Entry> =
+        held.iter().filter(|r| q.entry(r, Wrong::No).is_none()).map(|r| Entry { number: r.number, score: q.score(r, Wrong::No) }).collect();
+    let mut listed = old.listed().to_vec();
+    if !uncounted.is_empty() {
+        listed.push(s.ranging.pick(&uncounted));
+    }
+    q.rank(listed, Wrong::No);
+    new.list(&q.list);
+    new
 }
 
 fn lines_damaged(s: &Script, rng: &mut Rng, at: usize) -> (Vec<String>, Vec<String>) {
@@ -220,17 +268,29 @@ fn lines_damaged(s: &Script, rng: &mut Rng, at: usize) -> (Vec<String>, Vec<Stri
 
 // ---- calls
 
+/// A question whose ranges are refused mostly, and something else perhaps: what stands in the slot, its k or a weight.
+fn refused_ranges(s: &mut Script, at: usize) {
+    let (k, a, b) = (s.ranging.pick(&[1, 1, 1, 17]), s.ranging.pick(&[1, 1, -1001]), s.ranging.pick(&[0, 0, 1001]));
+    let (slot, ends) = (s.ranging.pick(&[at, at, 16, 32]), [0, 0, 255, 256, 4095, 4096, 65535]);
+    let [low, high] = [s.ranging.pick(&ends), s.ranging.pick(&ends)];
+    let name = s.ranging.pick(&["loss", "shake"]);
+    s.say(format!("set {} {} {} {} {} {} {}", slot, k, a, b, name, low, high));
+}
+
 fn call(s: &mut Script, rng: &mut Rng, at: usize) {
+    if s.ranging.chance(7) {
+        refused_ranges(s, at);
+    }
     let slot = rng.pick(&[at, at, at, 0, 31, 32, 255]);
     let weight = |rng: &mut Rng| rng.pick(&[-1001, -1000, -1, 0, 1, 2, 1000, 1001]);
-    let value = |rng: &mut Rng| if rng.chance(80) { rng.below(4096) } else { rng.pick(&[0, 4095, 4096, 65535]) };
+    let value = |rng: &mut Rng| if rng.chance(80) { rng.below(4096) as u32 } else { rng.pick(&[0, 4095, 4096, 65535]) };
     let line = match rng.below(10) {
         0 | 1 | 2 => format!("step {}", at),
         3 => format!("begin {}", at),
-        4 => format!("set {} {} {} {}", slot, rng.pick(&[0, 1, 2, 16, 17]), weight(rng), weight(rng)),
+        4 => return s.set(slot, rng.pick(&[0, 1, 2, 16, 17]), weight(rng), weight(rng)),
         5 => format!("remove {}", slot),
         6 => format!("read {}", slot),
-        _ => format!("enter {} {}", value(rng), value(rng)),
+        _ => return s.enter(value(rng), value(rng)),
     };
     s.say(line);
 }
@@ -256,7 +316,7 @@ fn others(s: &mut Script, rng: &mut Rng) {
     for _ in 0..many {
         let slot = rng.below(32);
         if s.board().slots[slot].k == 0 {
-            s.say(format!("set {} {} {} {}", slot, rng.among(1, 16), rng.among(-3, 3), rng.among(-3, 3)));
+            s.set(slot, rng.among(1, 16), rng.among(-3, 3), rng.among(-3, 3));
         }
     }
 }
@@ -269,7 +329,7 @@ pub fn question(s: &mut Script, rng: &mut Rng) {
     }
     let at = rng.pick(&[0, 0, 1, 7, 30, 31]);
     if !rng.chance(8) {
-        let slot = some_slot(rng, &s.board().window);
+        let slot = some_slot(s, rng);
         store(s, at, &slot);
     }
     let back = if rng.chance(65) { damage(s, rng, at) } else { Vec::new() };
@@ -299,7 +359,7 @@ pub fn large(s: &mut Script, rng: &mut Rng) {
         }
         let at = rng.below(32);
         let before = s.board().slots[at].clone();
-        let slot = some_slot(rng, &s.board().window);
+        let slot = some_slot(s, rng);
         store(s, at, &slot);
         let back = if rng.chance(65) { damage(s, rng, at) } else { Vec::new() };
         calls(s, rng, at, back);

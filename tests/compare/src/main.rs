@@ -11,6 +11,7 @@ mod logs;
 mod long;
 mod made_up;
 mod orders;
+mod ranging;
 mod rules;
 mod runner;
 mod scripts;

@@ -1,12 +1,15 @@
 //! A line for the desk, read (docs/DESK.md): what it asks for, or what is wrong with it.
 
 use crate::joining::Sending;
+use crate::rules::Range;
 
 pub enum Order {
     Nothing,
     Wrong(String),
     /// A line of numbers, by its first word, or its first two where that is `poke`; a time that may be said comes last.
     Numbers(&'static str, Vec<i64>),
+    /// The same where ranges may be said: those of loss and shake that are.
+    Ranged(&'static str, Vec<i64>, [Option<Range>; 2]),
     /// Identifier, data, and the time where one is said.
     Frame(u32, Vec<u8>, Option<u32>),
     Payload(Vec<u8>),
@@ -34,7 +37,11 @@ const SENDER: (i64, i64) = (0, 253);
 /// All lines, in the order of the page.
 pub const FORMS: [Form; 22] = [
     form("window", &[SHORT], " N; N is 0 to 65535"),
-    form("set", &[BYTE, BYTE, SIGNED, SIGNED], " SLOT K A B; SLOT and K are 0 to 255, A and B -32768 to 32767"),
+    form(
+        "set",
+        &[BYTE, BYTE, SIGNED, SIGNED],
+        " SLOT K A B [loss LOW HIGH] [shake LOW HIGH]; SLOT and K are 0 to 255, A and B -32768 to 32767, LOW and HIGH 0 to 65535",
+    ),
     form("remove", &[BYTE], " SLOT; SLOT is 0 to 255"),
     form("read", &[BYTE], " SLOT; SLOT is 0 to 255"),
     form("enter", &[SHORT, SHORT], " LOSS SHAKE; each is 0 to 65535"),
@@ -56,7 +63,7 @@ pub const FORMS: [Form; 22] = [
     form(
         "poke slot",
         &[SLOT, BYTE, SIGNED, SIGNED, BYTE, SHORT],
-        " SLOT K A B LEN NEXT; SLOT is 0 to 31, K and LEN 0 to 255, A and B -32768 to 32767, NEXT 0 to 65535",
+        " SLOT K A B LEN NEXT [loss LOW HIGH] [shake LOW HIGH]; SLOT is 0 to 31, K and LEN 0 to 255, A and B -32768 to 32767, NEXT, LOW and HIGH 0 to 65535",
     ),
     form(
         "poke line",
@@ -134,6 +141,9 @@ fn read_as(form: &Form, words: &[&str]) -> Option<Order> {
         let time = at(&words[count..])?;
         return Some(Order::Numbers(form.name, numbers.into_iter().chain(time).collect()));
     }
+    if ["set", "poke slot"].contains(&form.name) {
+        return Some(Order::Ranged(form.name, numbers, said(&words[count..])?));
+    }
     if words.len() > count {
         return None;
     }
@@ -147,6 +157,19 @@ fn at(words: &[&str]) -> Option<Option<i64>> {
         ["at", ms] => Some(Some(number(ms, LONG)?)),
         _ => None,
     }
+}
+
+/// `loss LOW HIGH` and `shake LOW HIGH` in either order, each once.
+fn said(words: &[&str]) -> Option<[Option<Range>; 2]> {
+    let mut out = [None; 2];
+    for three in words.chunks(3) {
+        let place = ["loss", "shake"].iter().position(|name| *name == three[0])?;
+        let end = |i: usize| number(three.get(i)?, SHORT).map(|n| n as u16);
+        if out[place].replace(Range { low: end(1)?, high: end(2)? }).is_some() {
+            return None;
+        }
+    }
+    Some(out)
 }
 
 /// `note BYTES` and `room N` in either order, each once.

@@ -1,5 +1,5 @@
-//! Ranking and searching by the rules (docs/RULES.md, sections 5 to 8), written from them and from nothing else. Plain, not fast: a
-//! search sorts all 256 cells and takes them one by one, and every step looks at the whole window.
+//! Ranking and searching by the rules (docs/RULES.md, sections 5 to 8 and 16), written from them and from nothing else. Plain, not fast: a
+//! search sorts its cells and takes them one by one, and every step looks at the whole window.
 
 use crate::wrong::Wrong;
 use std::cmp::Ordering;
@@ -24,6 +24,69 @@ impl Report {
     }
 }
 
+/// The values that a question counts of loss, or of shake, both ends with them; none where low is above high (section 16).
+#[derive(Clone, Copy, PartialEq, Default)]
+pub struct Range {
+    pub low: u16,
+    pub high: u16,
+}
+
+impl Range {
+    /// Where none is given.
+    pub const ALL: Range = Range { low: 0, high: 4095 };
+
+    /// The lowest and the highest value. A rule got wrong leaves out a high end that is given; one of 4095 may be where none is.
+    fn ends(self, wrong: Wrong) -> (i32, i32) {
+        let without = wrong == Wrong::RangeEndExclusive && self.high < 4095;
+        (i32::from(self.low), i32::from(self.high) - i32::from(without))
+    }
+
+    fn holds(self, value: i32, wrong: Wrong) -> bool {
+        let (low, high) = self.ends(wrong);
+        (low..=high).contains(&value)
+    }
+
+    /// The lowest and the highest of its values in a column or row; where it has none there, the first is above the second.
+    fn part(self, index: i32, wrong: Wrong) -> (i32, i32) {
+        let (low, high) = self.ends(wrong);
+        (low.max(256 * index), high.min(256 * index + 255))
+    }
+
+    /// Whether it has a value in a column or row.
+    fn meets(self, index: i32, wrong: Wrong) -> bool {
+        let (low, high) = self.part(index, wrong);
+        low <= high && (wrong != Wrong::CellByItsFirstValue || low == 256 * index)
+    }
+}
+
+/// A question's two ranges.
+#[derive(Clone, Copy, PartialEq, Default)]
+pub struct Ranges {
+    pub loss: Range,
+    pub shake: Range,
+}
+
+impl Ranges {
+    pub const ALL: Ranges = Ranges { loss: Range::ALL, shake: Range::ALL };
+
+    /// Whether a report counts.
+    pub fn hold(self, r: &Report, wrong: Wrong) -> bool {
+        let (loss, shake) = (self.loss.holds(r.loss, wrong), self.shake.holds(r.shake, wrong));
+        match wrong {
+            Wrong::EitherRangeIsEnough => loss || shake,
+            Wrong::CountedByTheCell => self.meet(r.cell(), wrong),
+            _ => loss && shake,
+        }
+    }
+
+    /// Whether a cell is one of the grid that has a value inside both.
+    pub fn meet(self, cell: usize, wrong: Wrong) -> bool {
+        let (column, row) = (cell as i32 % 16, cell as i32 / 16);
+        let met = self.loss.meets(column, wrong) && self.shake.meets(row, wrong);
+        cell < 256 && (met || wrong == Wrong::CellWithNoValueTaken)
+    }
+}
+
 #[derive(Clone, Copy, PartialEq, Debug)]
 pub struct Entry {
     pub number: u32,
@@ -35,31 +98,47 @@ pub struct Question {
     pub k: usize,
     pub a: i32,
     pub b: i32,
+    pub ranges: Ranges,
     pub list: Vec<Entry>,
     pub marks: Vec<bool>,
 }
 
 impl Question {
-    pub fn new(k: usize, a: i32, b: i32) -> Question {
-        Question { k, a, b, list: Vec::new(), marks: vec![false; 256] }
+    pub fn new(k: usize, a: i32, b: i32, ranges: Ranges) -> Question {
+        Question { k, a, b, ranges, list: Vec::new(), marks: vec![false; 256] }
     }
 
-    pub fn entry(&self, r: &Report, wrong: Wrong) -> Entry {
+    pub fn score(&self, r: &Report, wrong: Wrong) -> i32 {
         // only values that a rule got wrong lets in make it wrap
         let score = self.a.wrapping_mul(r.loss).wrapping_add(self.b.wrapping_mul(r.shake));
-        Entry { number: r.number, score: if wrong == Wrong::ScoreWithoutSign { score.abs() } else { score } }
+        if wrong == Wrong::ScoreWithoutSign {
+            score.abs()
+        } else {
+            score
+        }
     }
 
-    /// A cell's best possible score, that of its best corner (rule 7.3).
+    /// What the list can name of a report: nothing where it doesn't count (section 16).
+    pub fn entry(&self, r: &Report, wrong: Wrong) -> Option<Entry> {
+        let short = wrong == Wrong::UncountedOnAShortList && self.list.len() < self.k;
+        let counts = short || self.ranges.hold(r, wrong);
+        Some(Entry { number: r.number, score: self.score(r, wrong) }).filter(|_| counts)
+    }
+
+    /// A cell's best possible score, that of the best corner of what the ranges leave of it (rule 7.3, section 16).
     pub fn best(&self, cell: usize, wrong: Wrong) -> i32 {
-        let high = if wrong == Wrong::CellEdge { 256 } else { 255 };
-        let corner = |weight: i32, index: i32| weight * (256 * index + if weight > 0 { high } else { 0 });
-        corner(self.a, cell as i32 % 16) + corner(self.b, cell as i32 / 16)
+        let corner = |weight: i32, range: Range, index: i32| {
+            let range = if wrong == Wrong::BestOfTheWholeCell { Range::ALL } else { range };
+            let (low, high) = range.part(index, wrong);
+            weight * if weight > 0 { high + i32::from(wrong == Wrong::CellEdge) } else { low }
+        };
+        corner(self.a, self.ranges.loss, cell as i32 % 16) + corner(self.b, self.ranges.shake, cell as i32 / 16)
     }
 
-    /// The cells in the order in which a search takes them (rule 7.4).
+    /// The cells in the order in which a search takes them (rule 7.4); none that the ranges leave nothing of (section 16).
     pub fn order(&self, wrong: Wrong) -> Vec<usize> {
-        let mut cells: Vec<(i32, usize)> = (0..256).map(|c| (self.best(c, wrong), c)).collect();
+        let cells = (0..256).filter(|&c| self.ranges.meet(c, wrong));
+        let mut cells: Vec<(i32, usize)> = cells.map(|c| (self.best(c, wrong), c)).collect();
         match wrong {
             Wrong::EqualCellsFalling => cells.sort_by(|c, d| d.cmp(c)),
             Wrong::LeastCellFirst => cells.sort(),
@@ -94,7 +173,7 @@ impl Question {
         let mut entries = self.list.clone();
         for r in held.iter().filter(|r| r.cell() == cell) {
             if wrong == Wrong::ListedByAStepAgain || !self.list.iter().any(|e| e.number == r.number) {
-                entries.push(self.entry(r, wrong));
+                entries.extend(self.entry(r, wrong));
             }
         }
         self.rank(entries, wrong);
@@ -123,7 +202,10 @@ impl Question {
 
     /// Puts a report that enters on the list, where it has a place there (rule 8.1).
     pub fn offer(&mut self, r: &Report, wrong: Wrong) {
-        let new = self.entry(r, wrong);
+        let new = match self.entry(r, wrong) {
+            Some(new) => new,
+            None => return,
+        };
         let room = self.list.len() < self.k;
         let last = self.list.last().map_or(i32::MIN, |e| e.score);
         let marked = self.marks.get(r.cell()) == Some(&true);

@@ -7,7 +7,8 @@ use crate::clocks::Clocks;
 use crate::desk::Desk;
 use crate::joining::Session;
 use crate::logs::{carry, payload, Item, Rng};
-use crate::rules::le;
+use crate::ranging::Ranging;
+use crate::rules::{le, Ranges};
 use crate::wrong::Wrong;
 use crate::{made_up, spoilt};
 
@@ -19,16 +20,17 @@ pub struct Script {
     pub answers: Vec<String>,
     pub desk: Desk,
     pub clocks: Clocks,
+    pub ranging: Ranging,
     /// So many of a hundred lines are spoilt on their way, and the seed for that.
     spoils: usize,
     spoiling: Rng,
 }
 
 impl Script {
-    fn new(kind: &'static str, clocks: Clocks, rng: &mut Rng) -> Script {
+    fn new(kind: &'static str, clocks: Clocks, ranging: Ranging, rng: &mut Rng) -> Script {
         let (spoils, spoiling) = (if rng.chance(12) { rng.pick(&[3, 10, 40]) } else { 0 }, Rng(rng.next()));
         let desk = Desk::new(Wrong::No);
-        Script { kind, first: false, lines: Vec::new(), answers: Vec::new(), desk, clocks, spoils, spoiling }
+        Script { kind, first: false, lines: Vec::new(), answers: Vec::new(), desk, clocks, ranging, spoils, spoiling }
     }
 
     pub fn say(&mut self, line: String) {
@@ -46,6 +48,27 @@ impl Script {
     /// The board, where there is one.
     pub fn board(&self) -> Board {
         self.desk.board.clone().unwrap_or_else(|| Board::fresh(1, Wrong::No))
+    }
+
+    /// The ranges of a question that is asked now.
+    pub fn ranges(&mut self) -> Ranges {
+        let held = self.desk.board.as_ref().map_or_else(Default::default, |b| b.window.reports());
+        self.ranging.draw(&held)
+    }
+
+    /// Sets a question, with ranges or without.
+    pub fn set(&mut self, slot: usize, k: i32, a: i32, b: i32) {
+        let ranges = self.ranges();
+        let words = self.ranging.words(ranges);
+        self.say(format!("set {} {} {} {}{}", slot, k, a, b, words));
+    }
+
+    /// Enters a report with these values, or with ones near the ends of what some question counts.
+    pub fn enter(&mut self, loss: u32, shake: u32) {
+        let used = self.desk.board.iter().flat_map(|b| &b.slots).filter(|s| s.k != 0 && s.ranges != Ranges::ALL);
+        let asked: Vec<Ranges> = used.map(|s| s.ranges).collect();
+        let [loss, shake] = self.ranging.values(&asked, [loss, shake]);
+        self.say(format!("enter {} {}", loss, shake));
     }
 
     /// Looks at all that a call may have changed of a slot, also where the board doesn't read its list: a search under way is given
@@ -131,7 +154,7 @@ fn day(s: &mut Script, rng: &mut Rng) {
         match rng.below(14) {
             0 | 1 => {
                 let k = if rng.chance(60) { rng.among(1, 3) } else { rng.among(1, 16) };
-                s.say(format!("set {} {} {} {}", slot, k, weight(rng), weight(rng)));
+                s.set(slot, k, weight(rng), weight(rng));
             }
             2 if rng.chance(40) => s.say(format!("remove {}", slot)),
             3 => s.say(format!("read {}", slot)),
@@ -139,7 +162,7 @@ fn day(s: &mut Script, rng: &mut Rng) {
             5 => by_hand(s, rng, slot),
             6 | 7 => mixed(s, rng, sort),
             8 if rng.chance(10) => s.say(format!("window {}", rng.pick(&[0, 1, 3, 1025]))),
-            _ => s.say(format!("enter {} {}", value(rng, sort), value(rng, sort))),
+            _ => s.enter(value(rng, sort), value(rng, sort)),
         }
     }
     s.look(0);
@@ -155,11 +178,11 @@ fn leaving(s: &mut Script, rng: &mut Rng) {
     for i in 0..reports {
         if i == asked {
             for slot in 0..slots {
-                s.say(format!("set {} {} {} {}", 31 - slot, rng.among(1, 5), weight(rng), weight(rng)));
+                s.set(31 - slot, rng.among(1, 5), weight(rng), weight(rng));
             }
         }
         let low = if falling { i * 4095 / reports } else { 0 };
-        s.say(format!("enter {} {}", value(rng, sort).saturating_sub(low), value(rng, sort).saturating_sub(low)));
+        s.enter(value(rng, sort).saturating_sub(low), value(rng, sort).saturating_sub(low));
     }
     for slot in 0..slots {
         s.look(31 - slot);
@@ -303,7 +326,7 @@ pub fn draw(seed: u64) -> Script {
         n if n < 59 => ("session", made_up::session),
         _ => ("made up", made_up::question),
     };
-    let mut script = Script::new(kind, Clocks::new(seed, 50), rng);
+    let mut script = Script::new(kind, Clocks::new(seed, 50), Ranging::new(seed, 40), rng);
     fill(&mut script, rng);
     script.leave();
     script

@@ -79,7 +79,7 @@ pub fn shortest_script(script: Vec<Vec<u8>>, tries: usize, shows: &mut dyn FnMut
     }
 }
 
-/// Words of one line dropped, and its numbers made 0, half or one less.
+/// Words of one line dropped, and its numbers made less: by all, by half, and so on down to by one.
 fn smaller_line(mut script: Vec<Vec<u8>>, at: usize, shows: &mut dyn FnMut(&[Vec<u8>]) -> bool) -> Vec<Vec<u8>> {
     let with = |script: &[Vec<u8>], words: &[Vec<u8>]| {
         let mut out = script.to_vec();
@@ -98,8 +98,13 @@ fn smaller_line(mut script: Vec<Vec<u8>>, at: usize, shows: &mut dyn FnMut(&[Vec
             w[i] = n.to_string().into_bytes();
             w
         };
-        while let Some(n) = [0, old / 2, old - 1].iter().copied().find(|&n| n < old && shows(&with(&script, &try_number(n)))) {
-            old = n;
+        let mut by = old;
+        while by > 0 {
+            if by <= old && shows(&with(&script, &try_number(old - by))) {
+                old -= by;
+            } else {
+                by /= 2;
+            }
         }
         words[i] = old.to_string().into_bytes();
         if !shows(&with(&script, &words)) {

@@ -19,6 +19,7 @@ pub fn any_line(rng: &mut Rng) -> String {
             words.extend(some_time(rng));
         }
         "poke session" => words.extend(some_time(rng)),
+        "set" | "poke slot" => words.extend(some_ranges(rng)),
         "payload" => words.push(hex(&bytes)),
         "write" => {
             let mut more = vec![format!("note {}", hex(&bytes)), format!("room {}", rng.below(200))];
@@ -39,7 +40,19 @@ fn some_time(rng: &mut Rng) -> Option<String> {
     Some(format!("at {}", ms)).filter(|_| rng.chance(40))
 }
 
-const NUMBERS: [&str; 42] = [
+/// Ranges, where any are said.
+fn some_ranges(rng: &mut Rng) -> Vec<String> {
+    let mut out = Vec::new();
+    for name in if rng.chance(50) { ["loss", "shake"] } else { ["shake", "loss"] } {
+        let (low, high) = (rng.pick(&[0, 0, 1, 255, 256, 4095, 4096]), rng.pick(&[0, 255, 256, 4095, 4095, 4096, 65535]));
+        if rng.chance(30) {
+            out.push(format!("{} {} {}", name, low, high));
+        }
+    }
+    out
+}
+
+const NUMBERS: [&str; 44] = [
     "-1",
     "-0",
     "0",
@@ -63,6 +76,8 @@ const NUMBERS: [&str; 42] = [
     "1023",
     "1024",
     "1025",
+    "4095",
+    "4096",
     "32767",
     "32768",
     "-32768",
@@ -84,7 +99,7 @@ const NUMBERS: [&str; 42] = [
     "-",
 ];
 
-const ODD: [&str; 45] = [
+const ODD: [&str; 57] = [
     "",
     " ",
     "\t",
@@ -130,6 +145,18 @@ const ODD: [&str; 45] = [
     "poke untimed 3 at 5",
     "session 3 at 5",
     "payload 01 02",
+    "set 0 1 1 1 loss",
+    "set 0 1 1 1 loss 5",
+    "set 0 1 1 1 loss 5 shake 7",
+    "set 0 1 1 1 loss 5 7 9",
+    "set 0 1 1 1 loss 5 7 loss 5 7",
+    "set 0 1 1 1 shake 5 7 loss 5 7",
+    "set 0 1 1 1 loss 5 7 shake 5 7 loss 5 7",
+    "set 0 1 1 1 Loss 5 7",
+    "set 0 1 1 loss 5 7",
+    "set loss 5 7 0 1 1 1",
+    "poke slot 0 0 0 0 0 loss 0 0",
+    "poke slot 0 0 0 0 0 0 shake 00 00 loss 0 0",
 ];
 
 /// A line with something changed in it.
@@ -142,7 +169,7 @@ pub fn line(rng: &mut Rng, line: &str) -> Vec<u8> {
             words.remove(at);
         }
         3 => {
-            let more = if rng.chance(50) { rng.pick(&NUMBERS) } else { rng.pick(&["note", "room", "at", "AB", "x", "#"]) };
+            let more = if rng.chance(50) { rng.pick(&NUMBERS) } else { rng.pick(&["note", "room", "at", "loss", "shake", "AB", "x", "#"]) };
             words.insert(at + rng.below(2), more.to_string());
         }
         4 => words[at] = format!("{}{}", rng.pick(&["0", "00", "-", "+", "-0", "x", "#"]), words[at]),

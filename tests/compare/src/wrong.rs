@@ -27,7 +27,9 @@ wrong! {
         // frames with times
         Late750 InTime751 RefusedSetsTheTime ReportLeavesTheTime AnnouncementLeavesTheTime UntimedSetsTheTime UntimedForgetsTheTime
         UntimedTestsTheTime OneTimeForAll NoTimeIsZero TimesWrapAround TimeHighByteFirst TwentySixFirst TwentySixLast TwentySixCloses
-        TwentySixSetsTheTime RefusalUndoesTheClosing;
+        TwentySixSetsTheTime RefusalUndoesTheClosing
+        // ranges
+        LogCountsTo4094;
     at_the_desk:
         // steps and beginnings
         EqualCellsFalling CellsByNumber LeastCellFirst WholeSearchAtOnce ListedByAStepAgain StepListNotCut FinishedSteps
@@ -38,13 +40,19 @@ wrong! {
         // unfit: a question and its lines
         KNotChecked FirstWeightNotChecked SecondWeightNotChecked NextNotChecked ListLongerThanK NotHeldListed ScoresNotChecked
         RankNotChecked TwiceListed RestNumberNotChecked RestScoreNotChecked EmptySlotNotChecked UnfinishedOnTheBoard
+        // ranges: what counts, and the cells
+        RangeEndExclusive EitherRangeIsEnough CountedByTheCell UncountedOnAShortList BestOfTheWholeCell CellWithNoValueTaken CellByItsFirstValue
+        RangesForgottenOnASearch BeginForgetsTheRanges RemovingLeavesTheRanges RangesSwapped PokeForgetsTheRanges SetTakesLowOverHigh SetTakes4096
+        // unfit: ranges, and what they leave out
+        LossOrderNotChecked ShakeOrderNotChecked LossEndsNotChecked ShakeEndsNotChecked NextOutsideTheOrder UncountedLineNotChecked
+        EmptySlotRangesNotChecked
         // unfit: a session
         SessionSizeNotChecked SessionCountNotChecked SessionNextZero SessionNextPastCount HalfClosed
         // unfit: a last time
         UnfitTimeNotChecked UnfitTimeStopsUntimed
         // the order of refusals
         ThirteenFirst TwelveFirst ElevenBeforeTwelve SixteenFirst TwentyFiveFirst TwentyFourFirst TwentyFourLast TwelveBeforeThree
-        NineteenBeforeTwelve TwentyFirst TwentySixBeforeTwentyFour ClosingBeforeTwentyFour
+        NineteenBeforeTwelve TwentyFirst TwentySixBeforeTwentyFour ClosingBeforeTwentyFour ThirtyFirst ThirtyBeforeFifteen ThirtyAfterSixteen
         // frames, payloads, the bench sender, the board
         OpeningKeepsTheBytes StoresPastTheSize ClosingClearsTheBytes LastPacketNotStored NoteByTheBytes NoteDropped EmptyNoteIsNone
         NoteWithItsHead OwnLostHalf RoomOneByteShort RoomOneByteMore Note65 PaddedWithZeros PrioritySix SessionsGoWithTheWindow RefusedWindowClears

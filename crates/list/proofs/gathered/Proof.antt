@@ -1,16 +1,22 @@
 -- The invariant: the arrays are those of the best k of the rows so far, and the bar and its least are theirs.
 -- Assumes nothing.
-use mathlib.Core.Path.{_≡_, refl, sym, ap, ap₂, subst, _∙_}
-use Prim.Native.Nat.{ℕ, min, _≤_, _<_, _-_, _+_}
+use mathlib.Core.Path.{_≡_, refl, sym, ap, ap₂, _∙_}
+use mathlib.Core.Bool.{true}
+use mathlib.Core.Logic.{⊎-elim}
+use Prim.Native.Nat.{ℕ, min, _≤_, _-_, _+_}
 use native.Mathlib.Omega.{arith}
 use borrow.Author.Needs.{needs}
 use borrow.Author.Tests.{not-true, not-false}
 use lib.Dec.{eqb}
+use lib.IntN.{ℤ}
 use lib.ListN.{getD}
-use lib.Signed.{ltZ, mag}
+use lib.Signed.{ltZ}
 use mir.Syntax.{w32}
 use mir.Val.{toZ, ofZ}
-use Rattle.ranking.specs.Standing.{Entry, above, entry, top}
+use Rattle.ranking.specs.Cells.{score, isScored, points}
+use Rattle.ranking.specs.Standing.{Entry, above, isCounted, entry, top}
+use Rattle.ranking.specs.declared.Score.the-variants.{Scored}
+use Rattle.ranking.proofs.Cells.{from-is, from-none}
 use Rattle.ranking.proofs.Entries.{score-below}
 use Rattle.laws.proofs.Words.{kept}
 use Rattle.window.specs.declared.Window.{Window}
@@ -22,7 +28,7 @@ use Rattle.list.specs.Rows.{rowsOf}
 use Rattle.list.specs.Inner.{Roomy, leastAt, admits}
 use Rattle.list.proofs.Sliding.{placing-few}
 use Rattle.list.proofs.Bars.{admits-under}
-use Rattle.list.proofs.Gathering.{gathered-none, gathered-few, gathered-bar, gathered-places, gathered-skips}
+use Rattle.list.proofs.Gathering.{gathered-none, gathered-few, gathered-bar, gathered-places, gathered-out, gathered-skips}
 use Rattle.list.proofs.gathered.Statement.{statement}
 use Rattle.list.proofs.gathered.Tie as tie
 
@@ -66,25 +72,39 @@ module _ (c : tie.At-loop Inv-loop μ-loop) where
   same-bar = c .loop .inv .5 ∙ gathered-bar (start .args .rule) most small rows (c .loop .found) (c .loop .by) (c .loop .len) (c .loop .row) (c .loop .inv .4)
 
 -- and the loop's body of its row
-module _ (c : tie.After-score Inv-loop μ-loop) where
+module _ (c : tie.After-score-from Inv-loop μ-loop) where
   abbrev at : tie.At-loop Inv-loop μ-loop
   at = c .before .before .before .before
-
-  scored : toZ w32 (ofZ w32 (c .score .result)) ≡ report at .score
-  scored = kept w32 (c .score .result) (c .score .ok) ∙ c .score .ensures
-
-  reported : record { number = getD (rows at .numbers) (at .loop .row) 0; score = toZ w32 (ofZ w32 (c .score .result)) } ≡ report at
-  reported = ap (λ s. record { number = reportIn (rows at) (at .loop .row) .number; score = s }) scored
 
   up : at .loop .row + 1 ≤ ended at .smaller2 .result
   up = search needs
 
+-- a row whose report counts, and isn't below the least score
+module _ (c : tie.After-known-told Inv-loop μ-loop) where
+  abbrev row : tie.At-loop Inv-loop μ-loop
+  row = at (c .before .before .before)
+
+  abbrev own : ℤ
+  own = c .before .scored .given .0 .0
+
+  is : score (start row .args .rule) (reportIn (rows row) (row .loop .row) .values) ≡ Scored own
+  is = from-is (toZ w32 (row .loop .least)) (score (start row .args .rule) (reportIn (rows row) (row .loop .row) .values)) own (sym (c .before .before .before .score-from .ensures .0) ∙ c .before .scored .given .1)
+
+  whole : toZ w32 (ofZ w32 own) ≡ own
+  whole = kept w32 own (c .known-told .given .0 .1)
+
+  counted : isCounted (start row .args .rule) (reportIn (rows row) (row .loop .row)) ≡ true
+  counted = ap isScored is
+
+  reported : record { number = getD (rows row .numbers) (row .loop .row) 0; score = toZ w32 (ofZ w32 own) } ≡ report row
+  reported = ap (λ s. record { number = reportIn (rows row) (row .loop .row) .number; score = s }) (whole ∙ sym (ap points is))
+
 module _ (c : tie.After-admits Inv-loop μ-loop) where
   abbrev turn : tie.At-loop Inv-loop μ-loop
-  turn = at (c .before .before .before)
+  turn = row (c .before .before)
 
   test : c .admits .result ≡ admits (above (start turn .args .rule)) (barOf (columnsOf (top (start turn .args .rule) (most turn) (standing (rows turn) (turn .loop .row)))) (most turn)) (report turn)
-  test = c .admits .ensures ∙ ap₂ (admits (above (start turn .args .rule))) (same-bar turn) (reported (c .before .before .before))
+  test = c .admits .ensures ∙ ap₂ (admits (above (start turn .args .rule))) (same-bar turn) (reported (c .before .before))
 
 smaller-requires : tie.Need-smaller-requires Inv-loop μ-loop
 smaller-requires c κs = search needs
@@ -127,19 +147,31 @@ mul-shake c = search needs
 element-copy-out-shake : tie.Need-element-copy-out-shake Inv-loop μ-loop
 element-copy-out-shake c = search needs
 
-score-requires : tie.Need-score-requires Inv-loop μ-loop
-score-requires c κs = search needs
+score-from-requires : tie.Need-score-from-requires Inv-loop μ-loop
+score-from-requires c κs = search needs
+
+enum-known-scored : tie.Need-enum-known-scored Inv-loop μ-loop
+enum-known-scored c = search needs
+
+enum-told : tie.Need-enum-told Inv-loop μ-loop
+enum-told c = search needs
 
 loop-less : tie.Need-loop-less Inv-loop μ-loop
 loop-less c = search needs
 
 loop-again : tie.Need-loop-again Inv-loop μ-loop
 loop-again c =
-    let b = at (c .before) in
+    let one = c .before .before in
+    let b = at one in
     let l = b .loop in
-    let fits = subst (λ s. mag s < 2147483648) (c .before .score .ensures) (c .before .score .ok) in
-    let under = ap (λ bar. admits (above (start b .args .rule)) bar (report b)) (sym (same-bar b)) ∙ admits-under (above (start b .args .rule)) (l .bar) (report b) (score-below (start b .args .rule)) fits (sym (ap₂ ltZ (scored (c .before)) (l .inv .6)) ∙ c .if1 .taken) in
-    (up (c .before), l .inv .1, l .inv .2, l .inv .3, l .inv .4 ∙ ap columnsOf (gathered-skips (start b .args .rule) (most b) (small b) (rows b) (l .row) under), l .inv .5, l .inv .6)
+    let rule = start b .args .rule in
+    let fails : top rule (most b) (standing (rows b) (l .row)) ≡ top rule (most b) (standing (rows b) (l .row + 1)) =
+    ⊎-elim (gathered-out rule (most b) (small b) (rows b) (l .row))
+    (λ low. gathered-skips rule (most b) (small b) (rows b) (l .row) (low .0)
+    (ap (λ bar. admits (above rule) bar (report b)) (sym (same-bar b))
+    ∙ admits-under (above rule) (l .bar) (report b) (score-below rule) (one .score-from .ensures .1 .sfits) (ap (ltZ (report b .score)) (sym (l .inv .6)) ∙ low .1)))
+    (from-none (toZ w32 (l .least)) (score rule (reportIn (rows b) (l .row) .values)) (sym (one .score-from .ensures .0) ∙ c .enum-told .given .1)) in
+    (up one, l .inv .1, l .inv .2, l .inv .3, l .inv .4 ∙ ap columnsOf fails, l .inv .5, l .inv .6)
 
 mul-number : tie.Need-mul-number Inv-loop μ-loop
 mul-number c = search needs
@@ -157,7 +189,7 @@ loop-again-2 : tie.Need-loop-again-2 Inv-loop μ-loop
 loop-again-2 c =
     let b = turn (c .before) in
     let l = b .loop in
-    (up (c .before .before .before .before), l .inv .1, l .inv .2, l .inv .3, l .inv .4 ∙ ap columnsOf (gathered-skips (start b .args .rule) (most b) (small b) (rows b) (l .row) (sym (test (c .before)) ∙ not-true _ (c .if2 .taken))), l .inv .5, l .inv .6)
+    (up (c .before .before .before .before .before .before), l .inv .1, l .inv .2, l .inv .3, l .inv .4 ∙ ap columnsOf (gathered-skips (start b .args .rule) (most b) (small b) (rows b) (l .row) (counted (c .before .before .before)) (sym (test (c .before)) ∙ not-true _ (c .if1 .taken))), l .inv .5, l .inv .6)
 
 put-in-requires : tie.Need-put-in-requires Inv-loop μ-loop
 put-in-requires c κs =
@@ -180,11 +212,11 @@ loop-again-3 c =
     let earlier = put .before .before .before .before in
     let b = turn earlier in
     let l = b .loop in (
-      up (earlier .before .before .before),
+      up (earlier .before .before .before .before .before),
       l .inv .1,
       l .inv .2,
       put .put-in .ensures .1,
-      gathered-places (start b .args .rule) (most b) (small b) (rows b) (l .row) (l .found) _ (l .by) _ (l .len) _ _ (l .inv .4) (put .put-in .ensures .1) (put .put-in .ensures .0) (reported (earlier .before .before .before)) (sym (test earlier) ∙ not-false _ (put .before .before .before .if2 .left)),
+      gathered-places (start b .args .rule) (most b) (small b) (rows b) (l .row) (l .found) _ (l .by) _ (l .len) _ _ (l .inv .4) (put .put-in .ensures .1) (put .put-in .ensures .0) (reported (earlier .before .before)) (counted (earlier .before .before)) (sym (test earlier) ∙ not-false _ (put .before .before .before .if1 .left)),
       c .before .bar-in2 .ensures,
       kept w32 (c .least2 .result) (c .least2 .ok) ∙ c .least2 .ensures,
     )
@@ -216,7 +248,9 @@ gathered-spec =
     element-copy-out-loss
     mul-shake
     element-copy-out-shake
-    score-requires
+    score-from-requires
+    enum-known-scored
+    enum-told
     loop-less
     loop-again
     mul-number

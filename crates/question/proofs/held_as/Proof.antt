@@ -1,15 +1,16 @@
 -- A number that is held has a row, whose score is compared by its bits.
 -- Assumes nothing.
 use mathlib.Core.Path.{sym, ap, _∙_}
-use mathlib.Core.Bool.{_&&_}
 use borrow.Author.Tests.{not-true, not-false}
 use borrow.Author.Needs.{needs}
 use mir.Syntax.{w32}
-use Rattle.ranking.specs.Standing.{entry}
+use Rattle.ranking.specs.Cells.{isScored, points}
+use Rattle.ranking.specs.Standing.{Entry, entry}
 use Rattle.window.specs.Rows.{rowOf, reportIn}
 use Rattle.laws.specs.Whole.{equal}
+use Rattle.laws.proofs.Tests.{and-after, and-stops, and-no}
 use Rattle.laws.proofs.Words.{same-bits}
-use Rattle.question.specs.Calls.{heldAs}
+use Rattle.question.specs.Calls.{holdsNumber, isLineOf, heldAs}
 use Rattle.question.proofs.Fitness.{Holds, holds, row-within}
 use Rattle.question.proofs.held_as.Statement.{statement}
 use Rattle.question.proofs.held_as.Tie as tie
@@ -52,15 +53,39 @@ element-copy-out-shake c = row-within (found (c .before .before))
 score-requires : tie.Need-score-requires
 score-requires c κs = search needs
 
+enum-known-own : tie.Need-enum-known-own
+enum-known-own c = search needs
+
+enum-told : tie.Need-enum-told
+enum-told c = search needs
+
 returns-2 : tie.Need-returns-2
 unfolding heldAs
 returns-2 c =
-    let there = c .before .before .before .before in
+    let told = c .before in
+    let scored = told .before .before in
+    let there = scored .before .before .before .before in
     let start = there .before .before .before in
     let a = start .args in
-    same-bits w32 (a .score) (c .score .result) (start .fits .score) (record { sfits = c .score .ok })
-    ∙ ap (equal (a .score)) (c .score .ensures)
-    ∙ sym (ap (λ b. b && equal (a .score) (entry (a .rule) (reportIn (a .t1) (rowOf (a .t1 .counts .size) (a .number))) .score)) (sym (there .before .holds-number .ensures) ∙ not-false _ (there .if1 .left)))
+    let row = reportIn (a .t1) (rowOf (a .t1 .counts .size) (a .number)) in
+    let line : Entry = record { number = a .number; score = a .score } in
+    let own = told .own .given .0 .0 in
+    let is = sym (scored .score .ensures) ∙ told .own .given .1 in
+    same-bits w32 (a .score) own (start .fits .score) (record { sfits = c .known-told .given .0 .1 })
+    ∙ ap (equal (a .score)) (sym (ap points is))
+    ∙ sym (and-after (equal (a .score) (entry (a .rule) row .score)) (ap isScored is))
+    ∙ sym (and-after (isLineOf (a .rule) line row) (sym (there .before .holds-number .ensures) ∙ not-false _ (there .if1 .left)))
+
+returns-3 : tie.Need-returns-3
+unfolding heldAs
+returns-3 c =
+    let scored = c .before .before in
+    let there = scored .before .before .before .before in
+    let a = there .before .before .before .args in
+    let row = reportIn (a .t1) (rowOf (a .t1 .counts .size) (a .number)) in
+    sym
+    (and-no (holdsNumber (a .t1 .counts) (a .number))
+    (and-stops (equal (a .score) (entry (a .rule) row .score)) (ap isScored (sym (scored .score .ensures) ∙ c .enum-told .given .1))))
 
 pub held-as-spec : {M : Type 1} → statement M
 held-as-spec =
@@ -77,4 +102,7 @@ held-as-spec =
     mul-shake
     element-copy-out-shake
     score-requires
-    returns-2)
+    enum-known-own
+    enum-told
+    returns-2
+    returns-3)

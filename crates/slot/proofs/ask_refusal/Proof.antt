@@ -12,22 +12,33 @@ returns c = rw (lt-leb _ _ (c .if1 .taken))
 returns-2 : tie.Need-returns-2
 returns-2 c = rw (le-leb _ _ (c .before .if1 .left), lt-leb _ _ (c .if2 .taken))
 
-fit-requires : tie.Need-fit-requires
-fit-requires c κs = search needs
+weights-fit-requires : tie.Need-weights-fit-requires
+weights-fit-requires c κs = search needs
 
 returns-3 : tie.Need-returns-3
-returns-3 c = rw (le-leb _ _ (c .before .before .before .if1 .left), le-leb _ _ (c .before .before .if2 .left), sym (c .before .fit .ensures) ∙ not-true _ (c .if3 .taken))
+returns-3 c = rw (le-leb _ _ (c .before .before .before .if1 .left), le-leb _ _ (c .before .before .if2 .left), sym (c .before .weights-fit .ensures) ∙ not-true _ (c .if3 .taken))
+
+ranges-proper-requires : tie.Need-ranges-proper-requires
+ranges-proper-requires c κs = search needs
 
 returns-4 : tie.Need-returns-4
 returns-4 c =
-    let at = c .before in
-    rw (le-leb _ _ (at .before .before .before .if1 .left), le-leb _ _ (at .before .before .if2 .left), sym (at .before .fit .ensures) ∙ not-false _ (at .if3 .left), eq-eqb _ _ (c .if4 .taken))
+    let at = c .before .before in
+    rw (le-leb _ _ (at .before .before .before .if1 .left), le-leb _ _ (at .before .before .if2 .left), sym (at .before .weights-fit .ensures) ∙ not-false _ (at .if3 .left), sym (c .before .ranges-proper .ensures) ∙ not-true _ (c .if4 .taken))
 
 returns-5 : tie.Need-returns-5
 returns-5 c =
-    let at = c .before in
-    rw (le-leb _ _ (at .before .before .before .if1 .left), le-leb _ _ (at .before .before .if2 .left), sym (at .before .fit .ensures) ∙ not-false _ (at .if3 .left), ne-eqb _ _ (c .if4 .left))
+    let then = c .before in
+    let at = then .before .before in
+    rw (le-leb _ _ (at .before .before .before .if1 .left), le-leb _ _ (at .before .before .if2 .left), sym (at .before .weights-fit .ensures) ∙ not-false _ (at .if3 .left), sym (then .before .ranges-proper .ensures) ∙ not-false _ (then .if4 .left), eq-eqb _ _ (c .if5 .taken))
+
+returns-6 : tie.Need-returns-6
+returns-6 c =
+    let then = c .before in
+    let at = then .before .before in
+    rw (le-leb _ _ (at .before .before .before .if1 .left), le-leb _ _ (at .before .before .if2 .left), sym (at .before .weights-fit .ensures) ∙ not-false _ (at .if3 .left), sym (then .before .ranges-proper .ensures) ∙ not-false _ (then .if4 .left), ne-eqb _ _ (c .if5 .left))
 
 pub ask-refusal-spec : {M : Type 1} → statement M
 ask-refusal-spec =
-    tie.close (tie.spec returns returns-2 fit-requires returns-3 returns-4 returns-5)
+    tie.close
+    (tie.spec returns returns-2 weights-fit-requires returns-3 ranges-proper-requires returns-4 returns-5 returns-6)

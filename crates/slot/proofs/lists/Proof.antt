@@ -14,10 +14,10 @@ use Rattle.slot.proofs.lists.Statement.{statement}
 use Rattle.slot.proofs.lists.Tie as tie
 
 abbrev Inv-loop : tie.InvT-loop
-Inv-loop gone n numbers i₀ i = (i ≤ n) × (allOf (ltb gone) (drop i (take n numbers)) ≡ allOf (ltb gone) (take n numbers))
+Inv-loop gone question n i₀ i = (i ≤ n) × (allOf (ltb gone) (drop i (take n (question .numbers))) ≡ allOf (ltb gone) (take n (question .numbers)))
 
 abbrev μ-loop : tie.MeasureT-loop
-μ-loop gone n numbers i₀ i = n - i
+μ-loop gone question n i₀ i = n - i
 
 lines-in-requires : tie.Need-lines-in-requires Inv-loop μ-loop
 lines-in-requires c κs = search needs
@@ -28,15 +28,15 @@ loop-holds c = (omega arith, refl)
 mul-if1 : tie.Need-mul-if1 Inv-loop μ-loop
 mul-if1 c = omega arith
 
-array-read-if1 : tie.Need-array-read-if1 Inv-loop μ-loop
-array-read-if1 c = omega arith
+element-copy-out-if1 : tie.Need-element-copy-out-if1 Inv-loop μ-loop
+element-copy-out-if1 c = omega arith
 
 returns : tie.Need-returns Inv-loop μ-loop
 returns c =
-    let l = c .before .before in
-    let counted = l .before .before in
+    let l = c .before .before .before in
+    let counted = l .before in
     let start = counted .before in
-    let q = start .args .question in
+    let q = start .args .t1 in
     let good = start .good .0 .1 .1 .1 .1 in
     let r = roomy q (good .0 .1 .0 .1) (good .1 .0 .1 .0 .1) in
     let here = gone-here (q .numbers) (counted .lines-in .result) (l .loop .i) (omega (arith, r .numbers, counted .lines-in .ensures)) (omega arith) (start .args .gone) (c .if1 .taken) in
@@ -51,10 +51,10 @@ loop-less c = omega arith
 
 loop-again : tie.Need-loop-again Inv-loop μ-loop
 loop-again c =
-    let l = c .before .before in
-    let counted = l .before .before in
+    let l = c .before .before .before in
+    let counted = l .before in
     let start = counted .before in
-    let q = start .args .question in
+    let q = start .args .t1 in
     let good = start .good .0 .1 .1 .1 .1 in
     let r = roomy q (good .0 .1 .0 .1) (good .1 .0 .1 .0 .1) in
     let later = gone-later (q .numbers) (counted .lines-in .result) (l .loop .i) (omega (arith, r .numbers, counted .lines-in .ensures)) (omega arith) (start .args .gone) (c .if1 .left) in
@@ -63,9 +63,9 @@ loop-again c =
 returns-2 : tie.Need-returns-2 Inv-loop μ-loop
 returns-2 c =
     let l = c .before in
-    let counted = l .before .before in
+    let counted = l .before in
     let start = counted .before in
-    let q = start .args .question in
+    let q = start .args .t1 in
     let good = start .good .0 .1 .1 .1 .1 in
     let r = roomy q (good .0 .1 .0 .1) (good .1 .0 .1 .0 .1) in
     ap not (sym (gone-nowhere (start .args .gone) (q .numbers) (counted .lines-in .result) (l .loop .i) (omega arith)) ∙ l .loop .inv .1)
@@ -80,7 +80,7 @@ lists-spec =
     lines-in-requires
     loop-holds
     mul-if1
-    array-read-if1
+    element-copy-out-if1
     returns
     add-i
     loop-less

@@ -10,9 +10,6 @@ use Rattle.question.proofs.Question.begun.Tie as tie
 first-cell-requires : tie.Need-first-cell-requires
 first-cell-requires c κs = search needs
 
-cast-without-lines : tie.Need-cast-without-lines
-cast-without-lines c = search needs
-
 without-lines-requires : tie.Need-without-lines-requires
 without-lines-requires c κs = search needs
 
@@ -22,4 +19,4 @@ returns c =
     c .without-lines .ensures ∙ ap (asked (q .k) (q .rule) []) (c .before .first-cell .ensures)
 
 pub begun-spec : {M : Type 1} → statement M
-begun-spec = tie.close (tie.spec first-cell-requires cast-without-lines without-lines-requires returns)
+begun-spec = tie.close (tie.spec first-cell-requires without-lines-requires returns)

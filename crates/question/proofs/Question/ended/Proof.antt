@@ -1,6 +1,6 @@
 -- A full list's search took the cells that reach its last score, any other took all.
 -- Assumes nothing.
-use mathlib.Core.Path.{ap, _∙_}
+use mathlib.Core.Path.{ap, ap₂, _∙_}
 use borrow.Author.Needs.{needs}
 use mir.Syntax.{w32}
 use Rattle.ranking.specs.Cells.{reachOf}
@@ -32,17 +32,20 @@ returns c =
     ∙ ended-full q (counted .bar .result) bar (earlier .before .if1 .taken) (c .before .reach .result)
     (c .before .reach .ensures ∙ ap (reachOf (q .rule)) (kept w32 (counted .bar .result .score) (earlier .struct-told .given .1 .1 .0 .1)))
 
+most-steps-requires : tie.Need-most-steps-requires
+most-steps-requires c κs = search needs
+
 with-next-requires-2 : tie.Need-with-next-requires-2
 with-next-requires-2 c κs = search needs
 
 returns-2 : tie.Need-returns-2
 returns-2 c =
-    let counted = c .before .before in
+    let counted = c .before .before .before in
     let q = counted .before .before .args .self in
     let bar = counted .bar .ensures ∙ ap (λ l. barOf l (q .k)) (counted .before .list .ensures) in
-    ap (λ b. record { steps = 256; question = b }) (c .with-next2 .ensures)
-    ∙ ended-open q (counted .bar .result) bar (c .before .if1 .left)
+    ap₂ (λ n b. record { steps = n; question = b }) (c .before .most-steps .ensures) (c .with-next2 .ensures)
+    ∙ ended-open q (counted .bar .result) bar (c .before .before .if1 .left)
 
 pub ended-spec : {M : Type 1} → statement M
 ended-spec =
-    tie.close (tie.spec list-requires bar-requires reach-requires with-next-requires returns with-next-requires-2 returns-2)
+    tie.close (tie.spec list-requires bar-requires reach-requires with-next-requires returns most-steps-requires with-next-requires-2 returns-2)

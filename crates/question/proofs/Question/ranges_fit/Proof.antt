@@ -27,6 +27,9 @@ returns-3 c =
     let second = c .before .before in
     sym (third-fails _ _ (le-leb 1 _ (second .before .if1 .left)) (le-leb _ 16 (second .if2 .left)) (sym (c .before .fit .ensures) ∙ not-true _ (c .if3 .taken)))
 
+next-fits-requires : tie.Need-next-fits-requires
+next-fits-requires c κs = search needs
+
 returns-4 : tie.Need-returns-4
 unfolding rangesFit
 returns-4 c =
@@ -34,18 +37,19 @@ returns-4 c =
     let second = third .before .before in
     sym
     (fourth-fails _ (le-leb 1 _ (second .before .if1 .left)) (le-leb _ 16 (second .if2 .left))
-    (sym (third .before .fit .ensures) ∙ not-false _ (third .if3 .left)) (lt-leb _ 256 (c .if4 .taken)))
+    (sym (third .before .fit .ensures) ∙ not-false _ (third .if3 .left)) (sym (c .before .next-fits .ensures) ∙ not-true _ (c .if4 .taken)))
 
 returns-5 : tie.Need-returns-5
 unfolding rangesFit
 returns-5 c =
-    let third = c .before .before .before in
+    let fourth = c .before in
+    let third = fourth .before .before in
     let second = third .before .before in
     let q = second .before .before .args .self in
     let held = second .before .before .args .held in
     sym
     (fifth-decides _ (le-leb 1 _ (second .before .if1 .left)) (le-leb _ 16 (second .if2 .left))
-    (sym (third .before .fit .ensures) ∙ not-false _ (third .if3 .left)) (le-leb _ 256 (c .before .if4 .left))
+    (sym (third .before .fit .ensures) ∙ not-false _ (third .if3 .left)) (sym (fourth .before .next-fits .ensures) ∙ not-false _ (fourth .if4 .left))
     ∙ lt-leb (q .len) (min (q .k) held) (omega (arith, c .if5 .taken)))
 
 cast-result : tie.Need-cast-result
@@ -54,15 +58,16 @@ cast-result c = search needs
 returns-6 : tie.Need-returns-6
 unfolding rangesFit
 returns-6 c =
-    let third = c .before .before .before in
+    let fourth = c .before in
+    let third = fourth .before .before in
     let second = third .before .before in
     let q = second .before .before .args .self in
     sym
     (fifth-decides _ (le-leb 1 _ (second .before .if1 .left)) (le-leb _ 16 (second .if2 .left))
-    (sym (third .before .fit .ensures) ∙ not-false _ (third .if3 .left)) (le-leb _ 256 (c .before .if4 .left))
+    (sym (third .before .fit .ensures) ∙ not-false _ (third .if3 .left)) (sym (fourth .before .next-fits .ensures) ∙ not-false _ (fourth .if4 .left))
     ∙ min-test (q .len) (q .k) (second .before .before .args .held) (c .if5 .left))
 
 pub ranges-fit-spec : {M : Type 1} → statement M
 ranges-fit-spec =
     tie.close
-    (tie.spec returns returns-2 fit-requires returns-3 returns-4 returns-5 cast-result returns-6)
+    (tie.spec returns returns-2 fit-requires returns-3 next-fits-requires returns-4 returns-5 cast-result returns-6)

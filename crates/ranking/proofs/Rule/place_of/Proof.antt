@@ -2,20 +2,20 @@
 -- Assumes nothing.
 use mathlib.Core.Path.{_≡_, refl, sym, ap, _∙_, subst}
 use mathlib.Core.Logic.{⊎-elim}
-use mathlib.Core.Bool.{Bool}
+use mathlib.Core.Bool.{Bool, _&&_}
 use mathlib.Core.List.{[]}
 use Prim.Native.Nat.{ℕ, _+_, _-_, _≤_}
 use native.Mathlib.Omega.{arith}
 use borrow.Author.Needs.{needs}
 use lib.ListN.{length}
 use Rattle.laws.specs.Lists.{only}
-use Rattle.ranking.specs.Cells.{before, numbersBelow}
+use Rattle.ranking.specs.Cells.{cellCounts, before, numbersBelow}
 use Rattle.ranking.proofs.Scan.{counted-yes, counted-no}
 use Rattle.ranking.proofs.Rule.place_of.Statement.{statement}
 use Rattle.ranking.proofs.Rule.place_of.Tie as tie
 
 abbrev Inv-loop : tie.InvT-loop
-Inv-loop self cell n₀ d₀ n d = (d ≤ 256) × (n ≤ d) × (n ≡ length (only (λ e. before self e cell) (numbersBelow d [])))
+Inv-loop self cell n₀ d₀ n d = (d ≤ 256) × (n ≤ d) × (n ≡ length (only (λ e. cellCounts self e && before self e cell) (numbersBelow d [])))
 
 abbrev μ-loop : tie.MeasureT-loop
 μ-loop self cell n₀ d₀ n d = 256 - d
@@ -23,11 +23,11 @@ abbrev μ-loop : tie.MeasureT-loop
 loop-holds : tie.Need-loop-holds Inv-loop μ-loop
 loop-holds c = (omega arith, omega arith, refl)
 
-cast-before : tie.Need-cast-before Inv-loop μ-loop
-cast-before c = omega arith
+cast-comes-before : tie.Need-cast-comes-before Inv-loop μ-loop
+cast-comes-before c = omega arith
 
-before-requires : tie.Need-before-requires Inv-loop μ-loop
-before-requires c κs = search needs
+comes-before-requires : tie.Need-comes-before-requires Inv-loop μ-loop
+comes-before-requires c κs = search needs
 
 add-n : tie.Need-add-n Inv-loop μ-loop
 add-n c = omega arith
@@ -42,19 +42,19 @@ loop-again : tie.Need-loop-again Inv-loop μ-loop
 loop-again c =
     let at = c .before .before .before in
     let a = at .before .args in
-    let p : ℕ → Bool = λ e. before (a .self) e (a .cell) in
+    let p : ℕ → Bool = λ e. cellCounts (a .self) e && before (a .self) e (a .cell) in
     ⊎-elim
     (λ w. (
       omega arith,
       omega (arith, w .1),
       w .1
           ∙ ap (λ m. m + 1) (at .loop .inv .2)
-          ∙ sym (counted-yes p (at .loop .d) (sym (c .before .before2 .ensures) ∙ w .0 .taken)),
+          ∙ sym (counted-yes p (at .loop .d) (sym (c .before .comes-before .ensures) ∙ w .0 .taken)),
     ))
     (λ w. (
       omega arith,
       omega (arith, w .1),
-      w .1 ∙ at .loop .inv .2 ∙ sym (counted-no p (at .loop .d) (sym (c .before .before2 .ensures) ∙ w .0 .left)),
+      w .1 ∙ at .loop .inv .2 ∙ sym (counted-no p (at .loop .d) (sym (c .before .comes-before .ensures) ∙ w .0 .left)),
     ))
     (c .if1 .came)
 
@@ -63,7 +63,7 @@ returns c =
     let at = c .before in
     let a = at .before .args in
     let all : at .loop .d ≡ 256 = omega arith in
-    subst (λ d. at .loop .n ≡ length (only (λ e. before (a .self) e (a .cell)) (numbersBelow d []))) all (at .loop .inv .2)
+    subst (λ d. at .loop .n ≡ length (only (λ e. cellCounts (a .self) e && before (a .self) e (a .cell)) (numbersBelow d []))) all (at .loop .inv .2)
 
 pub place-of-spec : {M : Type 1} → statement M
 place-of-spec =
@@ -72,8 +72,8 @@ place-of-spec =
     Inv-loop
     μ-loop
     loop-holds
-    cast-before
-    before-requires
+    cast-comes-before
+    comes-before-requires
     add-n
     add-d
     loop-less

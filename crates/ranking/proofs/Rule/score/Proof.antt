@@ -1,59 +1,32 @@
--- The score is the sum of its two parts, and fits since each value counts by its low 12 bits.
+-- Each branch is a case of the definition.
 -- Assumes nothing.
-use mathlib.Core.Path.{_≡_, ap, ap₂, _∙_}
+use mathlib.Core.Path.{sym, ap, _∙_}
 use borrow.Author.Needs.{needs}
-use lib.IntN.{pos, _+ℤ_, _*ℤ_}
-use mir.Facts.{toZ-ofZ}
-use mir.Syntax.{w16, w32}
-use mir.Val.{SFits, toZ, ofZ}
+use mir.Syntax.{w32}
 use Rattle.laws.proofs.Words.{kept}
-use Rattle.values.specs.declared.Values.{Values}
 use Rattle.values.specs.Range.{low}
-use Rattle.values.proofs.Facts.{low-in}
-use Rattle.ranking.specs.Cells.{score}
-use Rattle.ranking.specs.declared.Rule.{Rule}
-use Rattle.ranking.proofs.Cells.{word-fits}
+use Rattle.ranking.specs.declared.Score.the-variants.{Scored}
+use Rattle.ranking.proofs.Cells.{score-counted, score-out}
 use Rattle.ranking.proofs.Rule.score.Statement.{statement}
 use Rattle.ranking.proofs.Rule.score.Tie as tie
 
-module _ (c : tie.After-weighted2) where
-  rule : Rule
-  rule = c .before .before .before .before .before .args .self
+counts-requires : tie.Need-counts-requires
+counts-requires c κs = search needs
 
-  counted : Values
-  counted = low (c .before .before .before .before .before .args .values)
-
-  loss-weight : SFits w16 (rule .weights .loss)
-  unfolding rule
-  loss-weight = record { sfits = c .before .before .before .struct-told .given .0 .1 }
-
-  shake-weight : SFits w16 (rule .weights .shake)
-  unfolding rule
-  shake-weight = record { sfits = c .before .before .before .struct-told .given .1 .0 .1 }
-
-  sum : toZ w32 (ofZ w32 (c .before .before .weighted .result)) +ℤ toZ w32 (ofZ w32 (c .weighted2 .result)) ≡ score rule counted
-  unfolding rule counted score
-  sum =
-      ap₂ (λ x y. x +ℤ y)
-      (kept w32 (c .before .before .weighted .result) (c .before .before .weighted .ok) ∙ c .before .before .weighted .ensures ∙ ap (λ z. z *ℤ pos (counted .loss)) (toZ-ofZ loss-weight))
-      (kept w32 (c .weighted2 .result) (c .weighted2 .ok) ∙ c .weighted2 .ensures ∙ ap (λ z. z *ℤ pos (counted .shake)) (toZ-ofZ shake-weight))
-
-  fits : SFits w32 (score rule counted)
-  unfolding counted
-  fits = word-fits rule counted loss-weight shake-weight (low-in _)
-
-weighted-requires : tie.Need-weighted-requires
-weighted-requires c κs = search needs
-
-weighted-requires-2 : tie.Need-weighted-requires-2
-weighted-requires-2 c κs = search needs
-
-add-result : tie.Need-add-result
-add-result c = rw (sum c) (fits c)
+sum-requires : tie.Need-sum-requires
+sum-requires c κs = search needs
 
 returns : tie.Need-returns
-unfolding rule counted
-returns c = rw (sum c) (toZ-ofZ (fits c))
+returns c =
+    let one = c .before .before in
+    let a = one .before .args in
+    ap Scored (kept w32 (c .sum .result) (c .sum .ok) ∙ c .sum .ensures)
+    ∙ sym (score-counted (a .self) (low (a .values)) (sym (one .counts .ensures) ∙ c .before .if1 .taken))
+
+returns-2 : tie.Need-returns-2
+returns-2 c =
+    let a = c .before .before .args in
+    sym (score-out (a .self) (low (a .values)) (sym (c .before .counts .ensures) ∙ c .if1 .left))
 
 pub score-spec : {M : Type 1} → statement M
-score-spec = tie.close (tie.spec weighted-requires weighted-requires-2 add-result returns)
+score-spec = tie.close (tie.spec counts-requires sum-requires returns returns-2)

@@ -6,17 +6,17 @@ use native.Mathlib.Omega.{arith}
 use borrow.Author.Needs.{needs}
 use Rattle.ranking.proofs.Scan.{Scanned, scanned-none, scanned-more, scanned-all}
 use Rattle.ranking.proofs.Rule.seek.Statement.{statement}
-use Rattle.ranking.specs.Inner.{leads}
+use Rattle.ranking.specs.Inner.{follows}
 use Rattle.ranking.proofs.Rule.seek.Tie as tie
 
 abbrev Inv-loop : tie.InvT-loop
-Inv-loop self from found₀ d₀ found d = (d ≤ 256) × Scanned self (leads self from) d found
+Inv-loop self from found₀ d₀ found d = (d ≤ 256) × Scanned self (follows self from) d found
 
 abbrev μ-loop : tie.MeasureT-loop
 μ-loop self from found₀ d₀ found d = 256 - d
 
 loop-holds : tie.Need-loop-holds Inv-loop μ-loop
-loop-holds c = (omega arith, scanned-none (c .args .self) (leads (c .args .self) (c .args .from)))
+loop-holds c = (omega arith, scanned-none (c .args .self) (follows (c .args .self) (c .args .from)))
 
 nearer-requires : tie.Need-nearer-requires Inv-loop μ-loop
 nearer-requires c κs = search needs
@@ -33,7 +33,7 @@ loop-again c =
     let a = at .before .args in
     let cell : at .loop .d < 256 = omega arith in (
       omega arith,
-      subst (Scanned (a .self) (leads (a .self) (a .from)) (at .loop .d + 1)) (sym (c .nearer .ensures))
+      subst (Scanned (a .self) (follows (a .self) (a .from)) (at .loop .d + 1)) (sym (c .nearer .ensures))
           (scanned-more (a .self) (a .from) (at .loop .found) (at .loop .d) cell (at .loop .inv .1)),
     )
 
@@ -42,7 +42,7 @@ returns c =
     let at = c .before in
     let a = at .before .args in
     let all : at .loop .d ≡ 256 = omega arith in
-    scanned-all (a .self) (a .from) (at .loop .found) (subst (λ d. Scanned (a .self) (leads (a .self) (a .from)) d (at .loop .found)) all (at .loop .inv .1))
+    scanned-all (a .self) (a .from) (at .loop .found) (at .before .pre) (subst (λ d. Scanned (a .self) (follows (a .self) (a .from)) d (at .loop .found)) all (at .loop .inv .1))
 
 pub seek-spec : {M : Type 1} → statement M
 seek-spec =

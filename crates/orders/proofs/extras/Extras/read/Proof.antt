@@ -6,10 +6,10 @@ use Rattle.orders.proofs.extras.Extras.read.Statement.{statement}
 use Rattle.orders.proofs.extras.Extras.read.Tie as tie
 
 abbrev Inv-loop : tie.InvT-loop
-Inv-loop line from extras₀ i₀ extras i = Unit {0}
+Inv-loop form line from extras₀ i₀ extras i = Unit {0}
 
 abbrev μ-loop : tie.MeasureT-loop
-μ-loop line from extras₀ i₀ extras i = 2 - i
+μ-loop form line from extras₀ i₀ extras i = 2 - i
 
 none-requires : tie.Need-none-requires Inv-loop μ-loop
 none-requires c κs = search needs

@@ -15,7 +15,7 @@ lowest-requires c κs = search needs
 
 returns : tie.Need-returns
 returns c =
-    (λ i. record { rule = c .before .before .before .args .question .rule; least = (kept w32 (c .before .least .result) (c .before .least .ok) ∙ c .before .least .ensures) i; low = c .lowest .ensures i })
+    (λ i. record { weights = c .before .before .before .before .args .question .rule .weights; least = (kept w32 (c .before .least .result) (c .before .least .ok) ∙ c .before .least .ensures) i; low = c .lowest .ensures i })
 
 pub of-spec : {M : Type 1} → statement M
 of-spec = tie.close (tie.spec least-requires lowest-requires returns)
