@@ -4,7 +4,7 @@ use mathlib.Core.Path.{_≡_, refl, sym, ap, ap₂, _∙_, subst}
 use mathlib.Core.Bool.{Bool, true, false, _&&_}
 use mathlib.Core.List.{List, []}
 use Prim.Native.Nat.{ℕ, zero, suc, _+_, _*_, _-_, _/_, _%_, _≤_, _<_, min}
-use native.Mathlib.Nat.{add-zero, suc-mul, zero-mul, mul-comm, mul-le-mul}
+use native.Mathlib.Nat.{add-zero, suc-mul, zero-mul, mul-comm, mul-le-mul, mod-eq-of-lt}
 use native.Mathlib.Numerals.{add-one}
 use native.Mathlib.Omega.{arith}
 use borrow.Author.Tests.{le-leb, leb-true, lt-ltb, le-ltb, ltb-true, ltb-false}
@@ -329,6 +329,11 @@ module _ (rule : Rule) (row : ℕ) (met : meets (rule .ranges .shake) row ≡ tr
                 (subst (λ n. ltZ (a *ℤ pos (nearest (rule .ranges .loss .low) (at .first)) +ℤ shakePart rule row) (a *ℤ pos n +ℤ shakePart rule row) ≡ false) (sym (corner-low a (rule .ranges .loss) i e))
                 (falls a _ _ (shakePart rule row) e (nearest-rises (rule .ranges .loss .low) (at .first) i (omega arith)))));
           })
+
+-- what is read for a corner counts for what the corner does: it has 12 bits
+pub part-read : {a z : ℤ} (range : Range) (i : ℕ) {v : ℕ} → i < 16 → z ≡ a → v ≡ corner z range i → z *ℤ pos (v % 4096) ≡ a *ℤ pos (corner a range i)
+part-read {a} range i h e f =
+    ap₂ (λ b u. b *ℤ pos (u % 4096)) e (f ∙ ap (λ b. corner b range i) e) ∙ ap (λ u. a *ℤ pos u) (mod-eq-of-lt (omega (arith, corner-small a range i h)))
 
 -- what the cells of a row are looked at by, from its first column in the order to the end
 pub record Along (row : ℕ) (across : List ℤ) (part : ℤ) (first end : ℕ) (rule : Rule) : Type 0 where

@@ -1,16 +1,11 @@
 -- The corner has 12 bits, and counts by its weight.
 -- Assumes nothing.
-use mathlib.Core.Path.{ap, ap₂, _∙_}
-use Prim.Native.Nat.{_%_}
-use native.Mathlib.Nat.{mod-eq-of-lt}
-use native.Mathlib.Omega.{arith}
+use mathlib.Core.Path.{_∙_}
 use borrow.Author.Needs.{needs}
-use lib.IntN.{pos, _*ℤ_}
 use mir.Syntax.{w16, w32}
 use Rattle.laws.proofs.Words.{kept}
-use Rattle.ranking.specs.Cells.{corner}
 use Rattle.ranking.specs.Inner.{shakePart}
-use Rattle.ranking.proofs.Cells.{corner-small}
+use Rattle.ranking.proofs.Columns.{part-read}
 use Rattle.ranking.proofs.Rule.shake_part.Statement.{statement}
 use Rattle.ranking.proofs.Rule.shake_part.Tie as tie
 
@@ -26,12 +21,10 @@ returns c =
     let earlier = c .before .before .before in
     let start = earlier .before .before .before in
     let rule = start .args .self in
-    let i = start .args .row in
-    let weight = kept w16 (rule .weights .shake) (earlier .struct-told .given .1 .0 .1) in
+    let told = earlier .struct-told .given in
     kept w32 (c .weighted .result) (c .weighted .ok)
     ∙ c .weighted .ensures
-    ∙ ap₂ (λ a v. a *ℤ pos (v % 4096)) weight (c .before .before .corner .ensures ∙ ap (λ a. corner a (rule .ranges .shake) i) weight)
-    ∙ ap (λ v. rule .weights .shake *ℤ pos v) (mod-eq-of-lt (omega (arith, corner-small (rule .weights .shake) (rule .ranges .shake) i (start .pre))))
+    ∙ part-read (rule .ranges .shake) (start .args .row) (start .pre) (kept w16 (rule .weights .shake) (told .1 .0 .1)) (c .before .before .corner .ensures)
 
 pub shake-part-spec : {M : Type 1} → statement M
 shake-part-spec = tie.close (tie.spec corner-requires weighted-requires returns)
