@@ -6,7 +6,7 @@
 
 struct session {
     uint8_t size, count, next;
-    uint8_t bytes[84 + 7];
+    uint8_t bytes[89 + 7];
     uint8_t timed;
     uint32_t last;
 };
@@ -29,7 +29,7 @@ static int announcement(struct session *s, const uint8_t *data)
         code = 5;
     else if (le24(data + 5) != 65300)
         code = 6;
-    else if (size != 17 && (size < 20 || size > 84))
+    else if (size != 17 && (size < 20 || size > 89))
         code = 7;
     if (code) {
         s->size = s->count = s->next = 0;
@@ -48,7 +48,14 @@ static int payload_good(const uint8_t *p, unsigned size)
         return 0;
     if (le16(p + 3) > 4095 || le16(p + 8) > 4095)
         return 0;
-    return size == 17 || (p[17] == 4 && le16(p + 18) == size - 20);
+    /* the heat of a report of the second edition */
+    if (size >= 22 && p[17] == 5) {
+        if (le16(p + 18) != 2 || le16(p + 20) > 4095)
+            return 0;
+        p += 5;
+        size -= 5;
+    }
+    return size == 17 || (size >= 20 && p[17] == 4 && le16(p + 18) == size - 20 && size <= 84);
 }
 
 static int packet(struct session *s, const uint8_t *data)

@@ -2,7 +2,7 @@
 //! is one pass over the rows for the best k, and then a count of the cells whose best possible score is at least the last entry's. Marks
 //! need no keeping: a report in a cell that isn't marked scores below the last entry of a full list.
 
-use crate::log::{Board, Out};
+use crate::log::{Board, Out, Report};
 
 #[derive(Clone, Copy)]
 struct Question {
@@ -20,10 +20,12 @@ pub struct Fast {
     row: usize,
     losses: [u16; 1024],
     shakes: [u16; 1024],
+    heats: [u16; 1024],
     listing: [u32; 1024],
     used: u32,
     a: [i32; 32],
     b: [i32; 32],
+    c: [i32; 32],
     /// The score that a report has to have to be listed; any will do where there is room.
     least: [i32; 32],
     questions: [Question; 32],
@@ -60,8 +62,21 @@ impl Question {
     }
 }
 
+/// A heat's part of the score, and none where there is no heat and it is asked for.
+#[inline]
+fn heat_part(c: i32, heat: u16) -> Option<i32> {
+    if c == 0 {
+        return Some(0);
+    }
+    if heat == 0 {
+        return None;
+    }
+    Some(c * (i32::from(heat) - 1))
+}
+
 /// How many cells have a best possible score of at least `least`.
-fn cells(a: i32, b: i32, least: i32) -> u32 {
+fn cells(a: i32, b: i32, c: i32, least: i32) -> u32 {
+    let least = least - if c > 0 { 4095 * c } else { 0 };
     let corner = |w: i32, i: i32| w * (256 * i + if w > 0 { 255 } else { 0 });
     let mut columns = [0; 16];
     for (i, c) in columns.iter_mut().enumerate() {
@@ -83,10 +98,12 @@ impl Fast {
             row: 0,
             losses: [0; 1024],
             shakes: [0; 1024],
+            heats: [0; 1024],
             listing: [0; 1024],
             used: 0,
             a: [0; 32],
             b: [0; 32],
+            c: [0; 32],
             least: [0; 32],
             questions: [EMPTY; 32],
         }
@@ -116,7 +133,7 @@ impl Fast {
     /// Searches a question over the rows, oldest first, and answers the steps.
     fn search(&mut self, slot: usize) -> u32 {
         self.unlist(slot);
-        let (a, b) = (self.a[slot], self.b[slot]);
+        let (a, b, c) = (self.a[slot], self.b[slot], self.c[slot]);
         let q = &mut self.questions[slot];
         q.len = 0;
         let held = (self.entered as usize).min(self.n);
@@ -125,7 +142,11 @@ impl Fast {
         let older = if held == self.n { self.row..self.n } else { 0..0 };
         for row in older.chain(0..self.row) {
             number += 1;
-            let score = a * i32::from(self.losses[row]) + b * i32::from(self.shakes[row]);
+            let part = match heat_part(c, self.heats[row]) {
+                Some(part) => part,
+                None => continue,
+            };
+            let score = a * i32::from(self.losses[row]) + b * i32::from(self.shakes[row]) + part;
             if score >= least {
                 q.put(number, score);
                 least = q.least();
@@ -140,7 +161,7 @@ impl Fast {
         if least == i32::MIN {
             256
         } else {
-            cells(a, b, least)
+            cells(a, b, c, least)
         }
     }
 }
@@ -158,10 +179,11 @@ impl Board for Fast {
         self.used >> slot & 1 == 1
     }
 
-    fn set(&mut self, item: u64, slot: usize, k: usize, a: i32, b: i32, out: &mut Out) {
+    fn set(&mut self, item: u64, slot: usize, k: usize, weights: [i32; 3], out: &mut Out) {
         self.used |= 1 << slot;
-        self.a[slot] = a;
-        self.b[slot] = b;
+        self.a[slot] = weights[0];
+        self.b[slot] = weights[1];
+        self.c[slot] = weights[2];
         self.questions[slot] = Question { k, ..EMPTY };
         let steps = self.search(slot);
         out.searched(item, slot, steps);
@@ -177,7 +199,8 @@ impl Board for Fast {
         out.list(slot, &q.numbers[..q.len], &q.scores[..q.len]);
     }
 
-    fn enter(&mut self, item: u64, loss: u16, shake: u16, out: &mut Out) {
+    fn enter(&mut self, item: u64, report: Report, out: &mut Out) {
+        let Report { loss, shake, heat } = report;
         // the row of the report that leaves, where one does; its questions are known before it is overwritten
         let row = if self.row == self.n { 0 } else { self.row };
         let full = self.entered as usize >= self.n;
@@ -187,13 +210,18 @@ impl Board for Fast {
         self.row = row + 1;
         self.losses[row] = loss;
         self.shakes[row] = shake;
+        self.heats[row] = heat;
         self.listing[row] = 0;
         let number = self.entered;
         let mut left = self.used;
         while left != 0 {
             let slot = left.trailing_zeros() as usize;
             left &= left - 1;
-            let score = self.a[slot] * i32::from(loss) + self.b[slot] * i32::from(shake);
+            let part = match heat_part(self.c[slot], heat) {
+                Some(part) => part,
+                None => continue,
+            };
+            let score = self.a[slot] * i32::from(loss) + self.b[slot] * i32::from(shake) + part;
             if score < self.least[slot] {
                 continue;
             }

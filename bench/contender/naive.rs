@@ -1,17 +1,22 @@
 //! The board as a user would write it: after each report the whole window is sorted for each question.
 
-use crate::log::{Board, Out};
+use crate::log::{Board, Out, Report};
 
 struct Question {
     k: usize,
-    a: i32,
-    b: i32,
+    weights: [i32; 3],
     list: Vec<(i32, u32)>,
 }
 
 impl Question {
-    fn sort(&mut self, held: &[(u32, i32, i32)]) {
-        let mut all: Vec<(i32, u32)> = held.iter().map(|r| (self.a * r.1 + self.b * r.2, r.0)).collect();
+    fn sort(&mut self, held: &[(u32, Report)]) {
+        let [a, b, c] = self.weights;
+        let mut all: Vec<(i32, u32)> = Vec::with_capacity(held.len());
+        for (n, r) in held {
+            if c == 0 || r.heat > 0 {
+                all.push((a * i32::from(r.loss) + b * i32::from(r.shake) + c * (i32::from(r.heat) - 1), *n));
+            }
+        }
         all.sort_unstable_by(|x, y| y.cmp(x));
         all.truncate(self.k);
         self.list = all;
@@ -24,14 +29,15 @@ impl Question {
         }
         let last = self.list[self.k - 1].0;
         let corner = |w: i32, i: i32| w * (256 * i + if w > 0 { 255 } else { 0 });
-        (0..256).filter(|cell| corner(self.a, cell % 16) + corner(self.b, cell / 16) >= last).count() as u32
+        let [a, b, c] = self.weights;
+        (0..256).filter(|cell| corner(a, cell % 16) + corner(b, cell / 16) + 4095 * c.max(0) >= last).count() as u32
     }
 }
 
 pub struct Naive {
     n: usize,
     entered: u32,
-    held: Vec<(u32, i32, i32)>,
+    held: Vec<(u32, Report)>,
     slots: Vec<Option<Question>>,
 }
 
@@ -54,8 +60,8 @@ impl Board for Naive {
         self.slots[slot].is_some()
     }
 
-    fn set(&mut self, item: u64, slot: usize, k: usize, a: i32, b: i32, out: &mut Out) {
-        let mut q = Question { k, a, b, list: Vec::new() };
+    fn set(&mut self, item: u64, slot: usize, k: usize, weights: [i32; 3], out: &mut Out) {
+        let mut q = Question { k, weights, list: Vec::new() };
         q.sort(&self.held);
         out.searched(item, slot, q.steps());
         self.slots[slot] = Some(q);
@@ -73,9 +79,9 @@ impl Board for Naive {
         }
     }
 
-    fn enter(&mut self, item: u64, loss: u16, shake: u16, out: &mut Out) {
+    fn enter(&mut self, item: u64, report: Report, out: &mut Out) {
         self.entered += 1;
-        self.held.push((self.entered, i32::from(loss), i32::from(shake)));
+        self.held.push((self.entered, report));
         for q in self.slots.iter_mut().flatten() {
             q.sort(&self.held);
         }

@@ -1,6 +1,9 @@
 //! Measures `cart` beside other programs that print the same. See bench/run.
 
 #[allow(dead_code)]
+#[path = "../../tests/compare/src/heating.rs"]
+mod heating;
+#[allow(dead_code)]
 #[path = "../../tests/compare/src/logs.rs"]
 mod logs;
 #[allow(dead_code)]

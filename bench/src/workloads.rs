@@ -54,7 +54,7 @@ fn frames(rng: &mut Rng, senders: usize, count: usize) -> Vec<Item> {
         if queues[i].is_empty() {
             let note = vec![b'x'; rng.below(65)];
             let note = if rng.chance(20) { Some(&note[..]) } else { None };
-            let p = payload(rng.below(4096) as u32, rng.below(4096) as u32, rng.next() as u32, note);
+            let p = payload(rng.below(4096) as u32, rng.below(4096) as u32, rng.next() as u32, None, note);
             queues[i] = carry(i as u8, &p);
             if rng.chance(1) {
                 let lost = rng.below(queues[i].len());

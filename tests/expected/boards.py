@@ -11,14 +11,14 @@ def fresh(n):
     return refusal, dict(empty, slots=[EMPTY] * SLOTS)
 
 
-def call_set(board, slot, k, a, b, loss, shake):
+def call_set(board, slot, k, weights, loss, shake):
     meant = meaning(board)
     refusal = (24 if meant is None else 13 if slot > 31 else 14 if not 1 <= k <= 16
-               else 15 if not (is_weight(a) and is_weight(b)) else 30 if not (is_range(loss) and is_range(shake))
+               else 15 if not all(map(is_weight, weights)) else 30 if not (is_range(loss) and is_range(shake))
                else 16 if meant[1][slot] else 0)
     if refusal:
         return refusal, 0, board
-    rule = a, b, loss, shake
+    rule = *weights, loss, shake
     entries, taken = search(k, rule, meant[0])
     return 0, taken, with_slot(board, slot, stored_question(k, rule, entries, taken))
 
@@ -43,16 +43,17 @@ def added(k, rule, entries, taken, number, report):
     own = score(rule, report)
     if own is None or cell_of(report) not in visiting(rule)[:taken] or len(entries) == k and own < entries[-1][1]:
         return entries
-    return ranked(entries + [(number, own)])[:k]
+    return ranked(entries + [(number, own, report[2])])[:k]
 
 
-def call_enter(board, loss, shake):
+def call_enter(board, loss, shake, heat):
     meant = meaning(board)
-    refusal = (24 if meant is None else 12 if loss > LARGEST or shake > LARGEST else 11 if board["entered"] == 1000000 else 0)
+    over = max(loss, shake, heat or 0) > LARGEST
+    refusal = 24 if meant is None else 12 if over else 11 if board["entered"] == 1000000 else 0
     if refusal:
         return refusal, 0, {}, board
     reports, slots = meant
-    number, report = board["entered"] + 1, (loss, shake)
+    number, report = board["entered"] + 1, (loss, shake, heat)
     reports[number] = report
     lists = [q and added(*q, number, report) for q in slots]
     gone = min(reports) if len(reports) > board["size"] else None
@@ -62,7 +63,7 @@ def call_enter(board, loss, shake):
         if not q:
             continue
         entries, taken = lists[slot], q[3]
-        if gone in [m for m, _ in entries]:
+        if gone in [m for m, _, _ in entries]:
             entries, taken = search(*q[:2], reports)
             searched[slot] = taken
         after = with_slot(after, slot, stored_question(*q[:2], entries, taken))

@@ -1,10 +1,11 @@
 """The rules (docs/RULES.md) on frames and the bench sender, for the scripts beside this one; nothing here comes from the crates.
 
-A session is its size, count and next packet, and its 84 bytes. A sender's last kept time is whether there is one, and which.
+A session is its size, count and next packet, and its 89 bytes. A sender's last kept time is whether there is one, and which.
 """
 from payload import read_payload, write_payload
 
-FRESH = (0, 0, 0, bytes([255] * 84))
+BYTES = 89
+FRESH = (0, 0, 0, bytes([255] * BYTES))
 NO_TIME = (False, 0)
 LONGEST = 750
 
@@ -14,7 +15,7 @@ def up(size):
 
 
 def is_payload_size(size):
-    return size == 17 or 20 <= size <= 84
+    return size == 17 or 20 <= size <= BYTES
 
 
 def frame_fault(ident, data):
@@ -57,7 +58,7 @@ def take(session, ident, data):
             return refuse(6, closed)
         if not is_payload_size(total):
             return refuse(7, closed)
-        return "kept", (total, data[3], 1, bytes([255] * 84))
+        return "kept", (total, data[3], 1, bytes([255] * BYTES))
     if size == 0:
         return refuse(8, session)
     if data[0] != nxt:
@@ -88,10 +89,11 @@ def take_at(session, last, time, ident, data):
 
 
 def send(room, sender, report, note):
-    """The refusal's number, or 0, and the frames: identifiers with their data."""
+    """The refusal's number, or 0, and the frames: identifiers with their data. A report is its loss, shake, own number and heat or None."""
+    loss, shake, _, heat = report
     if sender > 253:
         return 3, []
-    if report[0] > 4095 or report[1] > 4095:
+    if loss > 4095 or shake > 4095 or heat is not None and heat > 4095:
         return 12, []
     if note is not None and len(note) > 64:
         return 19, []

@@ -3,29 +3,32 @@
 A window and a question are kept as they are stored; a call reads what that means, works on the meaning and stores it again. Stored
 are, for the window, N, the last number, how many are held, and 1,024 rows of which report m has the row (m - 1) mod N; for a question
 k, the weights, the two ranges, 16 lines, how many of them are used, and the first cell that is not marked, 256 for none. What is
-unused is 0. A question's rule is its weights and its ranges: (a, b, loss, shake), a range being its two ends.
+unused is 0. A question's rule is its weights and its ranges: (a, b, c, loss, shake), a range being its two ends. A report is its loss,
+its shake and its heat, None where it has none; so has a row, behind its number; and a line is a number, a score and a heat or None.
 """
 from functools import lru_cache
 
 LINES, ROWS, SLOTS, CELLS = 16, 1024, 32, 256
 LARGEST = 4095
 WHOLE = (0, LARGEST)
-EMPTY = dict(k=0, a=0, b=0, loss=(0, 0), shake=(0, 0), len=0, next=0, lines=[(0, 0)] * LINES)
+NO_LINE, NO_ROW = (0, 0, None), (0, 0, 0, None)
+EMPTY = dict(k=0, a=0, b=0, c=0, loss=(0, 0), shake=(0, 0), len=0, next=0, lines=[NO_LINE] * LINES)
 
 
 # ---- the rules
 
 def score(rule, report):
     """The report's score, None where it does not count."""
-    a, b, *ranges = rule
-    counts = all(low <= value <= high for (low, high), value in zip(ranges, report))
-    return a * report[0] + b * report[1] if counts else None
+    a, b, c, *ranges = rule
+    loss, shake, heat = report
+    counts = all(low <= value <= high for (low, high), value in zip(ranges, report)) and (c == 0 or heat is not None)
+    return a * loss + b * shake + (c * heat if c else 0) if counts else None
 
 
 def entries_of(rule, reports):
-    """What a list can name of them: (number, score)."""
+    """What a list can name of them: (number, score, heat or None)."""
     scores = {m: score(rule, report) for m, report in reports.items()}
-    return [(m, s) for m, s in scores.items() if s is not None]
+    return [(m, s, reports[m][2]) for m, s in scores.items() if s is not None]
 
 
 def values_in(ends, index):
@@ -36,9 +39,9 @@ def values_in(ends, index):
 @lru_cache(None)
 def best_possible(rule, cell):
     """A cell's best possible score, None where it holds no value inside both ranges."""
-    a, b, loss, shake = rule
+    a, b, c, loss, shake = rule
     row, column = divmod(cell, 16)
-    sides = [(a, values_in(loss, column)), (b, values_in(shake, row))]
+    sides = [(a, values_in(loss, column)), (b, values_in(shake, row)), (c, range(LARGEST + 1))]
     if not all(values for _, values in sides):
         return None
     return sum(weight * values[-1 if weight > 0 else 0] for weight, values in sides)
@@ -55,7 +58,7 @@ def cell_of(report):
 
 
 def ranked(entries):
-    """Entries (number, score), the greatest score first, then the greatest number."""
+    """Entries, the greatest score first, then the greatest number."""
     return sorted(set(entries), key=lambda e: (-e[1], -e[0]))
 
 
@@ -68,8 +71,8 @@ def ended(k, rule, entries, taken):
 def search(k, rule, reports):
     """The list, and how many cells were taken."""
     cells, entries, taken = {}, [], 0
-    for m, s in entries_of(rule, reports):
-        cells.setdefault(cell_of(reports[m]), []).append((m, s))
+    for entry in entries_of(rule, reports):
+        cells.setdefault(cell_of(reports[entry[0]]), []).append(entry)
     while not ended(k, rule, entries, taken):
         entries = ranked(entries + cells.get(visiting(rule)[taken], []))[:k]
         taken += 1
@@ -79,7 +82,7 @@ def search(k, rule, reports):
 # ---- what is stored, and what it means
 
 def rule_of(q):
-    return q["a"], q["b"], q["loss"], q["shake"]
+    return q["a"], q["b"], q["c"], q["loss"], q["shake"]
 
 
 def marked(q):
@@ -89,9 +92,9 @@ def marked(q):
 
 
 def stored_question(k, rule, entries, taken):
-    a, b, loss, shake = rule
-    return dict(k=k, a=a, b=b, loss=loss, shake=shake, len=len(entries), next=(visiting(rule) + [CELLS])[taken],
-                lines=entries + [(0, 0)] * (LINES - len(entries)))
+    a, b, c, loss, shake = rule
+    return dict(k=k, a=a, b=b, c=c, loss=loss, shake=shake, len=len(entries), next=(visiting(rule) + [CELLS])[taken],
+                lines=entries + [NO_LINE] * (LINES - len(entries)))
 
 
 def is_weight(w):
@@ -105,15 +108,15 @@ def is_range(ends):
 def standing(q, reports):
     """(k, rule, list, how many cells are marked), None where it is unfit for a step."""
     k, rule = q["k"], rule_of(q)
-    a, b, loss, shake = rule
-    if not (1 <= k <= 16 and is_weight(a) and is_weight(b) and is_range(loss) and is_range(shake)):
+    *weights, loss, shake = rule
+    if not (1 <= k <= 16 and all(map(is_weight, weights)) and is_range(loss) and is_range(shake)):
         return None
     if q["next"] != CELLS and q["next"] not in visiting(rule):
         return None
     entries, rest = q["lines"][:q["len"]], q["lines"][q["len"]:]
-    if q["len"] > min(k, len(reports)) or any(line != (0, 0) for line in rest):
+    if q["len"] > min(k, len(reports)) or any(line != NO_LINE for line in rest):
         return None
-    if any(m not in reports or s != score(rule, reports[m]) for m, s in entries) or entries != ranked(entries):
+    if any(m not in reports or (s, heat) != (score(rule, reports[m]), reports[m][2]) for m, s, heat in entries) or entries != ranked(entries):
         return None
     return k, rule, entries, len(marked(q))
 
@@ -130,8 +133,8 @@ def window(w):
     if not (1 <= n <= 1024 and last <= 1000000 and held <= min(n, last)):
         return None
     rows = {(m - 1) % n: m for m in range(last - held + 1, last + 1)}
-    for i, (m, loss, shake) in enumerate(w["rows"]):
-        if i in rows and (m != rows[i] or loss > LARGEST or shake > LARGEST) or i not in rows and (m, loss, shake) != (0, 0, 0):
+    for i, (m, loss, shake, heat) in enumerate(w["rows"]):
+        if i in rows and (m != rows[i] or loss > LARGEST or shake > LARGEST) or i not in rows and (m, loss, shake, heat) != NO_ROW:
             return None
     return {m: w["rows"][i][1:] for i, m in sorted(rows.items(), key=lambda p: p[1])}
 
@@ -159,16 +162,23 @@ def with_slot(board, slot, q):
 
 def fresh_window(n):
     bad = not 1 <= n <= 1024
-    return (18 if bad else 0), dict(size=0 if bad else n, entered=0, held=0, rows=[(0, 0, 0)] * ROWS)
+    return (18 if bad else 0), dict(size=0 if bad else n, entered=0, held=0, rows=[NO_ROW] * ROWS)
 
 
 def with_counts(w, size, entered, held):
     return dict(w, size=size, entered=entered, held=held)
 
 
-def with_row(w, at, *values):
-    return dict(w, rows=w["rows"][:at] + [values] + w["rows"][at + 1:])
+def kept(heat, before):
+    """A heat that is said, or else the one before, or none."""
+    return before[-1] if heat is None else heat
 
 
-def with_line(q, at, number, own):
-    return dict(q, lines=q["lines"][:at] + [(number, own)] + q["lines"][at + 1:])
+def with_row(w, at, number, loss, shake, heat):
+    rows = w["rows"]
+    return dict(w, rows=rows[:at] + [(number, loss, shake, kept(heat, rows[at]))] + rows[at + 1:])
+
+
+def with_line(q, at, number, own, heat):
+    lines = q["lines"]
+    return dict(q, lines=lines[:at] + [(number, own, kept(heat, lines[at]))] + lines[at + 1:])

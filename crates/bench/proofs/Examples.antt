@@ -5,7 +5,7 @@ use mathlib.Core.Option.{none}
 use mathlib.Core.List.{[], _∷_}
 use Rattle.wire.specs.Bytes.{bytes, head, field}
 use Rattle.report.specs.Payload.{payload}
-use Rattle.joining.proofs.Examples.{packs, sized, first, report}
+use Rattle.joining.proofs.Examples.{packs, sized, first, report, heated}
 use Rattle.bench.specs.Bench.{frames, announcement, packetData, packetsFrom}
 
 pub record Examples : Type 0 where
@@ -17,7 +17,15 @@ pub record Examples : Type 0 where
       ∷ packs (0x02 ∷ 0x00 ∷ 0xC8 ∷ 0x00 ∷ 0x03 ∷ 0x04 ∷ 0x00 ∷ 0x07 ∷ [])
       ∷ packs (0x03 ∷ 0x00 ∷ 0x00 ∷ 0x00 ∷ 0xFF ∷ 0xFF ∷ 0xFF ∷ 0xFF ∷ [])
       ∷ []
+  -- The same with a heat of 300: an announcement of 22 bytes, and four packets.
+  pub p1-heated : frames 5 (payload (heated 100 200 300 7) none)
+      ≡ sized 0x16 0x00 0x04
+      ∷ first
+      ∷ packs (0x02 ∷ 0x00 ∷ 0xC8 ∷ 0x00 ∷ 0x03 ∷ 0x04 ∷ 0x00 ∷ 0x07 ∷ [])
+      ∷ packs (0x03 ∷ 0x00 ∷ 0x00 ∷ 0x00 ∷ 0x05 ∷ 0x02 ∷ 0x00 ∷ 0x2C ∷ [])
+      ∷ packs (0x04 ∷ 0x01 ∷ 0xFF ∷ 0xFF ∷ 0xFF ∷ 0xFF ∷ 0xFF ∷ 0xFF ∷ [])
+      ∷ []
 
 pub examples : Examples
 unfolding frames announcement packetData packetsFrom payload field head bytes
-examples = record { p1 = refl }
+examples = record { p1 = refl; p1-heated = refl }

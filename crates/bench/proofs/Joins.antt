@@ -22,9 +22,9 @@ use Rattle.joining.specs.Run.{soloStep, soloSession, soloAnswers}
 use Rattle.joining.proofs.Fitness.{carried-range}
 use Rattle.bench.proofs.Sending.{length-data, length-announcement}
 
--- Bytes at the front of a session's 84, with 255 behind them.
-abbrev pub padded : List ℕ → List ℕ
-padded l = l ++ replicate (84 - length l) 255
+-- Bytes at the front of a session's, with 255 behind them.
+abbrev pub padded : ℕ → List ℕ → List ℕ
+padded largest l = l ++ replicate (largest - length l) 255
 
 -- Of a value with something behind it, cut to n, the value's own part is the value cut to n.
 take-own : (v w : List ℕ) (n : ℕ) → take (length v) (take n (v ++ w)) ≡ take n v
@@ -35,10 +35,10 @@ take-own (a ∷ v) w (suc n) = ap (λ (l : List ℕ). a ∷ l) (take-own v w n)
 drop-replicate : (n k x : ℕ) → drop n (replicate (n + k) x) ≡ replicate k x
 drop-replicate n k x = rw (← replicate-append-replicate n k x) (drop-at (replicate n x) (replicate k x) n (length-replicate n x))
 
-padded-more : (a v : List ℕ) → length a + length v ≤ 84 → sets (padded a) (length a) v ≡ padded (a ++ v)
-padded-more a v h =
-    let k = 84 - length (a ++ v) in
-    let rest : 84 - length a ≡ length v + k = simp length-append (omega arith) in
+padded-more : (n : ℕ) (a v : List ℕ) → length a + length v ≤ n → sets (padded n a) (length a) v ≡ padded n (a ++ v)
+padded-more n a v h =
+    let k = n - length (a ++ v) in
+    let rest : n - length a ≡ length v + k = simp length-append (omega arith) in
     let whole : length a + length v ≤ length (a ++ replicate (length v + k) 255) = simp (length-append, length-replicate) (omega arith) in
     rw rest
     (sets-eq v (a ++ replicate (length v + k) 255) (length a) whole
@@ -46,7 +46,7 @@ padded-more a v h =
 
 -- A frame of the sender's is refused neither for its form nor for its sender.
 module _ (sender : ℕ) (known : sender ≤ 253) (format : ℕ) (d : List ℕ) (ours : (eqb format 236 || eqb format 235) ≡ true) (low : format ≤ 255) (eight : length d ≡ 8) where
-  in-format : formatOf (identifier format sender) ≡ format
+  pub in-format : formatOf (identifier format sender) ≡ format
   in-format = omega arith
 
   not-foreign : foreign (identifier format sender) ≡ false
@@ -56,7 +56,7 @@ module _ (sender : ℕ) (known : sender ≤ 253) (format : ℕ) (d : List ℕ) (
       let all : destinationOf (identifier format sender) ≡ 255 = omega arith in
       rw (zeros, in-format, all, ours)
 
-  taken : frameRefusal (identifier format sender) d ≡ 0
+  pub taken : frameRefusal (identifier format sender) d ≡ 0
   unfolding frameRefusal malformed
   taken =
       let from : senderOf (identifier format sender) ≡ sender = omega arith in
@@ -74,50 +74,53 @@ announce-opens s n h =
     let said : n % 256 + 256 * (n / 256 % 256 + 256 * 0) ≡ n = omega arith in
     rw (said, le-leb 9 n (omega arith), le-leb n 1785 (omega arith), eq-eqb (packets n) (packets n) refl, h)
 
+-- A session of so many bytes after the announcement and j packets of a payload.
+unfoldable pub midwayIn : ℕ → List ℕ → ℕ → Session
+midwayIn largest p j = record { bytes = padded largest (take (7 * j) p); size = length p; count = packets (length p); next = j + 1 }
+
+pub midway-stores : (largest : ℕ) (p : List ℕ) (j : ℕ) → length p ≤ largest → j < packets (length p)
+    → stored (midwayIn largest p j) (packetData p (j + 1)) ≡ padded largest (take (7 * (j + 1)) p)
+unfolding midwayIn packetData
+midway-stores largest p j within h =
+    let due : j + 1 - 1 ≡ j = omega arith in
+    let before : length (take (7 * j) p) ≡ 7 * j = length-take-le (7 * j) p (omega arith) in
+    let left : length p - 7 * j ≡ length (drop (7 * j) p) = sym (length-drop (7 * j) p) in
+    let past : 7 * (j + 1) ≡ 7 * j + 7 = omega arith in
+    let here = part (7 * j) 7 p in
+    let room : length (take (7 * j) p) + length here ≤ largest = omega (arith, length-take 7 (drop (7 * j) p)) in
+    rw (due, left, take-own (drop (7 * j) p) (replicate 7 255) 7, past, take-add (7 * j) 7 p)
+    (ap (λ (at : ℕ). sets (padded largest (take (7 * j) p)) at here) (sym before) ∙ padded-more largest (take (7 * j) p) here room)
+
 -- A payload of a size that ours can have, on its way.
 module _ (sender : ℕ) (known : sender ≤ 253) (p : List ℕ) (ours : carries (length p) ≡ true) where
-  -- The session after the announcement and j packets.
   midway : ℕ → Session
-  midway j = record { bytes = padded (take (7 * j) p); size = length p; count = packets (length p); next = j + 1 }
+  midway j = midwayIn 89 p j
 
   -- The session after the last packet.
   ended : Session
-  ended = record { bytes = padded p; size = 0; count = 0; next = 0 }
+  ended = record { bytes = padded 89 p; size = 0; count = 0; next = 0 }
 
   midway-fits : (j : ℕ) → j < packets (length p) → fit (midway j) ≡ true
-  unfolding fit isOpen midway
+  unfolding fit isOpen midway midwayIn
   midway-fits j h =
       rw (ours, eq-eqb (packets (length p)) (packets (length p)) refl, lt-ltb 0 (j + 1) (omega arith), le-leb (j + 1) (packets (length p)) (omega arith))
       (or-true (isClosed (midway j)))
 
-  midway-stores : (j : ℕ) → j < packets (length p) → stored (midway j) (packetData p (j + 1)) ≡ padded (take (7 * (j + 1)) p)
-  unfolding midway packetData
-  midway-stores j h =
-      let range = carried-range (length p) ours in
-      let due : j + 1 - 1 ≡ j = omega arith in
-      let before : length (take (7 * j) p) ≡ 7 * j = length-take-le (7 * j) p (omega arith) in
-      let left : length p - 7 * j ≡ length (drop (7 * j) p) = sym (length-drop (7 * j) p) in
-      let past : 7 * (j + 1) ≡ 7 * j + 7 = omega arith in
-      let here = part (7 * j) 7 p in
-      let room : length (take (7 * j) p) + length here ≤ 84 = omega (arith, length-take 7 (drop (7 * j) p)) in
-      rw (due, left, take-own (drop (7 * j) p) (replicate 7 255) 7, past, take-add (7 * j) 7 p)
-      (ap (λ (at : ℕ). sets (padded (take (7 * j) p)) at here) (sym before) ∙ padded-more (take (7 * j) p) here room)
-
   packet-kept : (j : ℕ) → j + 1 < packets (length p) → packet (midway j) (packetData p (j + 1)) ≡ record { answer = Kept; session = midway (j + 1) }
-  unfolding packet midway packetData
+  unfolding packet midway midwayIn packetData
   packet-kept j h =
       let range = carried-range (length p) ours in
-      rw (ne-eqb (length p) 0 (λ e. omega arith), eq-eqb (j + 1) (j + 1) refl, lt-ltb (j + 1) (packets (length p)) h, midway-stores j (omega arith))
+      rw (ne-eqb (length p) 0 (λ e. omega arith), eq-eqb (j + 1) (j + 1) refl, lt-ltb (j + 1) (packets (length p)) h, midway-stores 89 p j (range .1) (omega arith))
 
   packet-last : (j : ℕ) → j + 1 ≡ packets (length p) → packet (midway j) (packetData p (j + 1)) ≡ record { answer = yields (readPayload p); session = ended }
-  unfolding packet midway packetData ended
+  unfolding packet midway midwayIn packetData ended
   packet-last j h =
       let range = carried-range (length p) ours in
       let whole : take (7 * (j + 1)) p ≡ p = take-all (7 * (j + 1)) p (omega arith) in
-      rw (ne-eqb (length p) 0 (λ e. omega arith), eq-eqb (j + 1) (j + 1) refl, le-ltb (j + 1) (packets (length p)) (omega arith), midway-stores j (omega arith), whole, take-append-seam p)
+      rw (ne-eqb (length p) 0 (λ e. omega arith), eq-eqb (j + 1) (j + 1) refl, le-ltb (j + 1) (packets (length p)) (omega arith), midway-stores 89 p j (range .1) (omega arith), whole, take-append-seam p)
 
   announcement-step : (s : Session) → fit s ≡ true → soloStep s (opening sender p) ≡ record { answer = Kept; session = midway 0 }
-  unfolding midway
+  unfolding midway midwayIn
   announcement-step s h =
       reached sender known 236 (announcement (length p)) refl (lit≤ tt) (length-announcement (length p)) s h ∙ announce-opens s (length p) ours
 
@@ -144,7 +147,7 @@ module _ (sender : ℕ) (known : sender ≤ 253) (p : List ℕ) (ours : carries 
   -- The frames of such a payload, taken by any fit session: each is kept, and the last one reads that payload, whole.
   pub joins : (s : Session) → fit s ≡ true
       → (soloAnswers s (frames sender p) ≡ replicate (packets (length p)) Kept ++ (yields (readPayload p) ∷ []))
-      × (soloSession s (frames sender p) ≡ record { bytes = padded p; size = 0; count = 0; next = 0 })
+      × (soloSession s (frames sender p) ≡ record { bytes = padded 89 p; size = 0; count = 0; next = 0 })
   unfolding soloAnswers soloSession frames ended
   joins s h =
       let range = carried-range (length p) ours in

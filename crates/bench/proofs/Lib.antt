@@ -2,5 +2,6 @@
 pub mod Sending
 pub mod Joins
 pub mod RoundTrip
+pub mod Older
 pub mod Examples
 pub mod Outcomes

@@ -4,7 +4,7 @@ use mathlib.Core.Path.{_≡_, refl, sym, _∙_, ap, ap₂}
 use mathlib.Core.Bool.{Bool, true, false, cond, or-true}
 use mathlib.Core.Option.{Option, none, some}
 use mathlib.Core.List.{List, [], _∷_, _++_, append-assoc}
-use Prim.Native.Nat.{ℕ, zero, suc, _+_, _-_, _*_, _/_, _%_, _^_, _≤_, _<_}
+use Prim.Native.Nat.{ℕ, zero, suc, _+_, _-_, _^_, _≤_, _<_}
 use native.Mathlib.Omega.{arith}
 use borrow.Author.Tests.{le-leb, leb-true, ltb-false, eq-eqb}
 use lib.Dec.{leb, ltb, eqb}
@@ -14,50 +14,58 @@ use Rattle.wire.specs.Bytes.{number, bytes, part, head, field}
 use Rattle.wire.proofs.Numbers.{length-bytes, number-bytes}
 use Rattle.report.specs.declared.Report.{Report}
 use Rattle.values.specs.Range.{inRange}
-use Rattle.report.specs.Payload.{payload, noteFits, size, noteIn, fault}
-use Rattle.report.proofs.Places.{size-payload}
+use Rattle.values.specs.declared.Edition.{Edition}
+use Rattle.values.specs.declared.Edition.the-variants.{First, Second}
+use Rattle.report.specs.Payload.{payload, plainSize, noteFits, size, editionIn, noteIn, fault}
+use Rattle.report.proofs.Places.{plain-from, plain-to, size-payload}
 use Rattle.report.proofs.RoundTrip.{Permitted, write-read, same-note}
 use Rattle.joining.specs.declared.Session.{Session}
 use Rattle.joining.specs.declared.Answer.the-variants.{Kept, Complete}
 use Rattle.joining.specs.Frame.{Frame, senderOf}
-use Rattle.joining.specs.Joining.{packets, carries, fit, payloadHeld}
+use Rattle.joining.specs.Joining.{packets, carries, fit, sizeHeld, payloadHeld}
 use Rattle.bench.specs.Bench.{identifier, carrier, opening, packetsFrom, frames, frameBytes, framesIn, roomFor, sendRefusal, sent}
 use Rattle.joining.specs.Run.{sessionOf, sessionsAfterAll, answersToAll, soloSession, soloAnswers, ownFrames, ownAnswers}
 use Rattle.joining.proofs.Mixing.{mixing}
 use Rattle.bench.proofs.Sending.{length-data, length-announcement}
 use Rattle.bench.proofs.Joins.{padded, joins}
 
--- Rule 4.3: a payload has 17 bytes without a note, and 20 to 84 with one.
-payload-carries : (note : Option (List ℕ)) → noteFits note ≡ true → carries (size note) ≡ true
+-- Rules 4.3 and 17.2: a payload has 17 bytes without a note, and 20 to 84 with one; and 5 more with a heat.
+payload-carries : (e : Edition) (note : Option (List ℕ)) → noteFits note ≡ true → carries (size e note) ≡ true
 unfolding carries noteFits
-payload-carries none h = refl
-payload-carries (some note) h =
-    rw (le-leb 20 (20 + length note) (omega arith), le-leb (20 + length note) 84 (omega (arith, leb-true (length note) 64 h))) (or-true (eqb (20 + length note) 17))
-
--- What a finished session holds is the payload: the note's field says how long it is, and without one 255 stands there.
-held : (r : Report) (note : Option (List ℕ)) → noteFits note ≡ true → payloadHeld (padded (payload r note)) ≡ payload r note
-unfolding payloadHeld payload head field bytes number noteFits
-held r none h = refl
-held r (some note) h =
+payload-carries First none h = refl
+payload-carries (Second heat) none h = refl
+payload-carries e (some note) h =
     let short = leb-true (length note) 64 h in
-    let said : length note % 256 + 256 * (length note / 256 % 256 + 256 * 0) ≡ length note = omega arith in
-    rw said (take-at (payload r (some note)) _ (20 + length note) (size-payload r (some note)))
+    let n = plainSize e + 3 + length note in
+    rw (le-leb 20 n (omega (arith, plain-from e)), le-leb n 89 (omega (arith, plain-to e))) (or-true (eqb n 17))
+
+-- What a finished session holds is the payload: behind its numbers the note's field says how long it is, and without one 255 stands there.
+held : (r : Report) (note : Option (List ℕ)) → noteFits note ≡ true → payloadHeld (padded 89 (payload r note)) ≡ payload r note
+unfolding payloadHeld payload head field bytes number noteFits editionIn
+held r note fits =
+    rw (sized (r .values .edition) refl note fits) (take-at (payload r note) _ (length (payload r note)) refl)
+  where
+    sized : (e : Edition) → r .values .edition ≡ e → (note : Option (List ℕ)) → noteFits note ≡ true → sizeHeld (padded 89 (payload r note)) ≡ length (payload r note)
+    sized First e none h = rw e
+    sized (Second heat) e none h = rw e
+    sized First e (some note) h = rw e (omega (arith, leb-true (length note) 64 h))
+    sized (Second heat) e (some note) h = rw e (omega (arith, leb-true (length note) 64 h))
 
 -- The round trip: what the sender writes for a report that may be sent is kept frame by frame by any fit session, and its
 -- last packet yields that report. No frame is refused.
 module _ (sender : ℕ) (known : sender ≤ 253) (r : Report) (note : Option (List ℕ)) (may : Permitted r note) (s : Session) (ready : fit s ≡ true) where
-  run : (soloAnswers s (frames sender (payload r note)) ≡ replicate (packets (size note)) Kept ++ (Complete r ∷ []))
-      × (soloSession s (frames sender (payload r note)) ≡ record { bytes = padded (payload r note); size = 0; count = 0; next = 0 })
+  run : (soloAnswers s (frames sender (payload r note)) ≡ replicate (packets (size (r .values .edition) note)) Kept ++ (Complete r ∷ []))
+      × (soloSession s (frames sender (payload r note)) ≡ record { bytes = padded 89 (payload r note); size = 0; count = 0; next = 0 })
   run =
       let long = size-payload r note in
-      let j = joins sender known (payload r note) (rw long (payload-carries note (may .short))) s ready in
+      let j = joins sender known (payload r note) (rw long (payload-carries (r .values .edition) note (may .short))) s ready in
       (rw (long, write-read r note may) at (j .0), j .1)
 
-  pub same-report : soloAnswers s (frames sender (payload r note)) ≡ replicate (packets (size note)) Kept ++ (Complete r ∷ [])
+  pub same-report : soloAnswers s (frames sender (payload r note)) ≡ replicate (packets (size (r .values .edition) note)) Kept ++ (Complete r ∷ [])
   same-report = run .0
 
   -- The session is closed, its bytes are the payload and 255 behind it, ...
-  pub left-closed : soloSession s (frames sender (payload r note)) ≡ record { bytes = payload r note ++ replicate (84 - size note) 255; size = 0; count = 0; next = 0 }
+  pub left-closed : soloSession s (frames sender (payload r note)) ≡ record { bytes = payload r note ++ replicate (89 - size (r .values .edition) note) 255; size = 0; count = 0; next = 0 }
   left-closed = rw (← size-payload r note) (run .1)
 
   -- ... so the payload that it holds is the one that was sent, ...
@@ -72,7 +80,7 @@ module _ (sender : ℕ) (known : sender ≤ 253) (r : Report) (note : Option (Li
 module _ (sender : ℕ) (known : sender ≤ 253) (r : Report) (note : Option (List ℕ)) (may : Permitted r note)
     (ss : List Session) (all : length ss ≡ 254) (ready : fit (sessionOf sender ss) ≡ true)
     (fs : List Frame) (own : ownFrames sender fs ≡ frames sender (payload r note)) where
-  pub mixed-report : ownAnswers sender fs (answersToAll ss fs) ≡ replicate (packets (size note)) Kept ++ (Complete r ∷ [])
+  pub mixed-report : ownAnswers sender fs (answersToAll ss fs) ≡ replicate (packets (size (r .values .edition) note)) Kept ++ (Complete r ∷ [])
   mixed-report = mixing sender (omega arith) ss fs all .1 ∙ rw own (same-report sender known r note may (sessionOf sender ss) ready)
 
   pub mixed-payload : payloadHeld (sessionOf sender (sessionsAfterAll ss fs) .bytes) ≡ payload r note
@@ -132,7 +140,7 @@ unfolding sendRefusal fault
 sendable room sender r note own = go (ltb 253 sender) (inRange (r .values)) (noteFits note) refl refl refl
   where
     go : (a b c : Bool) → ltb 253 sender ≡ a → inRange (r .values) ≡ b → noteFits note ≡ c
-        → _≡_ {A = ℕ} (cond a 3 (cond (eqb (cond b (cond c 0 19) 12) 0) (cond (leb (roomFor note) (length room)) 0 20) (cond b (cond c 0 19) 12))) 0
+        → _≡_ {A = ℕ} (cond a 3 (cond (eqb (cond b (cond c 0 19) 12) 0) (cond (leb (roomFor (r .values .edition) note) (length room)) 0 20) (cond b (cond c 0 19) 12))) 0
         → (sender ≤ 253) × Permitted r note
     go false true true ha hb hc h = (ltb-false 253 sender ha, record { range = hb; short = hc; own = own })
     go false true false ha hb hc h = absurd (omega arith)
@@ -141,14 +149,14 @@ sendable room sender r note own = go (ltb 253 sender) (inRange (r .values)) (not
 
 -- So what `send` leaves in its room, read as frames and taken by any fit session, yields the same report, whatever room it was given.
 module _ (room : List ℕ) (sender : ℕ) (r : Report) (note : Option (List ℕ)) (own : r .own < 2 ^ 32) (takes : sendRefusal (length room) sender r note ≡ 0) where
-  pub sent-frames : framesIn (1 + packets (size note)) (sent room sender r note) ≡ frames sender (payload r note)
+  pub sent-frames : framesIn (1 + packets (size (r .values .edition) note)) (sent room sender r note) ≡ frames sender (payload r note)
   unfolding sent
   sent-frames =
-      let one : 1 + packets (size note) ≡ suc (packets (length (payload r note))) = rw (size-payload r note) (omega arith) in
+      let one : 1 + packets (size (r .values .edition) note) ≡ suc (packets (length (payload r note))) = rw (size-payload r note) (omega arith) in
       rw (takes, one) (frames-back sender (sendable room sender r note own takes .0) (payload r note) _)
 
   pub sent-yields : (s : Session) → fit s ≡ true
-      → soloAnswers s (framesIn (1 + packets (size note)) (sent room sender r note)) ≡ replicate (packets (size note)) Kept ++ (Complete r ∷ [])
+      → soloAnswers s (framesIn (1 + packets (size (r .values .edition) note)) (sent room sender r note)) ≡ replicate (packets (size (r .values .edition) note)) Kept ++ (Complete r ∷ [])
   sent-yields s ready =
       let may = sendable room sender r note own takes in
       rw sent-frames (same-report sender (may .0) r note (may .1) s ready)

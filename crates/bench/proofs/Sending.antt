@@ -9,7 +9,7 @@ use native.Mathlib.Nat.{add-zero}
 use native.Mathlib.Numerals.{add-one}
 use native.Mathlib.Omega.{arith}
 use borrow.Author.Tests.{le-leb, lt-leb, le-ltb, lt-ltb, ne-eqb, leb-true}
-use lib.Dec.{leb, lit≤}
+use lib.Dec.{leb}
 use lib.ListN.{length, take, drop, replicate, set, length-append, length-drop, length-replicate}
 use lib.Seq.{sets, sets-eq, take-all, take-at, length-take-le}
 use Rattle.wire.specs.Bytes.{bytes, part}
@@ -18,8 +18,8 @@ use Rattle.wire.proofs.Stores.{sets-append, sets-past}
 use Rattle.report.specs.declared.Report.{Report}
 use Rattle.report.specs.declared.Written.the-variants.{Bytes, Refused}
 use Rattle.values.specs.Range.{inRange}
-use Rattle.report.specs.Payload.{payload, size, noteFits, fault, writeRefusal, written}
-use Rattle.report.proofs.Places.{size-payload}
+use Rattle.report.specs.Payload.{payload, plainSize, size, noteFits, fault, writeRefusal, written}
+use Rattle.report.proofs.Places.{plain-to, size-payload}
 use Rattle.joining.specs.Frame.{Frame}
 use Rattle.joining.specs.Joining.{packets}
 use Rattle.bench.specs.Bench.{identifier, announcement, packetData, carrier, packetsFrom, frames, frameBytes, roomFor, sendRefusal, sendAnswer, sent}
@@ -122,24 +122,24 @@ module _ (sender : ℕ) (p : List ℕ) where
       ∙ ap (λ (at : ℕ). sets (sets b 0 front) (0 + at) behind) length-opening))
 
 -- What is not faulty fits the largest payload.
-pub size-bound : (r : Report) (note : Option (List ℕ)) → fault r note ≡ 0 → size note ≤ 84
+pub size-bound : (r : Report) (note : Option (List ℕ)) → fault r note ≡ 0 → size (r .values .edition) note ≤ 89
 unfolding fault noteFits
-size-bound r none h = lit≤ tt
+size-bound r none h = omega (arith, plain-to (r .values .edition))
 size-bound r (some note) h = go (inRange (r .values)) (leb (length note) 64) refl h
   where
-    go : (a b : Bool) → leb (length note) 64 ≡ b → _≡_ {A = ℕ} (cond a (cond b 0 19) 12) 0 → 20 + length note ≤ 84
-    go true true e h = omega (arith, leb-true (length note) 64 e)
+    go : (a b : Bool) → leb (length note) 64 ≡ b → _≡_ {A = ℕ} (cond a (cond b 0 19) 12) 0 → plainSize (r .values .edition) + 3 + length note ≤ 89
+    go true true e h = omega (arith, leb-true (length note) 64 e, plain-to (r .values .edition))
     go true false e h = absurd (omega arith)
     go false true e h = absurd (omega arith)
     go false false e h = absurd (omega arith)
 
--- A payload written over 84 bytes is their front.
-pub written-front : (r : Report) (note : Option (List ℕ)) {w : List ℕ} {n : ℕ} → fault r note ≡ 0 → w ≡ written (replicate 84 255) r note → n ≡ size note
+-- A payload written over 89 bytes is their front.
+pub written-front : (r : Report) (note : Option (List ℕ)) {w : List ℕ} {n : ℕ} → fault r note ≡ 0 → w ≡ written (replicate 89 255) r note → n ≡ size (r .values .edition) note
     → take n w ≡ payload r note
 unfolding written writeRefusal
 written-front r note h e k =
-    rw (e, k, h, le-leb (size note) 84 (size-bound r note h))
-    (take-at (payload r note) (drop (size note) (replicate 84 255)) (size note) (size-payload r note))
+    rw (e, k, h, le-leb (size (r .values .edition) note) 89 (size-bound r note h))
+    (take-at (payload r note) (drop (size (r .values .edition) note) (replicate 89 255)) (size (r .values .edition) note) (size-payload r note))
 
 module _ (b : List ℕ) (sender : ℕ) (r : Report) (note : Option (List ℕ)) where
   refuse : (n : ℕ) → sendRefusal (length b) sender r note ≡ n → (n ≡ 0 → ⊥) → (Refused n ≡ sendAnswer (length b) sender r note) × (b ≡ sent b sender r note)
@@ -154,8 +154,8 @@ module _ (b : List ℕ) (sender : ℕ) (r : Report) (note : Option (List ℕ)) w
   unfolding sendRefusal
   faulty {n} s e h = refuse n (rw (le-ltb 253 sender s, ← e, ne-eqb n 0 h)) h
 
-  module _ {n k : ℕ} (s : sender ≤ 253) (h : fault r note ≡ 0) (sized : n ≡ size note) (counted : k ≡ packets n) where
-    needed : 12 * (1 + k) ≡ roomFor note
+  module _ {n k : ℕ} (s : sender ≤ 253) (h : fault r note ≡ 0) (sized : n ≡ size (r .values .edition) note) (counted : k ≡ packets n) where
+    needed : 12 * (1 + k) ≡ roomFor (r .values .edition) note
     needed = rw (counted, sized)
 
     pub short : length b < 12 * (1 + k) → (Refused 20 ≡ sendAnswer (length b) sender r note) × (b ≡ sent b sender r note)
@@ -168,7 +168,7 @@ module _ (b : List ℕ) (sender : ℕ) (r : Report) (note : Option (List ℕ)) w
     fits enough is stored =
         let room : sendRefusal (length b) sender r note ≡ 0 = rw (le-ltb 253 sender s, h, ← needed, le-leb (12 * (1 + k)) (length b) enough) in
         let fs = frameBytes (frames sender (payload r note)) in
-        let long : length fs ≡ roomFor note = rw (size-payload r note) at (frames-bytes sender (payload r note)) in
+        let long : length fs ≡ roomFor (r .values .edition) note = rw (size-payload r note) at (frames-bytes sender (payload r note)) in
         let whole : 0 + length fs ≤ length b = omega (arith, needed) in
-        let end : 0 + length fs ≡ roomFor note = omega arith in
+        let end : 0 + length fs ≡ roomFor (r .values .edition) note = omega arith in
         (rw (room, ← needed), rw room (rw is at stored ∙ sets-eq fs b 0 whole ∙ rw end))

@@ -6,6 +6,7 @@ use mathlib.Core.List.{List, [], _∷_, _++_}
 use lib.ListN.{length, take, drop, replicate}
 use lib.Dec.{leb, ltb, eqb}
 use Rattle.wire.specs.Bytes.{number, bytes, part}
+use Rattle.values.specs.declared.Edition.{Edition}
 use Rattle.report.specs.declared.Report.{Report}
 use Rattle.report.specs.declared.Written.{Written}
 use Rattle.report.specs.declared.Written.the-variants as writing
@@ -52,20 +53,20 @@ framesIn zero bs = []
 framesIn (suc n) bs = record { identifier = number (take 4 bs); data-bytes = part 4 8 bs } ∷ framesIn n (drop 12 bs)
 
 -- Rule 10.4: the room that a report's frames need.
-abbrev pub roomFor : Option (List ℕ) → ℕ
-roomFor note = 12 * (1 + packets (size note))
+abbrev pub roomFor : Edition → Option (List ℕ) → ℕ
+roomFor edition note = 12 * (1 + packets (size edition note))
 
 -- The sender's refusals, in the order of rule 9.4: 3, 12, 19, then 20, too short a room; 0 for none.
 unfoldable pub sendRefusal : ℕ → ℕ → Report → Option (List ℕ) → ℕ
 sendRefusal room sender r note =
-    cond (ltb 253 sender) 3 (cond (eqb (fault r note) 0) (cond (leb (roomFor note) room) 0 20) (fault r note))
+    cond (ltb 253 sender) 3 (cond (eqb (fault r note) 0) (cond (leb (roomFor (r .values .edition) note) room) 0 20) (fault r note))
 
 -- The answer: how many bytes were filled, or the refusal.
 unfoldable pub sendAnswer : ℕ → ℕ → Report → Option (List ℕ) → Written
 sendAnswer room sender r note =
-    cond (eqb (sendRefusal room sender r note) 0) (writing.Bytes (roomFor note)) (writing.Refused (sendRefusal room sender r note))
+    cond (eqb (sendRefusal room sender r note) 0) (writing.Bytes (roomFor (r .values .edition) note)) (writing.Refused (sendRefusal room sender r note))
 
 -- Rule 10.4: the room as it is left: the frames, and the bytes behind them as they were; a refusal changes no byte.
 unfoldable pub sent : List ℕ → ℕ → Report → Option (List ℕ) → List ℕ
 sent room sender r note =
-    cond (eqb (sendRefusal (length room) sender r note) 0) (frameBytes (frames sender (payload r note)) ++ drop (roomFor note) room) room
+    cond (eqb (sendRefusal (length room) sender r note) 0) (frameBytes (frames sender (payload r note)) ++ drop (roomFor (r .values .edition) note) room) room

@@ -23,8 +23,8 @@ impl Bench {
 
     pub const IDENTIFIER: usize = 4;
 
-    // Room for the frames of any report: an announcement and 12 packets.
-    pub const LARGEST: usize = 156;
+    // Room for the frames of any report: an announcement and 13 packets.
+    pub const LARGEST: usize = 168;
 
     pub const PRIORITY: u32 = 7;
 
@@ -44,7 +44,9 @@ impl Bench {
         if fault != 0 {
             return Written::Refused(fault);
         }
-        let size = Payload::size(noted, note);
+        let values = report.values;
+        let edition = values.edition;
+        let size = Payload::size(edition, noted, note);
         let needed = Bench::FRAME * (1 + (joining::packets(size as u16) as usize));
         if room.len() < needed {
             return Written::Refused(Payload::NO_ROOM);
@@ -68,7 +70,7 @@ fn fill(room: &mut [u8], sender: u8, p: &[u8])
 
 // Stores the packets 1 to `count` behind the announcement.
 fn put_packets(room: &mut [u8], sender: u8, p: &[u8], count: u8)
-    requires { ⌜ (count ≤ 12) × (7 * count ≤ length (now p) + 6) ⌝ }
+    requires { ⌜ (count ≤ 13) × (7 * count ≤ length (now p) + 6) ⌝ }
     ensures { λ _. ⌜ now (room .exit) ≡ sets (now (room .entry)) 12 (frameBytes (packetsFrom sender (now (p .entry)) 1 count)) ⌝ }
 {
     let mut sent = 0;
@@ -80,7 +82,7 @@ fn put_packets(room: &mut [u8], sender: u8, p: &[u8], count: u8)
 
 // Stores packet i in its place among the frames.
 fn put_packet(room: &mut [u8], sender: u8, p: &[u8], i: u8)
-    requires { ⌜ (1 ≤ i) × (i ≤ 12) ⌝ }
+    requires { ⌜ (1 ≤ i) × (i ≤ 13) ⌝ }
     requires { ⌜ 7 * (i - 1) ≤ length (now p) ⌝ }
     ensures { λ _. ⌜ now (room .exit) ≡ sets (now (room .entry)) (12 * i) (bytes 4 (identifier 235 sender) ++ packetData (now (p .entry)) i) ⌝ }
 {
@@ -133,7 +135,7 @@ fn identifier(format: u32, sender: u8) -> u32
 
 // Stores a frame from `at` on.
 fn put_frame(room: &mut [u8], at: usize, id: u32, carried: &[u8; 8])
-    requires { ⌜ at ≤ 144 ⌝ }
+    requires { ⌜ at ≤ 156 ⌝ }
     ensures { λ _. ⌜ now (room .exit) ≡ sets (now (room .entry)) at (bytes 4 id ++ now (carried .entry)) ⌝ }
 {
     wire::put32(room, at, id);

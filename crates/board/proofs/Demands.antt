@@ -27,7 +27,7 @@ use Rattle.question.proofs.Stored.{lines-asked}
 use Rattle.list.proofs.Blank.{all-in, all-is}
 use Rattle.slot.specs.declared.Turned.{Turned}
 use Rattle.slot.specs.Asking.{setIn, emptied}
-use Rattle.slot.specs.Turn.{listed, lists}
+use Rattle.slot.specs.Turn.{listed, numberNamed, lists}
 use Rattle.slot.specs.Fitness.{isEmpty, slotFit}
 use Rattle.slot.specs.Gauges.{noQuestion}
 use Rattle.slot.proofs.Standing.{Stands, Slot, stands, searches, stands-fit, searches-fit, searches-on, empty-is, empty-waits, not-searching}
@@ -94,7 +94,7 @@ module _ {n : ℕ} {past : List Values} {b : Board} (reached : Reached n past b)
   pub reached-holds : heldReports (b .window) ≡ latest n (numbered 1 past)
   reached-holds = k .since .holds-latest
 
-  -- Every question whose search is finished has as its list the first min(k, held) of the held reports in the ranking.
+  -- Every question whose search is finished has as its list the best k of the held reports that count.
   pub demand-2 : (slot : ℕ) → slot < 32 → finished (slotAt b slot) ≡ true
       → lines (slotAt b slot) ≡ top (slotAt b slot .rule) (slotAt b slot .k) (heldReports (b .window))
   demand-2 slot h f = go (slotAt b slot) f (slot-of b k slot h)
@@ -186,20 +186,20 @@ module _ {n : ℕ} {past : List Values} {b : Board} (reached : Reached n past b)
       go (searches s) = absurd (not-searching (b .window) (reached-window reached) (slotAt b slot) fits s)
 
   -- Searched exactly when the report that leaves is on its list after the addition.
-  pub enter-searches : getD (enterCall b v .searched) slot false ≡ true ↔ ((outgoing (b .window) ≡ 0 → ⊥) × ((e : Entry) × (e ∈ lines (listed (slotAt b slot) new)) × (e .number ≡ outgoing (b .window))))
+  pub enter-searches : getD (enterCall b v .searched) slot false ≡ true ↔ ((outgoing (b .window) ≡ 0 → ⊥) × ((e : Entry) × (e ∈ lines (listed (slotAt b slot) new)) × (numberNamed e ≡ outgoing (b .window))))
   enter-searches = (to, from)
     where
       is : getD (enterCall b v .searched) slot false ≡ lists (listed (slotAt b slot) new) (outgoing (b .window))
       is = enter-answers .set-of-searched ∙ turn-when (slotAt b slot) new (outgoing (b .window)) (inRows (added (b .window) v))
 
-      to : getD (enterCall b v .searched) slot false ≡ true → (outgoing (b .window) ≡ 0 → ⊥) × ((e : Entry) × (e ∈ lines (listed (slotAt b slot) new)) × (e .number ≡ outgoing (b .window)))
+      to : getD (enterCall b v .searched) slot false ≡ true → (outgoing (b .window) ≡ 0 → ⊥) × ((e : Entry) × (e ∈ lines (listed (slotAt b slot) new)) × (numberNamed e ≡ outgoing (b .window)))
       to t =
           let may = enterable (b .window .counts) v taken in
           ⊎-elim (λ no. absurd (no (sym (enter-answers .set-of-searched) ∙ t)))
           (λ s. names-oldest (b .window) (reached-window reached) (kept reached .since .whole) v (may .permitted) (may .room) (slotAt b slot) s .0 (sym is ∙ t))
           slot-now
 
-      from : (outgoing (b .window) ≡ 0 → ⊥) × ((e : Entry) × (e ∈ lines (listed (slotAt b slot) new)) × (e .number ≡ outgoing (b .window))) → getD (enterCall b v .searched) slot false ≡ true
+      from : (outgoing (b .window) ≡ 0 → ⊥) × ((e : Entry) × (e ∈ lines (listed (slotAt b slot) new)) × (numberNamed e ≡ outgoing (b .window))) → getD (enterCall b v .searched) slot false ≡ true
       from r = is ∙ lists-when (listed (slotAt b slot) new) (outgoing (b .window)) .1 (r .1 .0, r .1 .1, omega (arith, r .1 .2))
 
   -- The search that entering runs is exact, over the reports held after it.

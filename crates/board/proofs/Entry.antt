@@ -13,6 +13,7 @@ use lib.ListN.{drop}
 use Rattle.laws.specs.Lists.{_∈_}
 use Rattle.values.specs.declared.Values.{Values}
 use Rattle.values.specs.Range.{inRange}
+use Rattle.values.proofs.Names.{name-number}
 use Rattle.ranking.specs.Standing.{Held, Entry, top}
 use Rattle.laws.proofs.Tests.{Tested, passed, failed, tested, if-so, if-not}
 use Rattle.laws.proofs.Lists.{_⊆_, there, drop-⊆}
@@ -23,7 +24,7 @@ use Rattle.window.proofs.Fitness as window
 use Rattle.window.proofs.Reports.{held-added, held-latest, oldest-first}
 use Rattle.question.specs.declared.Question.{Question}
 use Rattle.question.specs.Lines.{lines}
-use Rattle.slot.specs.Turn.{listed, lists}
+use Rattle.slot.specs.Turn.{listed, numberNamed, lists}
 use Rattle.slot.proofs.Standing.{Stands}
 use Rattle.slot.proofs.Turns.{Leaves, lists-when, added-lines, turn-stands}
 use Rattle.board.specs.Work.{leaving, outgoing, newReport, turned}
@@ -46,7 +47,7 @@ module _ (w : Window) (fit : fitWindow w ≡ true) (whole : window.Whole w) (v :
   next-fit = window.added-fit w v fit whole room permitted
 
   held-next : heldReports (added w v) ≡ drop (w .counts .held + 1 - w .counts .size) (heldReports w) ++ (new ∷ [])
-  held-next = held-added w v ranges whole room
+  held-next = held-added w v ranges whole permitted room
 
   newest : (r : Held) → r ∈ heldReports w → r .number < w .counts .entered + 1
   newest r m = omega (arith, held-latest w ranges r m .1)
@@ -101,16 +102,16 @@ module _ (w : Window) (fit : fitWindow w ≡ true) (whole : window.Whole w) (v :
     new-lines = added-lines (heldReports w) new permitted newest q s
 
     -- It names one that has gone exactly where it names the report that leaves.
-    pub names-oldest : lists (listed q new) (outgoing w) ≡ true ↔ ((outgoing w ≡ 0 → ⊥) × ((e : Entry) × (e ∈ lines (listed q new)) × (e .number ≡ outgoing w)))
+    pub names-oldest : lists (listed q new) (outgoing w) ≡ true ↔ ((outgoing w ≡ 0 → ⊥) × ((e : Entry) × (e ∈ lines (listed q new)) × (numberNamed e ≡ outgoing w)))
     names-oldest = (to, from)
       where
-        number-of : (e : Entry) → e ∈ lines (listed q new) → w .counts .entered < e .number + w .counts .held
+        number-of : (e : Entry) → e ∈ lines (listed q new) → w .counts .entered < numberNamed e + w .counts .held
         number-of e m =
             let r = top-of (s .rule) (s .k) (new ∷ heldReports w) (subst (λ l. e ∈ l) new-lines m) in
-            let same : r .0 .number ≡ e .number = ap (λ (x : Entry). x .number) (r .2) in
+            let same : r .0 .number ≡ numberNamed e = sym (name-number (r .0 .number) (r .0 .values .edition)) ∙ ap numberNamed (r .2) in
             ⊎-elim (λ n. let it : r .0 .number ≡ w .counts .entered + 1 = ap (λ (x : Held). x .number) n in omega arith) (λ k. omega (arith, held-latest w ranges (r .0) k .0)) (List·Memᴰ·cases-cons (r .1))
 
-        to : lists (listed q new) (outgoing w) ≡ true → (outgoing w ≡ 0 → ⊥) × ((e : Entry) × (e ∈ lines (listed q new)) × (e .number ≡ outgoing w))
+        to : lists (listed q new) (outgoing w) ≡ true → (outgoing w ≡ 0 → ⊥) × ((e : Entry) × (e ∈ lines (listed q new)) × (numberNamed e ≡ outgoing w))
         to t =
             let r = lists-when (listed q new) (outgoing w) .0 t in
             let late = number-of (r .0) (r .1) in
@@ -119,5 +120,5 @@ module _ (w : Window) (fit : fitWindow w ≡ true) (whole : window.Whole w) (v :
             (λ full. let gone = gone-is .1 full in ((λ z. absurd (omega arith)), (r .0, r .1, omega (arith, ranges .ring .were-entered, r .2))))
             (either (w .counts .held) (w .counts .size))
 
-        from : (outgoing w ≡ 0 → ⊥) × ((e : Entry) × (e ∈ lines (listed q new)) × (e .number ≡ outgoing w)) → lists (listed q new) (outgoing w) ≡ true
+        from : (outgoing w ≡ 0 → ⊥) × ((e : Entry) × (e ∈ lines (listed q new)) × (numberNamed e ≡ outgoing w)) → lists (listed q new) (outgoing w) ≡ true
         from r = lists-when (listed q new) (outgoing w) .1 (r .1 .0, r .1 .1, omega (arith, r .1 .2))

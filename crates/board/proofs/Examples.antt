@@ -1,4 +1,4 @@
--- P9 to P11 and P16 through the calls. What an entry answers of a slot is said by what was entered before, so that each example is a short computation over two reports.
+-- P9 to P11, P16, P21 and P22 through the calls. What an entry answers of a slot is said by what was entered before, so that each example is a short computation over two reports.
 -- Assumes nothing.
 use mathlib.Core.Path.{_≡_, refl, sym, ap, ap₂, _∙_, subst}
 use mathlib.Core.Logic.{inl}
@@ -13,8 +13,11 @@ use Rattle.ranking.specs.Cells.{ruleOf, ruleWithin, wholeRange, weightsFit, ran
 use Rattle.search.specs.Search.{steps}
 use Rattle.ranking.specs.Standing.{Held, Entry, goesFirst, above, entries, top, searchOf}
 use Rattle.values.specs.declared.Values.{Values}
+use Rattle.values.specs.declared.Edition.the-variants.{First, Second}
 use Rattle.values.specs.Range.{inRange}
+use Rattle.values.specs.Names.{named}
 use Rattle.ranking.specs.declared.Rule.{Rule}
+use Rattle.laws.specs.Whole.{equal}
 use Rattle.laws.proofs.Tests.{Tested, passed, failed, tested, if-so}
 use Rattle.window.specs.declared.Counts.{Counts}
 use Rattle.window.specs.Rows.{freshWindow, heldReports, fitWindow, added}
@@ -51,8 +54,8 @@ abbrev countsAt : ℕ → ℕ → Counts
 countsAt n entered = record { size = n; entered = entered; held = min n entered }
 
 -- Whether one that has gone is on the list after the addition, by what was entered.
-abbrev named : ℕ → List Values → Values → ℕ → Rule → Bool
-named n past v k rule =
+abbrev listsGone : ℕ → List Values → Values → ℕ → Rule → Bool
+listsGone n past v k rule =
     not
     (allOf (later (leaving (countsAt n (length past))))
     (top rule k (record { number = length past + 1; values = v } ∷ latest n (numbered 1 past))))
@@ -69,8 +72,8 @@ record Stage (n : ℕ) (past : List Values) (k : ℕ) (rule : Rule) (b : Board) 
 -- What the next entry answers of slot 0, and that it searches no other.
 record Says (n : ℕ) (past : List Values) (v : Values) (k : ℕ) (rule : Rule) (r : Entered) : Type 0 where
   taken : r .refusal ≡ 0
-  searched-is : r .searched ≡ named n past v k rule ∷ replicate 31 false
-  steps-are : named n past v k rule ≡ true → getD (r .steps) 0 0 ≡ steps (searchOf rule) k (latest n (numbered 1 (past ++ (v ∷ []))))
+  searched-is : r .searched ≡ listsGone n past v k rule ∷ replicate 31 false
+  steps-are : listsGone n past v k rule ≡ true → getD (r .steps) 0 0 ≡ steps (searchOf rule) k (latest n (numbered 1 (past ++ (v ∷ []))))
   list-is : lines (slotAt (r .board) 0) ≡ top rule k (latest n (numbered 1 (past ++ (v ∷ []))))
 
 module _ {n : ℕ} {past : List Values} {k : ℕ} {rule : Rule} (b : Board) (g : Stage n past k rule b) (v : Values) (t : enterRefusal (countsAt n (length past)) v ≡ 0) where
@@ -123,9 +126,9 @@ module _ {n : ℕ} {past : List Values} {k : ℕ} {rule : Rule} (b : Board) (g :
   abbrev new : Held
   new = newReport (b .window) v
 
-  named-is : lists (listed (slotAt b 0) new) (outgoing (b .window)) ≡ named n past v k rule
+  lists-gone : lists (listed (slotAt b 0) new) (outgoing (b .window)) ≡ listsGone n past v k rule
   unfolding lists
-  named-is =
+  lists-gone =
       let m = may in
       let since = kept (g .reached) .since in
       ap (λ l. not (allOf (later (outgoing (b .window))) l)) (new-lines (b .window) (reached-window (g .reached)) (since .whole) v (m .permitted) (m .room) (slotAt b 0) s)
@@ -181,11 +184,11 @@ module _ {n : ℕ} {past : List Values} {k : ℕ} {rule : Rule} (b : Board) (g :
       }
 
   -- The set of questions searched: at most that in slot 0.
-  searched-all : enterCall b v .searched ≡ named n past v k rule ∷ replicate 31 false
-  searched-all = ext-getD false (enterCall b v .searched) (named n past v k rule ∷ replicate 31 false) for-each-slot each
+  searched-all : enterCall b v .searched ≡ listsGone n past v k rule ∷ replicate 31 false
+  searched-all = ext-getD false (enterCall b v .searched) (listsGone n past v k rule ∷ replicate 31 false) for-each-slot each
     where
-      each : (slot : ℕ) → slot < length (enterCall b v .searched) → getD (enterCall b v .searched) slot false ≡ getD (named n past v k rule ∷ replicate 31 false) slot false
-      each zero h = answers .set-of-searched ∙ turn-when (slotAt b 0) new (outgoing (b .window)) (inRows (added (b .window) v)) ∙ named-is
+      each : (slot : ℕ) → slot < length (enterCall b v .searched) → getD (enterCall b v .searched) slot false ≡ getD (listsGone n past v k rule ∷ replicate 31 false) slot false
+      each zero h = answers .set-of-searched ∙ turn-when (slotAt b 0) new (outgoing (b .window)) (inRows (added (b .window) v)) ∙ lists-gone
       each (suc slot) h =
           let within : suc slot < 32 = omega (arith, for-each-slot) in
           answers-of (suc slot) within .set-of-searched ∙ ap (λ (r : Turned). r .searched) (still (suc slot) within (omega arith)) ∙ sym (getD-replicate 31 slot false false (omega arith))
@@ -195,7 +198,7 @@ module _ {n : ℕ} {past : List Values} {k : ℕ} {rule : Rule} (b : Board) (g :
       record {
         taken = answered;
         searched-is = searched-all;
-        steps-are = λ h. answers .steps-of ∙ ap (λ (r : Turned). r .steps) (searched-so (named-is ∙ h)) ∙ (λ i. steps (searchOf (p-rule i)) (p-k i) (next-held i));
+        steps-are = λ h. answers .steps-of ∙ ap (λ (r : Turned). r .steps) (searched-so (lists-gone ∙ h)) ∙ (λ i. steps (searchOf (p-rule i)) (p-k i) (next-held i));
         list-is =
             demand-2 reached-next 0 (omega arith) (stands-ended (enterCall b v .board .window) (reached-window reached-next) (slotAt (enterCall b v .board) 0) (stage-next .stood))
             ∙ (λ i. top (stage-next .at-rule i) (stage-next .at-k i) (kept reached-next .since .holds-latest i));
@@ -204,7 +207,10 @@ module _ {n : ℕ} {past : List Values} {k : ℕ} {rule : Rule} (b : Board) (g :
 -- ---- the examples
 
 abbrev pair : ℕ → ℕ → Values
-pair loss shake = record { loss = loss; shake = shake }
+pair loss shake = record { loss = loss; shake = shake; edition = First }
+
+abbrev triple : ℕ → ℕ → ℕ → Values
+triple loss shake heat = record { loss = loss; shake = shake; edition = Second heat }
 
 -- N 2, and a question of k 1 set first
 unfoldable pub bench : Rule → Board
@@ -276,14 +282,21 @@ module _ (rule : Rule) (weighs : weightsFit rule ≡ true) (ranges : rangesPrope
 
 -- weights 1 and 1
 abbrev ones : Rule
-ones = ruleOf (record { loss = pos 1; shake = pos 1 })
+ones = ruleOf (record { loss = pos 1; shake = pos 1; heat = pos 0 })
 
 -- weights 0 and 1, loss 500 to 900
 abbrev threshing : Rule
-threshing = ruleWithin (record { loss = pos 0; shake = pos 1 }) (record { loss = record { low = 500; high = 900 }; shake = wholeRange })
+threshing = ruleWithin (record { loss = pos 0; shake = pos 1; heat = pos 0 }) (record { loss = record { low = 500; high = 900 }; shake = wholeRange })
+
+-- weights 1, 0 and 1
+abbrev heating : Rule
+heating = ruleOf (record { loss = pos 1; shake = pos 0; heat = pos 1 })
 
 abbrev line : ℕ → ℕ → Entry
-line number score = record { number = number; score = pos score }
+line number score = record { name = named number First; score = pos score }
+
+abbrev heat-line : ℕ → ℕ → ℕ → Entry
+heat-line number heat score = record { name = named number (Second heat); score = pos score }
 
 -- N 2, and a question set first, k 1: three entries, what the third answers, and the list after it.
 pub record Examples : Type 0 where
@@ -301,14 +314,23 @@ pub record Examples : Type 0 where
   pub p16-searches : third threshing (pair 600 10) (pair 100 4000) (pair 700 5) .searched ≡ true ∷ replicate 31 false
   pub p16-steps : getD (third threshing (pair 600 10) (pair 100 4000) (pair 700 5) .steps) 0 0 ≡ 48
   pub p16-list : lines (slotAt (third threshing (pair 600 10) (pair 100 4000) (pair 700 5) .board) 0) ≡ line 3 5 ∷ []
+  -- P21: the second has no heat and doesn't count, so the third takes the first's place, found by a search of the columns 15 to 11, and is listed with its heat
+  pub p21-searches : third heating (triple 4000 0 4000) (pair 4095 0) (triple 3000 0 4000) .searched ≡ true ∷ replicate 31 false
+  pub p21-steps : getD (third heating (triple 4000 0 4000) (pair 4095 0) (triple 3000 0 4000) .steps) 0 0 ≡ 80
+  pub p21-list : lines (slotAt (third heating (triple 4000 0 4000) (pair 4095 0) (triple 3000 0 4000) .board) 0) ≡ heat-line 3 4000 7000 ∷ []
+  -- P22: P9 with the second of the second edition, heat 7, which has no weight: 2:10 with its heat
+  pub p22-searches : third ones (pair 10 10) (triple 5 5 7) (pair 1 1) .searched ≡ true ∷ replicate 31 false
+  pub p22-list : lines (slotAt (third ones (pair 10 10) (triple 5 5 7) (pair 1 1) .board) 0) ≡ heat-line 2 7 10 ∷ []
 
 pub examples : Examples
-unfolding steps visiting before bestScore sum score counts cellCounts cell above goesFirst entries leaving enterRefusal inRange weightsFit rangesProper
+unfolding steps visiting before bestScore sum score counts cellCounts cell above goesFirst entries leaving enterRefusal inRange weightsFit rangesProper equal
 examples =
     let p9 = third-says ones refl refl (pair 10 10) (pair 5 5) (pair 1 1) refl refl refl in
     let ten = third-says ones refl refl (pair 1 1) (pair 5 5) (pair 1 2) refl refl refl in
     let eleven = third-says ones refl refl (pair 9 9) (pair 1 1) (pair 9 9) refl refl refl in
     let sixteen = third-says threshing refl refl (pair 600 10) (pair 100 4000) (pair 700 5) refl refl refl in
+    let heated = third-says heating refl refl (triple 4000 0 4000) (pair 4095 0) (triple 3000 0 4000) refl refl refl in
+    let either = third-says ones refl refl (pair 10 10) (triple 5 5 7) (pair 1 1) refl refl refl in
     record {
       p9-searches = p9 .searched-is;
       p9-steps = p9 .steps-are refl;
@@ -320,4 +342,9 @@ examples =
       p16-searches = sixteen .searched-is;
       p16-steps = sixteen .steps-are refl;
       p16-list = sixteen .list-is;
+      p21-searches = heated .searched-is;
+      p21-steps = heated .steps-are refl;
+      p21-list = heated .list-is;
+      p22-searches = either .searched-is;
+      p22-list = either .list-is;
     }

@@ -1,16 +1,24 @@
 -- The loop over the slots: after i turns the first i places of each answer hold what the turns of the first i questions leave.
 -- Assumes nothing.
-use mathlib.Core.Path.{_≡_, sym, ap, _∙_}
-use mathlib.Core.Bool.{Bool}
+use mathlib.Core.Path.{_≡_, sym, ap, ap₂, _∙_}
+use mathlib.Core.Bool.{Bool, true, cond}
 use mathlib.Core.List.{List, map}
 use Prim.Native.Nat.{ℕ, _+_, _≤_, _<_}
+use native.Mathlib.Omega.{arith}
+use borrow.Author.Tests.{le-leb}
+use lib.Dec.{leb}
 use lib.ListN.{length, getD, set}
+use Rattle.laws.proofs.Tests.{if-so}
 use Rattle.values.specs.declared.Values.{Values}
-use Rattle.values.specs.Range.{low}
-use Rattle.values.proofs.Facts.{low-same}
+use Rattle.values.specs.declared.Edition.{Edition}
+use Rattle.values.specs.Range.{inRange, low}
+use Rattle.values.specs.Names.{named}
+use Rattle.values.proofs.Facts.{range-facts, low-same, low-edition-same}
+use Rattle.values.proofs.Names.{name-number, name-edition}
 use Rattle.ranking.specs.Standing.{Held}
 use Rattle.window.specs.declared.Window.{Window}
-use Rattle.window.specs.Rows.{added, standing}
+use Rattle.window.specs.declared.Row.{Row}
+use Rattle.window.specs.Rows.{valuesAt, reportAt, added, standing}
 use Rattle.question.specs.declared.Question.{Question}
 use Rattle.list.specs.Rows.{rowsOf}
 use Rattle.question.specs.Lines.{inRows}
@@ -51,22 +59,34 @@ module _ (h : Held) (old : List Question) (gone : ℕ) (reports : List Held) whe
         steps-are = filled-more (λ q. one q .steps) old i steps noQuestion (t .steps) below (u .steps-are) (ap (λ r. r .steps) e);
       }
 
--- A report with its values' low 12 bits, which are all where it can enter.
-abbrev pub lowReport : ℕ → Values → Held
-lowReport number v = record { number = number; values = low v }
+-- The row of the report of that number and those values.
+abbrev pub asRow : ℕ → Values → Row
+asRow number v = record { loss = v .loss; shake = v .shake; name = named number (v .edition) }
+
+-- It has the report, where its values are in their range.
+pub row-report : (number : ℕ) (v : Values) → inRange v ≡ true → reportAt (asRow number v) ≡ record { number = number; values = v }
+row-report number v may =
+    let same : valuesAt (asRow number v) ≡ v =
+    ap (λ e. record { loss = v .loss; shake = v .shake; edition = e })
+    (name-edition number (v .edition) ∙ low-edition-same (v .edition) (range-facts v may .heat-fits)) in
+    ap₂ (λ n u. record { number = n; values = u }) (name-number number (v .edition)) (ap low same ∙ low-same v may)
+
+-- The next number has a name in every edition.
+pub new-name : (entered : ℕ) (e : Edition) → entered < 1000000 → cond (leb (entered + 1) 1048319) (named (entered + 1) e) 0 ≡ named (entered + 1) e
+new-name entered e room = if-so _ _ (le-leb (entered + 1) 1048319 (omega arith))
 
 -- When all turns are taken, the answer is there.
-pub turns-all : (b : Board) (v : Values) {leaves i : ℕ} {window : Window} {slots : List Question} {searched : List Bool} {steps : List ℕ} → enterRefusal (b .window .counts) v ≡ 0
-    → leaves ≡ outgoing (b .window) → window ≡ added (b .window) v → length (b .slots) ≤ i
-    → Turns (lowReport (b .window .counts .entered + 1) v) (b .slots) leaves (standing (rowsOf (window .losses) (window .shakes) (window .numbers)) 1024) i slots searched steps
+pub turns-all : (b : Board) (v : Values) {row : Row} {leaves i : ℕ} {window : Window} {slots : List Question} {searched : List Bool} {steps : List ℕ} → enterRefusal (b .window .counts) v ≡ 0
+    → row ≡ asRow (b .window .counts .entered + 1) v → leaves ≡ outgoing (b .window) → window ≡ added (b .window) v → length (b .slots) ≤ i
+    → Turns (reportAt row) (b .slots) leaves (standing (rowsOf (window .losses) (window .shakes) (window .names)) 1024) i slots searched steps
     → _≡_ {A = Entered} (record { refusal = 0; number = b .window .counts .entered + 1; searched = searched; steps = steps; board = record { window = window; slots = slots } }) (enterWork b v)
 unfolding enterWork inRows
-turns-all b v {leaves} {i} {window} {slots} {searched} {steps} taken o w h t =
+turns-all b v {row} {leaves} {i} {window} {slots} {searched} {steps} taken r o w h t =
     let number = b .window .counts .entered + 1 in
-    let all = low-same v (enterable (b .window .counts) v taken .permitted) in
+    let new = ap reportAt r ∙ row-report number v (enterable (b .window .counts) v taken .permitted) in
     let rows = rows-alone window 1024 ∙ ap (λ u. standing u 1024) w in
-    let slots-all = filled-all _ _ i slots h (t .slots-are) ∙ (λ j. map (λ q. turn q (record { number = number; values = all j }) (o j) (rows j) .question) (b .slots)) in
-    let searched-all = filled-all _ _ i searched h (t .searched-are) ∙ (λ j. map (λ q. turn q (record { number = number; values = all j }) (o j) (rows j) .searched) (b .slots)) in
-    let steps-all = filled-all _ _ i steps h (t .steps-are) ∙ (λ j. map (λ q. turn q (record { number = number; values = all j }) (o j) (rows j) .steps) (b .slots)) in
+    let slots-all = filled-all _ _ i slots h (t .slots-are) ∙ (λ j. map (λ q. turn q (new j) (o j) (rows j) .question) (b .slots)) in
+    let searched-all = filled-all _ _ i searched h (t .searched-are) ∙ (λ j. map (λ q. turn q (new j) (o j) (rows j) .searched) (b .slots)) in
+    let steps-all = filled-all _ _ i steps h (t .steps-are) ∙ (λ j. map (λ q. turn q (new j) (o j) (rows j) .steps) (b .slots)) in
     (λ j. record { refusal = 0; number = number; searched = searched-all j; steps = steps-all j; board = record { window = w j; slots = slots-all j } })
     ∙ sym (zero-is _ _ taken)

@@ -7,6 +7,7 @@ pub mod Entry
 pub mod Known
 pub mod Kept
 pub mod Demands
+pub mod Reading
 pub mod Fit
 pub mod Examples
 pub mod Outcomes

@@ -49,7 +49,7 @@ module _ (b : Board) (slot : ℕ) where
     set-there h = if-so _ _ (lt-ltb slot 32 h)
 
     -- The same, of a slot that was handed the window's rows.
-    pub set-seated : slot < 32 → {s : Seated} → s ≡ setIn (slotAt b slot) k rule (standing (rowsOf (b .window .losses) (b .window .shakes) (b .window .numbers)) 1024)
+    pub set-seated : slot < 32 → {s : Seated} → s ≡ setIn (slotAt b slot) k rule (standing (rowsOf (b .window .losses) (b .window .shakes) (b .window .names)) 1024)
         → setWork b slot k rule ≡ record { refusal = s .refusal; steps = s .steps; board = withSlot b slot (s .question) }
     unfolding inRows
     set-seated h e =

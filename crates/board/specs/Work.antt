@@ -6,6 +6,7 @@ use lib.ListN.{getD, set, replicate}
 use lib.Dec.{ltb, eqb}
 use Rattle.values.specs.declared.Values.{Values}
 use Rattle.values.specs.Range.{inRange}
+use Rattle.values.specs.Names.{named}
 use Rattle.ranking.specs.declared.Rule.{Rule}
 use Rattle.ranking.specs.Standing.{Held}
 use Rattle.window.specs.declared.Counts.{Counts}
@@ -85,8 +86,8 @@ enterRefusal c v = cond (inRange v) (cond (ltb (c .entered) reportLimit) 0 11) 1
 unfoldable pub arrival : Counts → Values → Arrival
 arrival c v =
     cond (eqb (enterRefusal c v) 0)
-    (record { refusal = 0; number = c .entered + 1; oldest = leaving c })
-    (record { refusal = enterRefusal c v; number = 0; oldest = 0 })
+    (record { refusal = 0; number = c .entered + 1; name = named (c .entered + 1) (v .edition); oldest = leaving c })
+    (record { refusal = enterRefusal c v; number = 0; name = 0; oldest = 0 })
 
 -- Rule 8.3: the report's number, which questions were searched, and the steps of each.
 unfoldable pub enterWork : Board → Values → Entered

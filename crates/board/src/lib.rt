@@ -11,8 +11,10 @@ use question::Question;
 use ranking::Rule;
 use slot::Gauge;
 use slot::Shown;
+use values::Name;
 use values::Values;
 use window::Counts;
+use window::Row;
 use window::Window;
 
 // The held reports, and a question in each slot that isn't empty.
@@ -48,10 +50,12 @@ pub struct Entered {
     pub board: Board,
 }
 
-// What a report's entry comes to: the refusal's number, or 0; then its number, and that of the report that leaves, 0 for none.
+// What a report's entry comes to: the refusal's number, or 0; then its number and its name, and the number of the report that
+// leaves, 0 for none.
 pub struct Arrival {
     pub refusal: u8,
     pub number: u32,
+    pub name: u32,
     pub oldest: u32,
 }
 
@@ -160,7 +164,7 @@ impl Board {
             rule,
             &window.losses,
             &window.shakes,
-            &window.numbers,
+            &window.names,
         );
         let left = seated.question;
         Placed {
@@ -223,6 +227,12 @@ impl Board {
         let before = self.window;
         let counts = before.counts;
         let number = counts.entered + 1;
+        let edition = values.edition;
+        let row = Row {
+            loss: values.loss,
+            shake: values.shake,
+            name: Name::of(number, edition),
+        };
         let gone = leaving(counts);
         let window = before.added(values);
         let mut slots = self.slots;
@@ -232,12 +242,11 @@ impl Board {
         while i < Gauge::SLOTS {
             let turned = slot::turn(
                 old[i],
-                number,
-                values,
+                row,
                 gone,
                 &window.losses,
                 &window.shakes,
-                &window.numbers,
+                &window.names,
                 Window::ROWS,
             );
             let left = turned.question;
@@ -339,13 +348,16 @@ impl Arrival {
             return Arrival {
                 refusal,
                 number: 0,
+                name: 0,
                 oldest: 0,
             };
         }
         let number = counts.entered + 1;
+        let edition = values.edition;
         Arrival {
             refusal: 0,
             number,
+            name: Name::of(number, edition),
             oldest: leaving(counts),
         }
     }

@@ -30,20 +30,20 @@ step e a b = rw e (a, b)
 -- The expected packet's bytes, stored where the session stands.
 pub stored-at : (p d : List ℕ) → Open (sessionIn p) → {q : List ℕ}
     → q ≡ sets p (place (sessionIn p)) (take (sessionIn p .size - place (sessionIn p)) (drop 1 d))
-    → take 84 q ≡ stored (sessionIn p) d
+    → take 89 q ≡ stored (sessionIn p) d
 stored-at p d o e =
     let s = sessionIn p in
     let new = take (s .size - place s) (drop 1 d) in
-    ap (take 84) e ∙ take-sets 84 p (place s) new (omega (arith, length-take (s .size - place s) (drop 1 d), due s o, o .high))
+    ap (take 89) e ∙ take-sets 89 p (place s) new (omega (arith, length-take (s .size - place s) (drop 1 d), due s o, o .high))
 
-pub stored-long : (p d : List ℕ) → length p ≡ 87 → {q : List ℕ}
-    → q ≡ sets p (place (sessionIn p)) (take (sessionIn p .size - place (sessionIn p)) (drop 1 d)) → length q ≡ 87
+pub stored-long : (p d : List ℕ) → length p ≡ 92 → {q : List ℕ}
+    → q ≡ sets p (place (sessionIn p)) (take (sessionIn p .size - place (sessionIn p)) (drop 1 d)) → length q ≡ 92
 stored-long p d h e =
     let s = sessionIn p in
     ap length e ∙ length-sets p (place s) (take (s .size - place s) (drop 1 d)) ∙ h
 
 -- A frame in a room: one that is refused at once changes no byte, and another changes its sender's session.
-module _ (room : List ℕ) (id : ℕ) (d : List ℕ) (long : length room ≡ 22098) where
+module _ (room : List ℕ) (id : ℕ) (d : List ℕ) (long : length room ≡ 23368) where
   abbrev frame : Frame
   frame = record { identifier = id; data-bytes = d }
 
@@ -75,35 +75,35 @@ module _ (room : List ℕ) (id : ℕ) (d : List ℕ) (long : length room ≡ 220
       let p = passed-over (ltb (senderOf id) 254) (λ z. h (e ∙ z)) in
       (ap Refused e ∙ p .0, p .1)
 
-  pub heard : {r : Answer} {q : List ℕ} → frameRefusal id d ≡ 0 → r ≡ take-frame (sessionIn (drop (87 * senderOf id) room)) id d .answer
-      → q ≡ (take (87 * senderOf id) room ++ sessionBytes (take-frame (sessionIn (drop (87 * senderOf id) room)) id d .session)) ++ drop (87 * senderOf id + 87) room
+  pub heard : {r : Answer} {q : List ℕ} → frameRefusal id d ≡ 0 → r ≡ take-frame (sessionIn (drop (92 * senderOf id) room)) id d .answer
+      → q ≡ (take (92 * senderOf id) room ++ sessionBytes (take-frame (sessionIn (drop (92 * senderOf id) room)) id d .session)) ++ drop (92 * senderOf id + 92) room
       → (r ≡ answerTo sessions frame) × (q ≡ roomOf (sessionsAfter sessions frame))
   heard e a b =
       let own : senderOf id < 254 = omega (arith, sound-frame id d e .sender) in
       let same = session-of 254 (senderOf id) room own in
-      let put = put-session 254 (senderOf id) room (take-frame (sessionIn (drop (87 * senderOf id) room)) id d .session) own long in
+      let put = put-session 254 (senderOf id) room (take-frame (sessionIn (drop (92 * senderOf id) room)) id d .session) own long in
       rw (lt-ltb (senderOf id) 254 own, same) (a, b ∙ sym put)
 
 -- Fitness, read off the numbers where they stand.
 pub fit-read : (room : List ℕ) (at : ℕ)
-    → fit (record { bytes = []; size = getD room (at + 84) 0; count = getD room (at + 85) 0; next = getD room (at + 86) 0 }) ≡ fit (sessionIn (drop at room))
+    → fit (record { bytes = []; size = getD room (at + 89) 0; count = getD room (at + 90) 0; next = getD room (at + 91) 0 }) ≡ fit (sessionIn (drop at room))
 fit-read room at =
-    let size = sym (getD-drop at room 84 0) in
-    let count = sym (getD-drop at room 85 0) in
-    let next = sym (getD-drop at room 86 0) in
+    let size = sym (getD-drop at room 89 0) in
+    let count = sym (getD-drop at room 90 0) in
+    let next = sym (getD-drop at room 91 0) in
     (λ i. fit (record { bytes = []; size = size i; count = count i; next = next i })) ∙ fit-numbers (sessionIn (drop at room))
 
 -- A closing in a room: it changes its sender's session, and for senders 254 and 255 there is none.
 module _ (room : List ℕ) (k : ℕ) where
-  pub closing : length room ≡ 22098 → k < 254 → {q : List ℕ}
-      → q ≡ (take (87 * k) room ++ sessionBytes (closed (sessionIn (drop (87 * k) room)))) ++ drop (87 * k + 87) room
+  pub closing : length room ≡ 23368 → k < 254 → {q : List ℕ}
+      → q ≡ (take (92 * k) room ++ sessionBytes (closed (sessionIn (drop (92 * k) room)))) ++ drop (92 * k + 92) room
       → q ≡ roomOf (set (sessionsIn room) k (closed (sessionOf k (sessionsIn room))))
   closing long own e =
       e
-      ∙ sym (put-session 254 k room (closed (sessionIn (drop (87 * k) room))) own long)
+      ∙ sym (put-session 254 k room (closed (sessionIn (drop (92 * k) room))) own long)
       ∙ ap (λ (s : Session). roomOf (set (sessionsIn room) k (closed s))) (sym (session-of 254 k room own))
 
-  pub none-there : length room ≡ 22098 → 254 ≤ k → (s : Session) → room ≡ roomOf (set (sessionsIn room) k s)
+  pub none-there : length room ≡ 23368 → 254 ≤ k → (s : Session) → room ≡ roomOf (set (sessionsIn room) k s)
   none-there long past s =
       sym (room-of-sessions 254 room long) ∙ ap roomOf (sym (set-out (sessionsIn room) k s (rw (sessions-many 254 room) past)))
 

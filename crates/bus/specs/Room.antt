@@ -1,4 +1,4 @@
--- All sessions in one array of bytes that a caller lends: 87 bytes for each sender, in their order.
+-- All sessions in one array of bytes that a caller lends: 92 bytes for each sender, in their order.
 use Prim.Native.Nat.{ℕ, zero, suc, _+_}
 use mathlib.Core.List.{List, [], _∷_, _++_}
 use lib.ListN.{getD, take, drop}
@@ -10,12 +10,12 @@ use Rattle.joining.specs.Run.{senders, sessionsAfter, answerTo}
 
 -- The bytes of a session's place, and of all places.
 abbrev pub placeBytes : ℕ
-placeBytes = 87
+placeBytes = 92
 
 abbrev pub roomBytes : ℕ
-roomBytes = 22098
+roomBytes = 23368
 
--- A session as 87 bytes: its 84 payload bytes, then size, count and next packet.
+-- A session as 92 bytes: its 89 payload bytes, then size, count and next packet.
 abbrev pub sessionBytes : Session → List ℕ
 sessionBytes s = s .bytes ++ (s .size ∷ s .count ∷ s .next ∷ [])
 

@@ -1,4 +1,4 @@
-// The sessions of all senders in bytes that a caller lends: a frame changes its sender's 87 bytes where they stand.
+// The sessions of all senders in bytes that a caller lends: a frame changes its sender's 92 bytes where they stand.
 ghost use mathlib.Core.Path.{_≡_};
 ghost use mathlib.Core.Bool.{true};
 ghost use mathlib.Core.List.{[], _∷_, _++_};
@@ -24,15 +24,15 @@ impl Bus {
     pub const SENDERS: usize = 254;
 
     // The bytes of all sessions, and of one: its payload's, then its size, count and next packet.
-    pub const ROOM: usize = 22098;
+    pub const ROOM: usize = 23368;
 
-    pub const PLACE: usize = 87;
+    pub const PLACE: usize = 92;
     // Where these three stand in a place.
-    pub const SIZE: usize = 84;
+    pub const SIZE: usize = 89;
 
-    pub const COUNT: usize = 85;
+    pub const COUNT: usize = 90;
 
-    pub const NEXT: usize = 86;
+    pub const NEXT: usize = 91;
 
     // A fresh session for each sender.
     pub fn fresh() -> Bus
@@ -95,7 +95,7 @@ impl Bus {
     }
 }
 
-// Whether the session in the 87 bytes from `at` on is fit.
+// Whether the session in the 92 bytes from `at` on is fit.
 fn fit_in(room: &[u8], at: usize) -> bool
     requires { ⌜ (length (now room) ≡ roomBytes) × (at + placeBytes ≤ roomBytes) ⌝ }
     ensures { λ r. ⌜ r ≡ fit (sessionIn (drop at (now (room .entry)))) ⌝ }
@@ -147,7 +147,7 @@ fn fill_in(room: &mut [u8], sessions: [Session; Bus::SENDERS])
     }
 }
 
-// Takes a frame of the sender whose session stands in the 87 bytes from `at` on.
+// Takes a frame of the sender whose session stands in the 92 bytes from `at` on.
 fn advance_in(room: &mut [u8], at: usize, id: u32, data: &[u8]) -> Answer
     requires { ⌜ (length (now room) ≡ roomBytes) × (at + placeBytes ≤ roomBytes) ⌝ }
     requires { ⌜ frameRefusal id (now «data») ≡ 0 ⌝ }
@@ -170,7 +170,7 @@ fn put_session(room: &mut [u8], at: usize, s: Session)
     room[at + Bus::NEXT] = s.next;
 }
 
-// The session that stands in the 87 bytes from `at` on.
+// The session that stands in the 92 bytes from `at` on.
 fn session_in(room: &[u8], at: usize) -> Session
     requires { ⌜ (length (now room) ≡ roomBytes) × (at + placeBytes ≤ roomBytes) ⌝ }
     ensures { λ r. ⌜ r ≡ sessionIn (drop at (now (room .entry))) ⌝ }

@@ -4,14 +4,14 @@ use mathlib.Core.Path.{_≡_, refl}
 use mathlib.Core.List.{List, [], _∷_, _++_}
 use Prim.Native.Nat.{ℕ}
 use Rattle.wire.specs.Bytes.{bytes, head, field}
-use Rattle.items.specs.Items.{signed16, unsigned16, settingBytes}
+use Rattle.items.specs.Items.{signed16, unsigned16, settingBytes, heatBytes}
 use Rattle.items.specs.Run.{runBytes}
 use Rattle.lines.specs.Words.{runLength, trimmed, behindWord, tailAt, wordAt}
 use Rattle.lines.specs.Numbers.{digitOf, withDigit, numberOn, numberIn, negated, shortIn}
 use Rattle.values.specs.Range.{inRange}
 use Rattle.report.specs.Payload.{payload, noteFits, fault}
 use Rattle.bench.specs.Bench.{announcement, packetData, packetsFrom, frames, frameBytes, sendRefusal}
-use Rattle.commands.specs.Lines.{kindOf, valueAt, weightAt, noMore, firstFalse, windowLine, questionLine, oneSlot, showLine, reportLine, timeLine, untimedLine, commandOf}
+use Rattle.commands.specs.Lines.{kindOf, valueAt, weightAt, noMore, firstFalse, windowLine, heatAt, questionLine, oneSlot, showLine, reportLine, heatedLine, timeLine, untimedLine, commandOf, wordsBefore}
 use Rattle.commands.specs.declared.Time.the-variants.{Untimed}
 use Rattle.commands.specs.Items.{reportRefusal, reportItems, lineItems, textItems}
 
@@ -26,8 +26,13 @@ window-three = refl
 
 -- `question 0 2 -1 2`: -1 is held as FFFF.
 pub question-less : items (113 ∷ 117 ∷ 101 ∷ 115 ∷ 116 ∷ 105 ∷ 111 ∷ 110 ∷ 32 ∷ 48 ∷ 32 ∷ 50 ∷ 32 ∷ 45 ∷ 49 ∷ 32 ∷ 50 ∷ []) ≡ 17 ∷ 6 ∷ 0 ∷ 0 ∷ 2 ∷ 255 ∷ 255 ∷ 2 ∷ 0 ∷ []
-unfolding commandOf kindOf wordAt tailAt trimmed behindWord runLength valueAt numberIn numberOn withDigit digitOf noMore firstFalse field head bytes runBytes questionLine weightAt shortIn negated signed16 unsigned16 settingBytes
+unfolding commandOf kindOf wordAt tailAt trimmed behindWord runLength valueAt numberIn numberOn withDigit digitOf noMore firstFalse field head bytes runBytes questionLine weightAt heatAt shortIn negated signed16 unsigned16 settingBytes
 question-less = refl
+
+-- `question 0 2 1 0 0`: a weight for heat is written also where it is 0.
+pub question-heat : items (113 ∷ 117 ∷ 101 ∷ 115 ∷ 116 ∷ 105 ∷ 111 ∷ 110 ∷ 32 ∷ 48 ∷ 32 ∷ 50 ∷ 32 ∷ 49 ∷ 32 ∷ 48 ∷ 32 ∷ 48 ∷ []) ≡ 22 ∷ 8 ∷ 0 ∷ 0 ∷ 2 ∷ 1 ∷ 0 ∷ 0 ∷ 0 ∷ 0 ∷ 0 ∷ []
+unfolding commandOf kindOf wordAt tailAt trimmed behindWord runLength valueAt numberIn numberOn withDigit digitOf noMore firstFalse field head bytes runBytes questionLine weightAt heatAt shortIn negated signed16 unsigned16 settingBytes heatBytes
+question-heat = refl
 
 -- `show 40`: a slot that the cart refuses is written.
 pub show-forty : items (115 ∷ 104 ∷ 111 ∷ 119 ∷ 32 ∷ 52 ∷ 48 ∷ []) ≡ 20 ∷ 1 ∷ 0 ∷ 40 ∷ []
@@ -44,6 +49,11 @@ report-bytes = 18 ∷ 12 ∷ 0 ∷ 5 ∷ 255 ∷ 236 ∷ 28 ∷ 32 ∷ 17 ∷ 0 
 pub report-first : items report-text ≡ report-bytes
 unfolding commandOf kindOf wordAt tailAt trimmed behindWord runLength valueAt numberIn numberOn withDigit digitOf noMore firstFalse field head bytes runBytes reportLine reportRefusal reportItems frames packetsFrom frameBytes sendRefusal announcement packetData payload inRange noteFits fault
 report-first = refl
+
+-- `heated 5 100 200 300 7 ab`: the heat behind the number, and the note behind the heat.
+pub heated-first : items (104 ∷ 101 ∷ 97 ∷ 116 ∷ 101 ∷ 100 ∷ 32 ∷ 53 ∷ 32 ∷ 49 ∷ 48 ∷ 48 ∷ 32 ∷ 50 ∷ 48 ∷ 48 ∷ 32 ∷ 51 ∷ 48 ∷ 48 ∷ 32 ∷ 55 ∷ 32 ∷ 97 ∷ 98 ∷ []) ≡ 18 ∷ 12 ∷ 0 ∷ 5 ∷ 255 ∷ 236 ∷ 28 ∷ 32 ∷ 27 ∷ 0 ∷ 4 ∷ 255 ∷ 20 ∷ 255 ∷ 0 ∷ 18 ∷ 12 ∷ 0 ∷ 5 ∷ 255 ∷ 235 ∷ 28 ∷ 1 ∷ 1 ∷ 2 ∷ 0 ∷ 100 ∷ 0 ∷ 2 ∷ 2 ∷ 18 ∷ 12 ∷ 0 ∷ 5 ∷ 255 ∷ 235 ∷ 28 ∷ 2 ∷ 0 ∷ 200 ∷ 0 ∷ 3 ∷ 4 ∷ 0 ∷ 7 ∷ 18 ∷ 12 ∷ 0 ∷ 5 ∷ 255 ∷ 235 ∷ 28 ∷ 3 ∷ 0 ∷ 0 ∷ 0 ∷ 5 ∷ 2 ∷ 0 ∷ 44 ∷ 18 ∷ 12 ∷ 0 ∷ 5 ∷ 255 ∷ 235 ∷ 28 ∷ 4 ∷ 1 ∷ 4 ∷ 2 ∷ 0 ∷ 97 ∷ 98 ∷ 255 ∷ []
+unfolding commandOf kindOf wordAt tailAt trimmed behindWord runLength valueAt numberIn numberOn withDigit digitOf noMore firstFalse field head bytes runBytes heatedLine wordsBefore reportRefusal reportItems frames packetsFrom frameBytes sendRefusal announcement packetData payload inRange noteFits fault
+heated-first = refl
 
 -- Lines in a row, `time 258` and `untimed` each before that report: its frames with the time, and then without.
 pub report-timed : runBytes (textItems Untimed ((116 ∷ 105 ∷ 109 ∷ 101 ∷ 32 ∷ 50 ∷ 53 ∷ 56 ∷ []) ∷ report-text ∷ (117 ∷ 110 ∷ 116 ∷ 105 ∷ 109 ∷ 101 ∷ 100 ∷ []) ∷ report-text ∷ []))

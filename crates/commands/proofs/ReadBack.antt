@@ -8,7 +8,10 @@ use native.Mathlib.Omega.{arith}
 use borrow.Author.Tests.{eqb-true}
 use lib.Dec.{eqb}
 use lib.ListN.{length}
+use lib.IntN.{pos}
+use Rattle.laws.proofs.Tests.{either}
 use Rattle.items.specs.Items.{signed16}
+use Rattle.items.specs.declared.Setting.{Setting}
 use Rattle.items.specs.declared.Item.{Item}
 use Rattle.items.specs.declared.Item.the-variants as item
 use Rattle.items.specs.Run.{Meant, runBytes, readItems}
@@ -16,6 +19,7 @@ use Rattle.items.proofs.Reading.{Fits}
 use Rattle.items.proofs.Runs.{AllFit, reads-back}
 use Rattle.items.proofs.Signs.{signed-fits}
 use Rattle.lines.specs.Words.{wordAt}
+use Rattle.values.specs.declared.Edition.the-variants as edition
 use Rattle.report.specs.Payload.{payload, given}
 use Rattle.joining.specs.Joining.{packets}
 use Rattle.bench.specs.Bench.{frames, packetsFrom}
@@ -27,9 +31,9 @@ use Rattle.commands.specs.declared.Time.the-variants as time
 use Rattle.commands.specs.declared.Sending.{Sending}
 use Rattle.commands.specs.declared.Command.{Command}
 use Rattle.commands.specs.declared.Command.the-variants as command
-use Rattle.commands.specs.Lines.{kindOf, firstFalse, noMore, valueAt, weightAt, unless, windowLine, questionLine, oneSlot, removeLine, showLine, reportKind, reportLine, timeLine, untimedLine, byKind, commandOf, noteIn}
+use Rattle.commands.specs.Lines.{kindOf, firstFalse, noMore, valueAt, weightAt, unless, windowLine, heatAt, questionItem, questionLine, oneSlot, removeLine, showLine, reportKind, reportLine, heatedKind, heatedLine, timeLine, untimedLine, byKind, commandOf, noteIn}
 use Rattle.commands.specs.Items.{frameItem, itemOfFrame, reportRefusal, reportItems, itemsOf, timeAfter, lineItems, textItems}
-use Rattle.commands.proofs.Reading.{value-most, weight-most}
+use Rattle.commands.proofs.Reading.{value-most, weight-most, heat-most}
 use Rattle.commands.proofs.Writing.{taken-facts}
 
 -- ---- a report's frames
@@ -61,7 +65,7 @@ module _ (t : Time) (ht : TimeFits t) where
   report-fits s note = go (eqb (reportRefusal s note) 0) refl
     where
       go : (b : Bool) → eqb (reportRefusal s note) 0 ≡ b → AllFit (cond b (map (itemOfFrame t) (frames (s .sender) (payload (s .report) (given (s .noted) note)))) [])
-      go true e = frames-fit (s .sender) _ (taken-facts 156 (s .sender) (s .report) (given (s .noted) note) (eqb-true _ 0 e) .0)
+      go true e = frames-fit (s .sender) _ (taken-facts 168 (s .sender) (s .report) (given (s .noted) note) (eqb-true _ 0 e) .0)
       go false e = tt
 
 -- ---- a line
@@ -86,13 +90,23 @@ module _ (t : Time) (ht : TimeFits t) (note line : List ℕ) where
   unfolding windowLine
   window-fits = item-fits (firstFalse 1 (valueAt 1 65535 line .known ∷ noMore 2 line ∷ true ∷ true ∷ true ∷ [])) kind.Window (item.Window (valueAt 1 65535 line .value)) (omega (arith, value-most 1 65535 line (valueAt 1 65535 line) refl), refl)
 
+  -- Where no weight for heat is given, it is 0.
+  none-given : noMore 5 line ≡ true → signed16 (heatAt line .value) ≡ pos 0
+  unfolding heatAt signed16
+  none-given e = rw e
+
   question-fits : FitsAll (questionLine line)
   unfolding questionLine
   question-fits =
       let a = weightAt 3 line .value in
       let b = weightAt 4 line .value in
-      item-fits (firstFalse 1 (valueAt 1 255 line .known ∷ valueAt 2 255 line .known ∷ weightAt 3 line .known ∷ weightAt 4 line .known ∷ noMore 5 line ∷ [])) kind.Question (item.Set (record { slot = valueAt 1 255 line .value; k = valueAt 2 255 line .value; loss = signed16 a; shake = signed16 b }))
-      (signed-fits a (omega (arith, weight-most 3 line (weightAt 3 line) refl)), signed-fits b (omega (arith, weight-most 4 line (weightAt 4 line) refl)), refl)
+      let c = heatAt line .value in
+      let s : Setting = record { slot = valueAt 1 255 line .value; k = valueAt 2 255 line .value; loss = signed16 a; shake = signed16 b; heat = signed16 c } in
+      let loss = signed-fits a (omega (arith, weight-most 3 line (weightAt 3 line) refl)) in
+      let shake = signed-fits b (omega (arith, weight-most 4 line (weightAt 4 line) refl)) in
+      let heat = signed-fits c (omega (arith, heat-most line (heatAt line) refl)) in
+      item-fits (firstFalse 1 (valueAt 1 255 line .known ∷ valueAt 2 255 line .known ∷ weightAt 3 line .known ∷ weightAt 4 line .known ∷ heatAt line .known ∷ noMore 6 line ∷ [])) kind.Question (questionItem (noMore 5 line) s)
+      (either (λ (i : Item). Fits i []) (noMore 5 line) (λ bare. (loss, shake, none-given bare, refl)) (λ given. (loss, shake, heat, refl)))
 
   remove-fits : FitsAll (removeLine line)
   unfolding removeLine
@@ -108,10 +122,25 @@ module _ (t : Time) (ht : TimeFits t) (note line : List ℕ) where
       let s : Sending =
       record {
         sender = valueAt 1 255 line .value;
-        report = record { values = record { loss = valueAt 2 65535 line .value; shake = valueAt 3 65535 line .value }; own = valueAt 4 4294967295 line .value };
+        report = record { values = record { loss = valueAt 2 65535 line .value; shake = valueAt 3 65535 line .value; edition = edition.First }; own = valueAt 4 4294967295 line .value };
         noted = always || not (noMore 5 line);
       } in
       unless-fits (firstFalse 1 (valueAt 1 255 line .known ∷ valueAt 2 65535 line .known ∷ valueAt 3 65535 line .known ∷ valueAt 4 4294967295 line .known ∷ true ∷ [])) (reportKind always) (command.Report s)
+      (report-fits t ht s note, ht)
+
+  heated-line-fits : (always : Bool) → FitsAll (heatedLine always line)
+  unfolding heatedLine
+  heated-line-fits always =
+      let s : Sending =
+      record {
+        sender = valueAt 1 255 line .value;
+        report = record {
+          values = record { loss = valueAt 2 65535 line .value; shake = valueAt 3 65535 line .value; edition = edition.Second (valueAt 4 65535 line .value) };
+          own = valueAt 5 4294967295 line .value;
+        };
+        noted = always || not (noMore 6 line);
+      } in
+      unless-fits (firstFalse 1 (valueAt 1 255 line .known ∷ valueAt 2 65535 line .known ∷ valueAt 3 65535 line .known ∷ valueAt 4 65535 line .known ∷ valueAt 5 4294967295 line .known ∷ [])) (heatedKind always) (command.Report s)
       (report-fits t ht s note, ht)
 
   time-fits : FitsAll (timeLine line)
@@ -134,6 +163,8 @@ module _ (t : Time) (ht : TimeFits t) (note line : List ℕ) where
   by-kind-fits kind.Noted = report-line-fits true
   by-kind-fits kind.Time = time-fits
   by-kind-fits kind.Untimed = untimed-fits
+  by-kind-fits kind.Heated = heated-line-fits false
+  by-kind-fits kind.HeatedNoted = heated-line-fits true
   by-kind-fits kind.Unknown = (tt, ht)
 
   line-fits : FitsAll (commandOf line)

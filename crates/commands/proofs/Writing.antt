@@ -71,14 +71,14 @@ item-most (time.At ms) at bs = omega (arith, timed-long ms (number (part at 4 bs
 -- ---- the frames of a report
 
 -- What the bench sender takes has a session and fits its room.
-pub taken-facts : (room sender : ℕ) (r : Report) (note : Option (List ℕ)) → sendRefusal room sender r note ≡ 0 → (sender ≤ 253) × (roomFor note ≤ room)
+pub taken-facts : (room sender : ℕ) (r : Report) (note : Option (List ℕ)) → sendRefusal room sender r note ≡ 0 → (sender ≤ 253) × (roomFor (r .values .edition) note ≤ room)
 unfolding sendRefusal
-taken-facts room sender r note h = go (ltb 253 sender) (eqb (fault r note) 0) (leb (roomFor note) room) refl refl refl h
+taken-facts room sender r note h = go (ltb 253 sender) (eqb (fault r note) 0) (leb (roomFor (r .values .edition) note) room) refl refl refl h
   where
-    go : (a b c : Bool) → ltb 253 sender ≡ a → eqb (fault r note) 0 ≡ b → leb (roomFor note) room ≡ c → cond a 3 (cond b (cond c 0 20) (fault r note)) ≡ 0
-        → (sender ≤ 253) × (roomFor note ≤ room)
+    go : (a b c : Bool) → ltb 253 sender ≡ a → eqb (fault r note) 0 ≡ b → leb (roomFor (r .values .edition) note) room ≡ c → cond a 3 (cond b (cond c 0 20) (fault r note)) ≡ 0
+        → (sender ≤ 253) × (roomFor (r .values .edition) note ≤ room)
     go true b c d e f h = absurd (omega arith)
-    go false true true d e f h = (ltb-false 253 sender d, leb-true (roomFor note) room f)
+    go false true true d e f h = (ltb-false 253 sender d, leb-true (roomFor (r .values .edition) note) room f)
     go false true false d e f h = absurd (omega arith)
     go false false c d e f h = absurd (eqb-false (fault r note) 0 e h)
 
@@ -86,34 +86,37 @@ module _ (t : Time) (s : Sending) (note : List ℕ) where
   abbrev with-note : Option (List ℕ)
   with-note = given (s .noted) note
 
+  abbrev needed : ℕ
+  needed = roomFor (s .report .values .edition) with-note
+
   abbrev carried : List frame.Frame
   carried = frames (s .sender) (payload (s .report) with-note)
 
   -- The bench sender wrote n bytes: their frames are the report's.
   pub record Sent (n : ℕ) (left : List ℕ) : Type 0 where
-    pub within : n ≤ 156
+    pub within : n ≤ 168
     pub whole : n ≡ 12 * (n / 12)
     pub items : map (itemOfFrame t) (framesIn (n / 12) left) ≡ reportItems t s note
     pub taken : eqb (reportRefusal s note) 0 ≡ true
 
-  pub items-sent : (room : List ℕ) {left : List ℕ} (n : ℕ) → length room ≡ 156 → sendAnswer (length room) (s .sender) (s .report) with-note ≡ writing.Bytes n
+  pub items-sent : (room : List ℕ) {left : List ℕ} (n : ℕ) → length room ≡ 168 → sendAnswer (length room) (s .sender) (s .report) with-note ≡ writing.Bytes n
       → left ≡ sent room (s .sender) (s .report) with-note → Sent n left
   unfolding sendAnswer sent reportRefusal reportItems
-  items-sent room {left} n h a e = go (eqb (sendRefusal 156 (s .sender) (s .report) with-note) 0) refl (rw h at a) (rw h at e)
+  items-sent room {left} n h a e = go (eqb (sendRefusal 168 (s .sender) (s .report) with-note) 0) refl (rw h at a) (rw h at e)
     where
-      go : (b : Bool) → eqb (sendRefusal 156 (s .sender) (s .report) with-note) 0 ≡ b
-          → cond b (writing.Bytes (roomFor with-note)) (writing.Refused (sendRefusal 156 (s .sender) (s .report) with-note)) ≡ writing.Bytes n
-          → left ≡ cond b (frameBytes carried ++ drop (roomFor with-note) room) room → Sent n left
+      go : (b : Bool) → eqb (sendRefusal 168 (s .sender) (s .report) with-note) 0 ≡ b
+          → cond b (writing.Bytes needed) (writing.Refused (sendRefusal 168 (s .sender) (s .report) with-note)) ≡ writing.Bytes n
+          → left ≡ cond b (frameBytes carried ++ drop needed room) room → Sent n left
       go false q b l = let z : _≡_ {A = ℕ} 0 1 = cc in absurd (omega arith)
       go true q b l =
-          let facts = taken-facts 156 (s .sender) (s .report) with-note (eqb-true _ 0 q) in
+          let facts = taken-facts 168 (s .sender) (s .report) with-note (eqb-true _ 0 q) in
           let p = payload (s .report) with-note in
-          let filled : n ≡ roomFor with-note = cc in
+          let filled : n ≡ needed = cc in
           let count : n / 12 ≡ suc (packets (length p)) = rw (size-payload (s .report) with-note) (omega arith) in
           record {
             within = omega (arith, facts .1);
             whole = omega arith;
-            items = rw (q, count, l) (ap (map (itemOfFrame t)) (frames-back (s .sender) (facts .0) p (drop (roomFor with-note) room)));
+            items = rw (q, count, l) (ap (map (itemOfFrame t)) (frames-back (s .sender) (facts .0) p (drop needed room)));
             taken = q;
           }
 
@@ -122,15 +125,15 @@ module _ (t : Time) (s : Sending) (note : List ℕ) where
   items-counted sent = rw (sent .taken) (ap (λ (ms : List Meant). answer.Items (length (runBytes ms))) (sent .items))
 
   -- Or it refused the report.
-  pub items-refused : (room : ℕ) (k : ℕ) → room ≡ 156 → sendAnswer room (s .sender) (s .report) with-note ≡ writing.Refused k
+  pub items-refused : (room : ℕ) (k : ℕ) → room ≡ 168 → sendAnswer room (s .sender) (s .report) with-note ≡ writing.Refused k
       → (answer.Refused k ≡ reportAnswer t s note) × (reportItems t s note ≡ [])
   unfolding sendAnswer reportRefusal reportItems reportAnswer
-  items-refused room k h a = go (eqb (sendRefusal 156 (s .sender) (s .report) with-note) 0) refl (rw h at a)
+  items-refused room k h a = go (eqb (sendRefusal 168 (s .sender) (s .report) with-note) 0) refl (rw h at a)
     where
       code : ℕ
-      code = sendRefusal 156 (s .sender) (s .report) with-note
+      code = sendRefusal 168 (s .sender) (s .report) with-note
 
-      go : (b : Bool) → eqb code 0 ≡ b → cond b (writing.Bytes (roomFor with-note)) (writing.Refused code) ≡ writing.Refused k
+      go : (b : Bool) → eqb code 0 ≡ b → cond b (writing.Bytes needed) (writing.Refused code) ≡ writing.Refused k
           → (answer.Refused k ≡ cond (eqb code 0) (answer.Items (length (runBytes (cond (eqb code 0) (map (itemOfFrame t) carried) [])))) (answer.Refused code)) × (cond (eqb code 0) (map (itemOfFrame t) carried) [] ≡ [])
       go true q b = let z : _≡_ {A = ℕ} 0 1 = cc in absurd (omega arith)
       go false q b = let e : k ≡ code = cc in (rw (q, e), rw q)

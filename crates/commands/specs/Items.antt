@@ -31,7 +31,7 @@ itemOfFrame t f = record { item = frameItem t (f .identifier); data-bytes = f .d
 
 -- The bench sender's refusal of a report, 3, 12 or 19; 0 for none. Its room is as large as any report's frames.
 unfoldable pub reportRefusal : Sending → List ℕ → ℕ
-reportRefusal s note = sendRefusal 156 (s .sender) (s .report) (given (s .noted) note)
+reportRefusal s note = sendRefusal 168 (s .sender) (s .report) (given (s .noted) note)
 
 -- The items of a report's frames, none where it is refused.
 unfoldable pub reportItems : Time → Sending → List ℕ → List Meant

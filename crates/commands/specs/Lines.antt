@@ -1,15 +1,18 @@
 -- What a line of the bench sender's text stands for.
 use Prim.Native.Nat.{ℕ, suc}
-use mathlib.Core.List.{List, [], _∷_}
+use mathlib.Core.List.{List, [], _∷_, _++_}
 use mathlib.Core.Bool.{Bool, true, false, cond, not, _||_}
 use lib.ListN.{length, getD}
 use lib.Dec.{eqb}
 use Rattle.wire.specs.Bytes.{same}
 use Rattle.items.specs.Items.{signed16}
+use Rattle.items.specs.declared.Setting.{Setting}
+use Rattle.items.specs.declared.Item.{Item}
 use Rattle.items.specs.declared.Item.the-variants as item
 use Rattle.lines.specs.declared.Number.{Number}
 use Rattle.lines.specs.Words.{tailAt, wordAt}
 use Rattle.lines.specs.Numbers.{numberIn, shortIn}
+use Rattle.values.specs.declared.Edition.the-variants as edition
 use Rattle.commands.specs.declared.Kind.{Kind}
 use Rattle.commands.specs.declared.Kind.the-variants as kind
 use Rattle.commands.specs.declared.Slot.{Slot}
@@ -17,7 +20,7 @@ use Rattle.commands.specs.declared.Time.the-variants as time
 use Rattle.commands.specs.declared.Command.{Command}
 use Rattle.commands.specs.declared.Command.the-variants as command
 
--- The words window, question, remove, show, report, noted, time and untimed, in ASCII.
+-- The words window, question, remove, show, report, noted, time, untimed, heated and heated-noted, in ASCII.
 abbrev pub windowWord : List ℕ
 windowWord = 119 ∷ 105 ∷ 110 ∷ 100 ∷ 111 ∷ 119 ∷ []
 
@@ -42,6 +45,12 @@ timeWord = 116 ∷ 105 ∷ 109 ∷ 101 ∷ []
 abbrev pub untimedWord : List ℕ
 untimedWord = 117 ∷ 110 ∷ 116 ∷ 105 ∷ 109 ∷ 101 ∷ 100 ∷ []
 
+abbrev pub heatedWord : List ℕ
+heatedWord = 104 ∷ 101 ∷ 97 ∷ 116 ∷ 101 ∷ 100 ∷ []
+
+abbrev pub heatedNotedWord : List ℕ
+heatedNotedWord = heatedWord ++ (45 ∷ notedWord)
+
 -- The kind of line that its first word names. No word, and one that starts with #, say nothing.
 unfoldable pub kindOf : List ℕ → Kind
 kindOf w =
@@ -55,7 +64,9 @@ kindOf w =
     (cond (same w notedWord) kind.Noted
     (cond (same w timeWord) kind.Time
     (cond (same w untimedWord) kind.Untimed
-    kind.Unknown)))))))))
+    (cond (same w heatedWord) kind.Heated
+    (cond (same w heatedNotedWord) kind.HeatedNoted
+    kind.Unknown)))))))))))
 
 -- The decimal number that is word n of a line, where it is at most `most`.
 unfoldable pub valueAt : ℕ → ℕ → List ℕ → Number
@@ -85,17 +96,26 @@ windowLine line =
     unless (firstFalse 1 (valueAt 1 65535 line .known ∷ noMore 2 line ∷ true ∷ true ∷ true ∷ [])) kind.Window
     (command.Item (item.Window (valueAt 1 65535 line .value)))
 
--- `question SLOT K A B`: a slot and a k that fit a byte, two weights that fit two.
+-- The weight for heat, which is 0 where it isn't given.
+unfoldable pub heatAt : List ℕ → Number
+heatAt line = cond (noMore 5 line) (record { known = true; value = 0 }) (weightAt 5 line)
+
+-- The item that sets a question, without a weight for heat or with one (rule 17.7).
+abbrev pub questionItem : Bool → Setting → Item
+questionItem bare s = cond bare (item.Set s) (item.SetHeat s)
+
+-- `question SLOT K A B`, and perhaps C: a slot and a k that fit a byte, weights that fit two.
 unfoldable pub questionLine : List ℕ → Command
 questionLine line =
     unless
-    (firstFalse 1 (valueAt 1 255 line .known ∷ valueAt 2 255 line .known ∷ weightAt 3 line .known ∷ weightAt 4 line .known ∷ noMore 5 line ∷ []))
+    (firstFalse 1 (valueAt 1 255 line .known ∷ valueAt 2 255 line .known ∷ weightAt 3 line .known ∷ weightAt 4 line .known ∷ heatAt line .known ∷ noMore 6 line ∷ []))
     kind.Question
-    (command.Item (item.Set (record {
+    (command.Item (questionItem (noMore 5 line) (record {
       slot = valueAt 1 255 line .value;
       k = valueAt 2 255 line .value;
       loss = signed16 (weightAt 3 line .value);
       shake = signed16 (weightAt 4 line .value);
+      heat = signed16 (heatAt line .value);
     })))
 
 -- One slot that fits a byte, and nothing behind it.
@@ -124,8 +144,26 @@ reportLine always line =
     (reportKind always)
     (command.Report (record {
       sender = valueAt 1 255 line .value;
-      report = record { values = record { loss = valueAt 2 65535 line .value; shake = valueAt 3 65535 line .value }; own = valueAt 4 4294967295 line .value };
+      report = record { values = record { loss = valueAt 2 65535 line .value; shake = valueAt 3 65535 line .value; edition = edition.First }; own = valueAt 4 4294967295 line .value };
       noted = always || not (noMore 5 line);
+    }))
+
+abbrev pub heatedKind : Bool → Kind
+heatedKind always = cond always kind.HeatedNoted kind.Heated
+
+-- `heated SENDER LOSS SHAKE HEAT NUMBER` with its note, and `heated-noted`.
+unfoldable pub heatedLine : Bool → List ℕ → Command
+heatedLine always line =
+    unless
+    (firstFalse 1 (valueAt 1 255 line .known ∷ valueAt 2 65535 line .known ∷ valueAt 3 65535 line .known ∷ valueAt 4 65535 line .known ∷ valueAt 5 4294967295 line .known ∷ []))
+    (heatedKind always)
+    (command.Report (record {
+      sender = valueAt 1 255 line .value;
+      report = record {
+        values = record { loss = valueAt 2 65535 line .value; shake = valueAt 3 65535 line .value; edition = edition.Second (valueAt 4 65535 line .value) };
+        own = valueAt 5 4294967295 line .value;
+      };
+      noted = always || not (noMore 6 line);
     }))
 
 -- `time MS`: MS fits four bytes. `untimed` stands alone.
@@ -147,12 +185,18 @@ byKind kind.Report line = reportLine false line
 byKind kind.Noted line = reportLine true line
 byKind kind.Time line = timeLine line
 byKind kind.Untimed line = untimedLine line
+byKind kind.Heated line = heatedLine false line
+byKind kind.HeatedNoted line = heatedLine true line
 byKind kind.Unknown line = command.Wrong (record { kind = kind.Unknown; word = 0 })
 
 -- What a line stands for.
 unfoldable pub commandOf : List ℕ → Command
 commandOf line = byKind (kindOf (wordAt 0 line)) line
 
--- A report's note: all that stands behind the first five words.
+-- How many words a report's note stands behind, by the first of them.
+unfoldable pub wordsBefore : List ℕ → ℕ
+wordsBefore w = cond (same w heatedWord || same w heatedNotedWord) 6 5
+
+-- A report's note: all that stands behind them.
 abbrev pub noteIn : List ℕ → List ℕ
-noteIn line = tailAt 5 line
+noteIn line = tailAt (wordsBefore (wordAt 0 line)) line

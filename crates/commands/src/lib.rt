@@ -1,6 +1,7 @@
 // The bench sender's text: what a line stands for, and the log items that are written for it.
-// A line is `window N`, `question SLOT K A B`, `remove SLOT`, `show SLOT`, `report SENDER LOSS SHAKE NUMBER`, with a note
-// behind it perhaps, or `noted` for a report whose note may be empty. `time MS` gives the frames behind it that time, in
+// A line is `window N`, `question SLOT K A B`, with a weight C for heat behind it perhaps, `remove SLOT`, `show SLOT`,
+// `report SENDER LOSS SHAKE NUMBER`, with a note behind it perhaps, or `noted` for a report whose note may be empty; with heat
+// these are `heated SENDER LOSS SHAKE HEAT NUMBER` and `heated-noted`. `time MS` gives the frames behind it that time, in
 // milliseconds, until `untimed` ends that. Empty lines and those that start with # say nothing.
 ghost use mathlib.Core.Path.{_≡_};
 ghost use mathlib.Core.List.{[], _∷_, map};
@@ -10,8 +11,7 @@ ghost use lib.ListN.{length, take};
 ghost use lib.Seq.{sets};
 ghost use Rattle.items.specs.Run.{runBytes};
 ghost use Rattle.bench.specs.Bench.{framesIn};
-ghost use Rattle.lines.specs.Words.{tailAt};
-ghost use Rattle.commands.specs.Lines.{kindOf, firstFalse, valueAt, weightAt, noMore, oneSlot, windowLine, questionLine, removeLine, showLine, reportKind, reportLine, timeLine, untimedLine, commandOf};
+ghost use Rattle.commands.specs.Lines.{kindOf, firstFalse, valueAt, weightAt, noMore, oneSlot, windowLine, heatAt, questionItem, questionLine, removeLine, showLine, reportKind, reportLine, heatedKind, heatedLine, timeLine, untimedLine, commandOf, wordsBefore, noteIn};
 ghost use Rattle.commands.specs.Items.{frameItem, itemOfFrame, itemsOf, answerOf, reportItems, reportAnswer, timeAfter, lineOutcome, lineItems};
 use bench::Bench;
 use items::Item;
@@ -19,6 +19,7 @@ use items::Setting;
 use lines::Number;
 use report::Report;
 use report::Written;
+use values::Edition;
 use values::Values;
 
 // What the first word of a line asks for.
@@ -32,6 +33,8 @@ pub enum Kind {
     Noted,
     Time,
     Untimed,
+    Heated,
+    HeatedNoted,
     Unknown,
 }
 
@@ -68,6 +71,12 @@ impl Kind {
         }
         if lines::same(word, b"untimed") {
             return Kind::Untimed;
+        }
+        if lines::same(word, b"heated") {
+            return Kind::Heated;
+        }
+        if lines::same(word, b"heated-noted") {
+            return Kind::HeatedNoted;
         }
         Kind::Unknown
     }
@@ -122,7 +131,7 @@ pub fn write(line: &[u8], time: Time, room: &mut [u8]) -> Outcome
     ensures { λ _. ⌜ now (room .exit) ≡ sets (now (room .entry)) 0 (runBytes (lineItems time (now (line .entry)))) ⌝ }
 {
     let command = Command::of(line);
-    let note = lines::tail(line, 5);
+    let note = note_in(line);
     Outcome {
         answer: command.put(time, note, room),
         time: command.time_after(time),
@@ -130,8 +139,8 @@ pub fn write(line: &[u8], time: Time, room: &mut [u8]) -> Outcome
 }
 
 impl Command {
-    // Bytes that are enough for any line's items: an announcement and 12 packets, 19 bytes each.
-    pub const LARGEST: usize = 247;
+    // Bytes that are enough for any line's items: an announcement and 13 packets, 19 bytes each.
+    pub const LARGEST: usize = 266;
 
     // What a line stands for.
     pub fn of(line: &[u8]) -> Command
@@ -148,6 +157,8 @@ impl Command {
             Kind::Noted => report_line(line, true),
             Kind::Time => time_line(line),
             Kind::Untimed => untimed_line(line),
+            Kind::Heated => heated_line(line, false),
+            Kind::HeatedNoted => heated_line(line, true),
             Kind::Unknown => Command::Wrong(Fault {
                 kind: Kind::Unknown,
                 word: 0,
@@ -229,6 +240,38 @@ fn first_false(a: bool, b: bool, c: bool, d: bool, e: bool) -> u8
     0
 }
 
+// The same of six tests.
+fn first_of_six(a: bool, b: bool, c: bool, d: bool, e: bool, f: bool) -> u8
+    ensures { λ r. ⌜ r ≡ firstFalse 1 (a ∷ b ∷ c ∷ d ∷ e ∷ f ∷ []) ⌝ }
+{
+    let first = first_false(a, b, c, d, e);
+    if first != 0 {
+        return first;
+    }
+    if f { 0 } else { 6 }
+}
+
+// How many words a report's note stands behind, by the first of them.
+fn words_before(word: &[u8]) -> u8
+    ensures { λ r. ⌜ r ≡ wordsBefore (now (word .entry)) ⌝ }
+{
+    if lines::same(word, b"heated") {
+        return 6;
+    }
+    if lines::same(word, b"heated-noted") {
+        return 6;
+    }
+    5
+}
+
+// A report's note.
+fn note_in(line: &[u8]) -> &[u8]
+    ensures { λ r. ⌜ now r ≡ noteIn (now (line .entry)) ⌝ }
+{
+    let words = words_before(lines::word(line, 0));
+    lines::tail(line, words)
+}
+
 fn window_line(line: &[u8]) -> Command
     ensures { λ r. ⌜ r ≡ windowLine (now (line .entry)) ⌝ }
 {
@@ -243,6 +286,26 @@ fn window_line(line: &[u8]) -> Command
     Command::Item(Item::Window(n.value as u16))
 }
 
+// The weight for heat, which is 0 where it isn't given.
+fn heat_weight(line: &[u8]) -> Number
+    ensures { λ r. ⌜ r ≡ heatAt (now (line .entry)) ⌝ }
+{
+    if no_more(line, 5) {
+        return Number {
+            known: true,
+            value: 0,
+        };
+    }
+    weight(line, 5)
+}
+
+// The item that sets a question, without a weight for heat or with one.
+fn question_item(bare: bool, s: Setting) -> Item
+    ensures { λ r. ⌜ r ≡ questionItem bare s ⌝ }
+{
+    if bare { Item::Set(s) } else { Item::SetHeat(s) }
+}
+
 fn question_line(line: &[u8]) -> Command
     ensures { λ r. ⌜ r ≡ questionLine (now (line .entry)) ⌝ }
 {
@@ -250,7 +313,15 @@ fn question_line(line: &[u8]) -> Command
     let k = value(line, 2, 255);
     let a = weight(line, 3);
     let b = weight(line, 4);
-    let wrong = first_false(slot.known, k.known, a.known, b.known, no_more(line, 5));
+    let c = heat_weight(line);
+    let wrong = first_of_six(
+        slot.known,
+        k.known,
+        a.known,
+        b.known,
+        c.known,
+        no_more(line, 6),
+    );
     if wrong != 0 {
         return Command::Wrong(Fault {
             kind: Kind::Question,
@@ -259,12 +330,15 @@ fn question_line(line: &[u8]) -> Command
     }
     let loss = items::signed16(a.value as u16);
     let shake = items::signed16(b.value as u16);
-    Command::Item(Item::Set(Setting {
+    let heat = items::signed16(c.value as u16);
+    let setting = Setting {
         slot: slot.value as u8,
         k: k.value as u8,
         loss,
         shake,
-    }))
+        heat,
+    };
+    Command::Item(question_item(no_more(line, 5), setting))
 }
 
 // A slot, or which word is wrong.
@@ -309,11 +383,11 @@ fn show_line(line: &[u8]) -> Command
     Command::Item(Item::Show(s.slot))
 }
 
-// Whether a note goes with a report: where `noted` an empty one too.
-fn has_note(line: &[u8], noted: bool) -> bool
-    ensures { λ r. ⌜ r ≡ (noted || not (noMore 5 (now (line .entry)))) ⌝ }
+// Whether a note goes with a report, behind its first n words: where `noted` an empty one too.
+fn has_note(line: &[u8], n: u8, noted: bool) -> bool
+    ensures { λ r. ⌜ r ≡ (noted || not (noMore n (now (line .entry)))) ⌝ }
 {
-    if noted { true } else { !no_more(line, 5) }
+    if noted { true } else { !no_more(line, n) }
 }
 
 fn report_line(line: &[u8], noted: bool) -> Command
@@ -336,10 +410,11 @@ fn report_line(line: &[u8], noted: bool) -> Command
             values: Values {
                 loss: loss.value as u16,
                 shake: shake.value as u16,
+                edition: Edition::First,
             },
             own: own.value,
         },
-        noted: has_note(line, noted),
+        noted: has_note(line, 5, noted),
     })
 }
 
@@ -348,6 +423,46 @@ fn report_kind(noted: bool) -> Kind
     ensures { λ r. ⌜ r ≡ reportKind noted ⌝ }
 {
     if noted { Kind::Noted } else { Kind::Report }
+}
+
+fn heated_line(line: &[u8], noted: bool) -> Command
+    ensures { λ r. ⌜ r ≡ heatedLine noted (now (line .entry)) ⌝ }
+{
+    let sender = value(line, 1, 255);
+    let loss = value(line, 2, 65535);
+    let shake = value(line, 3, 65535);
+    let heat = value(line, 4, 65535);
+    let own = value(line, 5, 4294967295);
+    let wrong = first_false(sender.known, loss.known, shake.known, heat.known, own.known);
+    if wrong != 0 {
+        return Command::Wrong(Fault {
+            kind: heated_kind(noted),
+            word: wrong,
+        });
+    }
+    Command::Report(Sending {
+        sender: sender.value as u8,
+        report: Report {
+            values: Values {
+                loss: loss.value as u16,
+                shake: shake.value as u16,
+                edition: Edition::Second(heat.value as u16),
+            },
+            own: own.value,
+        },
+        noted: has_note(line, 6, noted),
+    })
+}
+
+// Whether a line is called heated or heated-noted.
+fn heated_kind(noted: bool) -> Kind
+    ensures { λ r. ⌜ r ≡ heatedKind noted ⌝ }
+{
+    if noted {
+        Kind::HeatedNoted
+    } else {
+        Kind::Heated
+    }
 }
 
 fn time_line(line: &[u8]) -> Command
@@ -408,7 +523,7 @@ fn frame_item(time: Time, id: u32) -> Item
 // Stores the first `count` frames as items, and answers how many bytes they take.
 fn put_frames(room: &mut [u8], time: Time, frames: &[u8], count: usize) -> usize
     requires { ⌜ 12 * count ≤ length (now frames) ⌝ }
-    requires { ⌜ length (now frames) ≤ 156 ⌝ }
+    requires { ⌜ length (now frames) ≤ 168 ⌝ }
     ensures { λ r. ⌜ r ≡ length (runBytes (map (itemOfFrame time) (framesIn count (now (frames .entry))))) ⌝ }
     ensures { λ _. ⌜ now (room .exit) ≡ sets (now (room .entry)) 0 (runBytes (map (itemOfFrame time) (framesIn count (now (frames .entry))))) ⌝ }
 {

@@ -4,17 +4,21 @@ ghost use Rattle.window.specs.Rows.{rowCount};
 use board::Board;
 use board::Entered;
 use orders::BoardOrder;
+use orders::Extras;
 use question::Question;
 use ranking::Rule;
 use ranking::Weights;
 use replies::put;
 use replies::put_counted;
+use replies::put_heat;
 use replies::put_mark;
 use replies::put_number;
 use replies::put_scored;
 use replies::refused;
 use slot::Gauge;
 use slot::Shown;
+use values::Edition;
+use values::Name;
 use values::Values;
 use window::Counts;
 use window::Window;
@@ -32,13 +36,10 @@ pub fn obeyed(board: Board, order: BoardOrder, out: &mut [u8]) -> Left {
             k,
             loss,
             shake,
-            within,
-        } => {
-            let rule = pokes::ranged(Rule::of(Weights { loss, shake }), within);
-            set(board, slot, k, rule, out)
-        }
+            extras,
+        } => set(board, slot, k, rule(loss, shake, extras), out),
         BoardOrder::Remove(slot) => remove(board, slot, out),
-        BoardOrder::Enter { loss, shake } => enter(board, Values { loss, shake }, out),
+        BoardOrder::Enter(values) => enter(board, values, out),
         BoardOrder::Begin(slot) => begin(board, slot, out),
         BoardOrder::Step(slot) => step(board, slot, out),
         _ => {
@@ -49,6 +50,16 @@ pub fn obeyed(board: Board, order: BoardOrder, out: &mut [u8]) -> Left {
             }
         }
     }
+}
+
+// The rule that a line asks for. A weight of the heat that it doesn't say is 0, and a range has all values.
+fn rule(loss: i16, shake: i16, extras: Extras) -> Rule {
+    let weights = Weights {
+        loss,
+        shake,
+        heat: 0,
+    };
+    pokes::ruled(Rule::of(weights), extras)
 }
 
 // The answer to an order that makes no call which changes the board: what it asks to see, or ok of a poke.
@@ -116,22 +127,25 @@ fn read(shown: Shown, out: &mut [u8]) -> usize {
     }
     let numbers = shown.numbers;
     let scores = shown.scores;
+    let editions = shown.editions;
     let len = shown.len;
     let mut end = put_counted(out, 0, b"list", len as u64);
     let mut i: u8 = 0;
     while i < Question::LINES {
-        end = entry(i < len, numbers[i as usize], scores[i as usize], end, out);
+        let k = i as usize;
+        end = entry(i < len, numbers[k], scores[k], editions[k], end, out);
         i += 1;
     }
     end
 }
 
-// A line of a list, where it has one.
-fn entry(used: bool, number: u32, score: i32, at: usize, out: &mut [u8]) -> usize {
+// A line of a list, where it has one, with its heat, if there is one.
+fn entry(used: bool, number: u32, score: i32, edition: u16, at: usize, out: &mut [u8]) -> usize {
     if !used {
         return at;
     }
-    put_scored(out, at, number as u64, score)
+    let end = put_scored(out, at, number as u64, score);
+    put_heat(out, end, b":", Edition::of(edition))
 }
 
 fn enter(board: Board, values: Values, out: &mut [u8]) -> Left {
@@ -212,7 +226,7 @@ fn held(window: Window, out: &mut [u8]) -> usize {
         counts,
         &window.losses,
         &window.shakes,
-        &window.numbers,
+        &window.names,
         end,
         out,
     )
@@ -223,7 +237,7 @@ fn rows<'a>(
     counts: Counts,
     losses: &'a [u16; Window::ROWS],
     shakes: &'a [u16; Window::ROWS],
-    numbers: &'a [u32; Window::ROWS],
+    names: &'a [u32; Window::ROWS],
     at: usize,
     out: &mut [u8],
 ) -> usize {
@@ -232,7 +246,7 @@ fn rows<'a>(
     let mut i: u16 = 0;
     while i < held {
         let place = row_of(counts, i);
-        end = row(numbers[place], losses[place], shakes[place], end, out);
+        end = row(names[place], losses[place], shakes[place], end, out);
         i += 1;
     }
     end
@@ -254,8 +268,10 @@ fn wide(n: u32) -> usize {
     n as usize
 }
 
-fn row(number: u32, loss: u16, shake: u16, at: usize, out: &mut [u8]) -> usize {
-    let first = put_number(out, at, number as u64);
+// A row, with its heat, if there is one.
+fn row(name: u32, loss: u16, shake: u16, at: usize, out: &mut [u8]) -> usize {
+    let first = put_number(out, at, Name::number(name) as u64);
     let second = put_mark(out, first, b":", loss as u64);
-    put_mark(out, second, b":", shake as u64)
+    let end = put_mark(out, second, b":", shake as u64);
+    put_heat(out, end, b":", Name::edition(name))
 }

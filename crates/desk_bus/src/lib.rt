@@ -4,9 +4,11 @@ use bus::Bus;
 use joining::Answer;
 use orders::BusOrder;
 use orders::Extras;
+use orders::Said;
 use replies::put;
 use replies::put_bytes;
 use replies::put_counted;
+use replies::put_heat;
 use replies::put_identifier;
 use replies::put_number;
 use replies::refused;
@@ -15,7 +17,6 @@ use report::Reading;
 use report::Report;
 use report::Written;
 use times::Times;
-use values::Values;
 
 // No line holds more bytes than this.
 const BYTES: usize = 256;
@@ -40,14 +41,10 @@ pub fn obeyed(
         BusOrder::Payload { word } => payload(lines::word(line, word), out),
         BusOrder::Write {
             sender,
-            loss,
-            shake,
+            values,
             own,
             extras,
-        } => {
-            let values = Values { loss, shake };
-            write(sender, Report { values, own }, extras, line, out)
-        }
+        } => write(sender, Report { values, own }, extras, line, out),
         _ => {
             poked(order, room, known, at);
             put(out, 0, b"ok")
@@ -71,8 +68,8 @@ fn poked(
             extras,
         } => {
             poke_session(room, sender, size, count, next);
-            if extras.timed {
-                poke_time(known, at, sender, true, extras.time);
+            if extras.time.said {
+                poke_time(known, at, sender, true, extras.time.first);
             }
         }
         BusOrder::PokeByte {
@@ -133,21 +130,24 @@ fn taken(
     known: &mut [bool; Bus::SENDERS],
     at: &mut [u32; Bus::SENDERS],
 ) -> Answer {
-    if extras.timed {
-        return Times::take(room, known, at, extras.time, id, data);
+    if extras.time.said {
+        return Times::take(room, known, at, extras.time.first, id, data);
     }
     Bus::take(room, id, data)
 }
 
 // A report, with the note of its payload.
 fn put_report(report: Report, payload: &[u8], out: &mut [u8]) -> usize {
+    let values = report.values;
+    let edition = values.edition;
     let own = put_counted(out, 0, b"report", report.own as u64);
-    let loss = put_number(out, own, report.values.loss as u64);
-    let shake = put_number(out, loss, report.values.shake as u64);
+    let loss = put_number(out, own, values.loss as u64);
+    let shake = put_number(out, loss, values.shake as u64);
+    let heat = put_heat(out, shake, b" heat ", edition);
     if !Payload::has_note(payload) {
-        return shake;
+        return heat;
     }
-    let end = put(out, shake, b" note");
+    let end = put(out, heat, b" note");
     put_word(Payload::note(payload), end, out)
 }
 
@@ -203,21 +203,32 @@ fn payload(digits: &[u8], out: &mut [u8]) -> usize {
 // The bench sender.
 fn write(sender: u8, report: Report, extras: Extras, line: &[u8], out: &mut [u8]) -> usize {
     let mut bytes = [0u8; BYTES];
-    let n = ranges::bytes(lines::word(line, extras.note), &mut bytes);
+    let n = ranges::bytes(
+        lines::word(line, ranges::byte(extras.note.first)),
+        &mut bytes,
+    );
     let note = wire::front(&bytes, n);
     let mut space = [0u8; Bench::LARGEST];
     let answer = sent(
         &mut space,
-        extras.room as usize,
+        lent(extras.room),
         sender,
         report,
-        extras.noted,
+        extras.note.said,
         note,
     );
     match answer {
         Written::Refused(code) => refused(out, code),
         Written::Bytes(size) => put_frames(wire::front(&space, size), out),
     }
+}
+
+// The room that a line says; as much as any report needs where it says none.
+fn lent(room: Said) -> usize {
+    if room.said {
+        return room.first as usize;
+    }
+    Bench::LARGEST
 }
 
 // The frames written to the front of the room, of which `lent` bytes are lent, or all.

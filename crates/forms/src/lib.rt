@@ -184,7 +184,7 @@ fn put_form(buf: &mut [u8], at: usize, form: Form) -> usize {
         Form::Write => put(
             buf,
             at,
-            b"write SENDER LOSS SHAKE OWN [note BYTES] [room N]; SENDER is 0 to 255, LOSS and SHAKE 0 to 65535, OWN and N 0 to 4294967295, BYTES an even number of hexadecimal digits",
+            b"write SENDER LOSS SHAKE OWN [heat H] [note BYTES] [room N]; SENDER is 0 to 255, LOSS, SHAKE and H 0 to 65535, OWN and N 0 to 4294967295, BYTES an even number of hexadecimal digits",
         ),
         Form::Help => put(buf, at, b"help"),
         Form::Unknown => put(
@@ -201,11 +201,11 @@ fn put_board_form(buf: &mut [u8], at: usize, form: Form) -> usize {
         Form::Set => put(
             buf,
             at,
-            b"set SLOT K A B [loss LOW HIGH] [shake LOW HIGH]; SLOT and K are 0 to 255, A and B -32768 to 32767, LOW and HIGH 0 to 65535",
+            b"set SLOT K A B [heat C] [loss LOW HIGH] [shake LOW HIGH]; SLOT and K are 0 to 255, A, B and C -32768 to 32767, LOW and HIGH 0 to 65535",
         ),
         Form::Remove => put(buf, at, b"remove SLOT; SLOT is 0 to 255"),
         Form::Read => put(buf, at, b"read SLOT; SLOT is 0 to 255"),
-        Form::Enter => put(buf, at, b"enter LOSS SHAKE; each is 0 to 65535"),
+        Form::Enter => put(buf, at, b"enter LOSS SHAKE [heat H]; each is 0 to 65535"),
         Form::Begin => put(buf, at, b"begin SLOT; SLOT is 0 to 31"),
         Form::Step => put(buf, at, b"step SLOT; SLOT is 0 to 31"),
         Form::Marks => put(buf, at, b"marks SLOT; SLOT is 0 to 31"),
@@ -225,17 +225,17 @@ fn put_poke_form(buf: &mut [u8], at: usize, form: Form) -> usize {
         Form::PokeRow => put(
             buf,
             at,
-            b"poke row ROW NUMBER LOSS SHAKE; ROW is 0 to 1023, NUMBER 0 to 4294967295, LOSS and SHAKE 0 to 65535",
+            b"poke row ROW NUMBER LOSS SHAKE [heat H]; ROW is 0 to 1023, NUMBER 0 to 1048319, LOSS and SHAKE 0 to 65535, H 0 to 4095",
         ),
         Form::PokeSlot => put(
             buf,
             at,
-            b"poke slot SLOT K A B LEN NEXT [loss LOW HIGH] [shake LOW HIGH]; SLOT is 0 to 31, K and LEN 0 to 255, A and B -32768 to 32767, NEXT, LOW and HIGH 0 to 65535",
+            b"poke slot SLOT K A B LEN NEXT [heat C] [loss LOW HIGH] [shake LOW HIGH]; SLOT is 0 to 31, K and LEN 0 to 255, A, B and C -32768 to 32767, NEXT, LOW and HIGH 0 to 65535",
         ),
         Form::PokeLine => put(
             buf,
             at,
-            b"poke line SLOT PLACE NUMBER SCORE; SLOT is 0 to 31, PLACE 0 to 15, NUMBER 0 to 4294967295, SCORE -2147483648 to 2147483647",
+            b"poke line SLOT PLACE NUMBER SCORE [heat H]; SLOT is 0 to 31, PLACE 0 to 15, NUMBER 0 to 1048319, SCORE -2147483648 to 2147483647, H 0 to 4095",
         ),
         _ => put_session_poke_form(buf, at, form),
     }
@@ -251,7 +251,7 @@ fn put_session_poke_form(buf: &mut [u8], at: usize, form: Form) -> usize {
         Form::PokeByte => put(
             buf,
             at,
-            b"poke byte SENDER PLACE VALUE; SENDER is 0 to 253, PLACE 0 to 83, VALUE 0 to 255",
+            b"poke byte SENDER PLACE VALUE; SENDER is 0 to 253, PLACE 0 to 88, VALUE 0 to 255",
         ),
         Form::PokeUntimed => put(
             buf,

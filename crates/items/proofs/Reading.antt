@@ -2,21 +2,22 @@
 -- Assumes nothing.
 use mathlib.Core.Path.{_≡_, refl, sym, ap, ap₂, _∙_, subst}
 use mathlib.Core.Bool.{Bool, true, false, cond, and-eq-true-iff}
-use mathlib.Core.List.{List, [], _∷_, _++_}
-use Prim.Native.Nat.{ℕ, _+_, _^_, _≤_, _<_}
+use mathlib.Core.List.{List, [], _∷_, _++_, append-nil}
+use Prim.Native.Nat.{ℕ, zero, suc, _+_, _^_, _≤_, _<_}
 use native.Mathlib.Omega.{arith}
 use borrow.Author.Tests.{eqb-true}
 use lib.Dec.{eqb}
-use lib.ListN.{length, getD, drop, length-append, length-drop}
+use lib.ListN.{length, getD, drop, length-append, length-drop, drop-of-length-le}
 use lib.Seq.{take-at, drop-at, take-all, drop-cons}
+use lib.IntN.{ℤ, pos}
 use lib.Signed.{mag}
 use Rattle.wire.specs.Bytes.{number, bytes, part}
-use Rattle.wire.proofs.Numbers.{Bytes, length-bytes, number-bytes, number-below}
+use Rattle.wire.proofs.Numbers.{Bytes, length-bytes, number-bytes, number-below, number-past, number-two}
 use Rattle.wire.proofs.Fields.{part-number, part-split, bytes-part, length-part}
 use Rattle.items.specs.declared.Setting.{Setting}
 use Rattle.items.specs.declared.Item.{Item}
-use Rattle.items.specs.declared.Item.the-variants.{Window, Set, Frame, Remove, Show, Timed, Unknown}
-use Rattle.items.specs.Items.{signed16, unsigned16, settingBytes, settingIn, tagOf, valueOf, isItem, dataOf, itemIn}
+use Rattle.items.specs.declared.Item.the-variants.{Window, Set, Frame, Remove, Show, Timed, SetHeat, Unknown}
+use Rattle.items.specs.Items.{signed16, unsigned16, settingBytes, heatBytes, settingIn, tagOf, valueOf, isItem, dataOf, itemIn}
 use Rattle.items.specs.Run.{Meant, meantBy}
 use Rattle.items.proofs.Signs.{unsigned-below, unsigned-signed, signed-unsigned}
 
@@ -43,16 +44,50 @@ pub timed-read : (v : List ℕ) → length v ≡ 16 → itemIn 21 v ≡ Timed (n
 unfolding itemIn
 timed-read v e = rw e
 
+pub set-heat-read : (v : List ℕ) → length v ≡ 8 → itemIn 22 v ≡ SetHeat (settingIn v)
+unfolding itemIn
+set-heat-read v e = rw e
+
+-- ---- tag 17 is tag 22 with weight 0 for heat
+
+pub no-heat : (v : List ℕ) → length v ≡ 6 → settingIn v .heat ≡ pos 0
+unfolding signed16
+no-heat v e = ap signed16 (number-past v 6 2 (omega arith))
+
+abbrev pub withZero : List ℕ → List ℕ
+withZero v = v ++ (0 ∷ 0 ∷ [])
+
+-- Two bytes of 0 at the end are what is read there anyway.
+zeros : (v : List ℕ) (at : ℕ) → getD (withZero v) at 0 ≡ getD v at 0
+zeros [] zero = refl
+zeros [] (suc zero) = refl
+zeros [] (suc (suc at)) = refl
+zeros (b ∷ v) zero = refl
+zeros (b ∷ v) (suc at) = zeros v at
+
+zero-weight : (v : List ℕ) (at : ℕ) → signed16 (number (part at 2 (withZero v))) ≡ signed16 (number (part at 2 v))
+zero-weight v at = ap signed16 (omega (arith, number-two (withZero v) at, number-two v at, zeros v at, zeros v (at + 1)))
+
+pub zero-read : (v : List ℕ) → settingIn (withZero v) ≡ settingIn v
+zero-read v = λ i. record { slot = zeros v 0 i; k = zeros v 1 i; loss = zero-weight v 2 i; shake = zero-weight v 4 i; heat = zero-weight v 6 i }
+
+-- Both say one question, whose weight for heat is 0.
+pub set-as-heat : (v : List ℕ) → length v ≡ 6 → (itemIn 17 v ≡ Set (settingIn v)) × (itemIn 22 (withZero v) ≡ SetHeat (settingIn v)) × (settingIn v .heat ≡ pos 0)
+set-as-heat v e =
+    (set-read v e, set-heat-read (withZero v) (omega (arith, length-append v (0 ∷ 0 ∷ []))) ∙ ap SetHeat (zero-read v), no-heat v e)
+
 -- ---- written, then read
 
--- What fits an item's bytes: numbers of their width, and 8 data bytes with a frame, none with any other item.
+-- What fits an item's bytes: numbers of their width, no weight for heat where there is no room for it, and 8 data bytes with a frame, none with any other
+-- item.
 abbrev pub Fits : Item → List ℕ → Type 0
 Fits (Window n) ds = (n < 65536) × (ds ≡ [])
-Fits (Set s) ds = (mag (s .loss) < 32768) × (mag (s .shake) < 32768) × (ds ≡ [])
+Fits (Set s) ds = (mag (s .loss) < 32768) × (mag (s .shake) < 32768) × (s .heat ≡ pos 0) × (ds ≡ [])
 Fits (Frame id) ds = (id < 4294967296) × (length ds ≡ 8)
 Fits (Remove slot) ds = ds ≡ []
 Fits (Show slot) ds = ds ≡ []
 Fits (Timed time id) ds = (time < 4294967296) × (id < 4294967296) × (length ds ≡ 8)
+Fits (SetHeat s) ds = (mag (s .loss) < 32768) × (mag (s .shake) < 32768) × (mag (s .heat) < 32768) × (ds ≡ [])
 Fits Unknown ds = ds ≡ []
 
 abbrev pub meant : Item → List ℕ → Meant
@@ -63,37 +98,29 @@ unfolding itemIn
 window-back n h =
     rw (length-bytes 2 n, take-all 2 (bytes 2 n) (omega (arith, length-bytes 2 n)), number-bytes 2 n h)
 
--- The four parts of a question's value.
-module _ (s : Setting) where
-  abbrev a : ℕ
-  a = unsigned16 (s .loss)
+-- A weight's two bytes are read as that weight.
+weight-back : (z : ℤ) → mag z < 32768 → {l : List ℕ} → l ≡ bytes 2 (unsigned16 z) → signed16 (number l) ≡ z
+weight-back z h e = ap (λ (l : List ℕ). signed16 (number l)) e ∙ ap signed16 (number-bytes 2 (unsigned16 z) (unsigned-below z h)) ∙ signed-unsigned z h
 
-  abbrev b : ℕ
-  b = unsigned16 (s .shake)
-
-  first-part : part 2 2 (settingBytes s) ≡ bytes 2 a
+-- A question's value, without a weight for heat and with one.
+module _ (s : Setting) (a : mag (s .loss) < 32768) (b : mag (s .shake) < 32768) where
+  set-back : s .heat ≡ pos 0 → itemIn 17 (settingBytes s) ≡ Set s
   unfolding settingBytes bytes
-  first-part = refl
+  set-back none =
+      let v = settingBytes s in
+      let loss : signed16 (number (part 2 2 v)) ≡ s .loss = weight-back (s .loss) a refl in
+      let shake : signed16 (number (part 4 2 v)) ≡ s .shake = weight-back (s .shake) b refl in
+      let heat : signed16 (number (part 6 2 v)) ≡ s .heat = no-heat v refl ∙ sym none in
+      set-read v refl ∙ (λ i. Set (record { slot = s .slot; k = s .k; loss = loss i; shake = shake i; heat = heat i }))
 
-  second-part : part 4 2 (settingBytes s) ≡ bytes 2 b
-  unfolding settingBytes bytes
-  second-part = refl
-
-  six : length (settingBytes s) ≡ 6
-  unfolding settingBytes bytes
-  six = refl
-
-  setting-back : mag (s .loss) < 32768 → mag (s .shake) < 32768 → settingIn (settingBytes s) ≡ s
-  unfolding settingBytes
-  setting-back h k =
-      let loss : signed16 (number (part 2 2 (settingBytes s))) ≡ s .loss =
-      ap (λ (l : List ℕ). signed16 (number l)) first-part ∙ ap signed16 (number-bytes 2 a (unsigned-below (s .loss) h)) ∙ signed-unsigned (s .loss) h in
-      let shake : signed16 (number (part 4 2 (settingBytes s))) ≡ s .shake =
-      ap (λ (l : List ℕ). signed16 (number l)) second-part ∙ ap signed16 (number-bytes 2 b (unsigned-below (s .shake) k)) ∙ signed-unsigned (s .shake) k in
-      λ i. record { slot = s .slot; k = s .k; loss = loss i; shake = shake i }
-
-  set-back : mag (s .loss) < 32768 → mag (s .shake) < 32768 → itemIn 17 (settingBytes s) ≡ Set s
-  set-back h k = set-read (settingBytes s) six ∙ ap Set (setting-back h k)
+  set-heat-back : mag (s .heat) < 32768 → itemIn 22 (heatBytes s) ≡ SetHeat s
+  unfolding settingBytes heatBytes bytes
+  set-heat-back c =
+      let v = heatBytes s in
+      let loss : signed16 (number (part 2 2 v)) ≡ s .loss = weight-back (s .loss) a refl in
+      let shake : signed16 (number (part 4 2 v)) ≡ s .shake = weight-back (s .shake) b refl in
+      let heat : signed16 (number (part 6 2 v)) ≡ s .heat = weight-back (s .heat) c refl in
+      set-heat-read v refl ∙ (λ i. SetHeat (record { slot = s .slot; k = s .k; loss = loss i; shake = shake i; heat = heat i }))
 
 module _ (id : ℕ) (ds : List ℕ) (eight : length ds ≡ 8) where
   twelve : length (bytes 4 id ++ ds) ≡ 12
@@ -133,11 +160,12 @@ unknown-back = refl
 -- What is written for an item is read as that item.
 pub written-back : (i : Item) (ds : List ℕ) → Fits i ds → meantBy (tagOf i) (valueOf i ds) ≡ meant i ds
 written-back (Window n) ds fits = rw (window-back n (fits .0), fits .1)
-written-back (Set s) ds fits = rw (set-back s (fits .0) (fits .1), fits .2)
+written-back (Set s) ds fits = rw (set-back s (fits .0) (fits .1) (fits .2), fits .3)
 written-back (Frame id) ds fits = rw (frame-back id ds (fits .1) (fits .0), data-back id ds (fits .1))
 written-back (Remove slot) ds fits = rw (remove-read slot, fits)
 written-back (Show slot) ds fits = rw (show-read slot, fits)
 written-back (Timed time id) ds fits = rw (timed-back id ds (fits .2) time (fits .0) (fits .1), timed-data-back id ds (fits .2) time)
+written-back (SetHeat s) ds fits = rw (set-heat-back s (fits .0) (fits .1) (fits .2), fits .3)
 written-back Unknown ds fits = rw fits unknown-back
 
 -- ---- read, then written
@@ -153,14 +181,16 @@ module _ (P : Item → Type 0) (tag : ℕ) (v : List ℕ) where
 
   pub by-cases : (tag ≡ 16 → length v ≡ 2 → P (Window (number (part 0 2 v)))) → (tag ≡ 17 → length v ≡ 6 → P (Set (settingIn v)))
       → (tag ≡ 18 → length v ≡ 12 → P (Frame (number (part 0 4 v)))) → (tag ≡ 19 → length v ≡ 1 → P (Remove (getD v 0 0)))
-      → (tag ≡ 20 → length v ≡ 1 → P (Show (getD v 0 0))) → (tag ≡ 21 → length v ≡ 16 → P (Timed (number (part 0 4 v)) (number (part 4 4 v)))) → P Unknown
-      → P (itemIn tag v)
+      → (tag ≡ 20 → length v ≡ 1 → P (Show (getD v 0 0))) → (tag ≡ 21 → length v ≡ 16 → P (Timed (number (part 0 4 v)) (number (part 4 4 v))))
+      → (tag ≡ 22 → length v ≡ 8 → P (SetHeat (settingIn v))) → P Unknown → P (itemIn tag v)
   unfolding itemIn
-  by-cases w s f r q t u =
+  by-cases w s f r q t h u =
       case 16 2 (Window (number (part 0 2 v))) w
       (case 17 6 (Set (settingIn v)) s
       (case 18 12 (Frame (number (part 0 4 v))) f
-      (case 19 1 (Remove (getD v 0 0)) r (case 20 1 (Show (getD v 0 0)) q (case 21 16 (Timed (number (part 0 4 v)) (number (part 4 4 v))) t u)))))
+      (case 19 1 (Remove (getD v 0 0)) r
+      (case 20 1 (Show (getD v 0 0)) q
+      (case 21 16 (Timed (number (part 0 4 v)) (number (part 4 4 v))) t (case 22 8 (SetHeat (settingIn v)) h u))))))
 
 one-byte : (v : List ℕ) → length v ≡ 1 → getD v 0 0 ∷ [] ≡ v
 one-byte [] e = absurd (omega arith)
@@ -178,11 +208,24 @@ weight-bytes v at bs h =
     let small : number (part at 2 v) < 65536 = subst (λ (n : ℕ). number (part at 2 v) < 256 ^ n) two (number-below (part at 2 v) (bytes-part v at 2 bs)) in
     ap (bytes 2) (unsigned-signed (number (part at 2 v)) small) ∙ sym (part-number v at 2 bs h)
 
+-- A question up to its weight for heat, and what stands behind.
+setting-rest : (v : List ℕ) → Bytes v → 6 ≤ length v → settingBytes (settingIn v) ++ drop 6 v ≡ v
+unfolding settingBytes bytes
+setting-rest v bs h =
+    ap₂ (λ (x y : List ℕ). getD v 0 0 ∷ (getD v 1 0 ∷ (x ++ (y ++ drop 6 v)))) (weight-bytes v 2 bs (omega arith)) (weight-bytes v 4 bs (omega arith))
+    ∙ sym
+    (drop-cons v 0 0 (omega arith)
+    ∙ ap (λ (l : List ℕ). getD v 0 0 ∷ l)
+    (drop-cons v 1 0 (omega arith) ∙ ap (λ (l : List ℕ). getD v 1 0 ∷ l) (part-split v 2 2 ∙ ap (λ (l : List ℕ). part 2 2 v ++ l) (part-split v 4 2))))
+
 setting-bytes : (v : List ℕ) → Bytes v → length v ≡ 6 → settingBytes (settingIn v) ≡ v
-unfolding settingBytes
-setting-bytes v bs six =
-    ap₂ (λ (x y : List ℕ). getD v 0 0 ∷ (getD v 1 0 ∷ (x ++ y))) (weight-bytes v 2 bs (omega arith)) (weight-bytes v 4 bs (omega arith) ∙ to-the-end v 4 2 (omega arith))
-    ∙ sym (drop-cons v 0 0 (omega arith) ∙ ap (λ (l : List ℕ). getD v 0 0 ∷ l) (drop-cons v 1 0 (omega arith) ∙ ap (λ (l : List ℕ). getD v 1 0 ∷ l) (part-split v 2 2)))
+setting-bytes v bs e =
+    sym (append-nil (settingBytes (settingIn v))) ∙ ap (λ (l : List ℕ). settingBytes (settingIn v) ++ l) (sym (drop-of-length-le v {i = 6} (omega arith))) ∙ setting-rest v bs (omega arith)
+
+heat-bytes : (v : List ℕ) → Bytes v → length v ≡ 8 → heatBytes (settingIn v) ≡ v
+unfolding heatBytes
+heat-bytes v bs e =
+    ap (λ (l : List ℕ). settingBytes (settingIn v) ++ l) (weight-bytes v 6 bs (omega arith) ∙ to-the-end v 6 2 (omega arith)) ∙ setting-rest v bs (omega arith)
 
 -- A frame up to the end.
 frame-bytes : (v : List ℕ) (at : ℕ) → Bytes v → at + 12 ≡ length v → bytes 4 (number (part at 4 v)) ++ part (at + 4) 8 v ≡ drop at v
@@ -203,13 +246,14 @@ read-back tag v bs =
     (λ t e k. (sym t, one-byte v e))
     (λ t e k. (sym t, one-byte v e))
     (λ t e k. (sym t, timed-bytes v bs e))
+    (λ t e k. (sym t, heat-bytes v bs e))
     (λ k. absurd (k refl))
 
 -- No value that is empty or of more than 16 bytes is known.
 pub long-unknown : (tag : ℕ) (v : List ℕ) → 16 < length v → itemIn tag v ≡ Unknown
 long-unknown tag v h =
-    by-cases (λ i. i ≡ Unknown) tag v (λ t e. absurd (omega arith)) (λ t e. absurd (omega arith)) (λ t e. absurd (omega arith)) (λ t e. absurd (omega arith)) (λ t e. absurd (omega arith)) (λ t e. absurd (omega arith)) refl
+    by-cases (λ i. i ≡ Unknown) tag v (λ t e. absurd (omega arith)) (λ t e. absurd (omega arith)) (λ t e. absurd (omega arith)) (λ t e. absurd (omega arith)) (λ t e. absurd (omega arith)) (λ t e. absurd (omega arith)) (λ t e. absurd (omega arith)) refl
 
 pub empty-unknown : (tag : ℕ) → itemIn tag [] ≡ Unknown
 empty-unknown tag =
-    by-cases (λ i. i ≡ Unknown) tag [] (λ t e. absurd (omega arith)) (λ t e. absurd (omega arith)) (λ t e. absurd (omega arith)) (λ t e. absurd (omega arith)) (λ t e. absurd (omega arith)) (λ t e. absurd (omega arith)) refl
+    by-cases (λ i. i ≡ Unknown) tag [] (λ t e. absurd (omega arith)) (λ t e. absurd (omega arith)) (λ t e. absurd (omega arith)) (λ t e. absurd (omega arith)) (λ t e. absurd (omega arith)) (λ t e. absurd (omega arith)) (λ t e. absurd (omega arith)) refl

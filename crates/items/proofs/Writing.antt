@@ -1,10 +1,10 @@
 -- The parts of an item stand in a row: each store goes behind the last.
 -- Assumes nothing.
-use mathlib.Core.Path.{_≡_, sym, ap, _∙_, subst}
+use mathlib.Core.Path.{_≡_, refl, sym, ap, _∙_, subst}
 use mathlib.Core.List.{List, _++_}
 use Prim.Native.Nat.{ℕ, _+_, _%_}
 use native.Mathlib.Omega.{arith}
-use lib.ListN.{length, set, replicate, length-append}
+use lib.ListN.{length, take, set, replicate, length-append}
 use lib.Seq.{sets}
 use Rattle.wire.specs.Bytes.{bytes, head, field}
 use Rattle.wire.proofs.Fields.{length-field}
@@ -12,13 +12,23 @@ use Rattle.wire.proofs.Numbers.{length-bytes}
 use Rattle.wire.proofs.Stores.{put-tag, put-value, head-low, sets-append}
 use Rattle.items.specs.declared.Item.{Item}
 use Rattle.items.specs.declared.Setting.{Setting}
-use Rattle.items.specs.Items.{unsigned16, settingBytes, itemBytes}
+use Rattle.items.specs.Items.{unsigned16, settingBytes, heatBytes, itemBytes}
 
 -- A question's value.
-pub setting-stored : (s : Setting) {a b : ℕ} {b₁ b₂ b₃ b₄ : List ℕ} → a ≡ unsigned16 (s .loss) → b ≡ unsigned16 (s .shake)
-    → b₁ ≡ set (replicate 6 0) 0 (s .slot) → b₂ ≡ set b₁ 1 (s .k) → b₃ ≡ sets b₂ 2 (bytes 2 a) → b₄ ≡ sets b₃ 4 (bytes 2 b) → b₄ ≡ settingBytes s
-unfolding settingBytes bytes
-setting-stored s e f e₁ e₂ e₃ e₄ = rw (e₄, e₃, e₂, e₁, e, f)
+pub setting-stored : (s : Setting) {a b c : ℕ} {b₁ b₂ b₃ b₄ b₅ : List ℕ} → a ≡ unsigned16 (s .loss) → b ≡ unsigned16 (s .shake) → c ≡ unsigned16 (s .heat)
+    → b₁ ≡ set (replicate 8 0) 0 (s .slot) → b₂ ≡ set b₁ 1 (s .k) → b₃ ≡ sets b₂ 2 (bytes 2 a) → b₄ ≡ sets b₃ 4 (bytes 2 b) → b₅ ≡ sets b₄ 6 (bytes 2 c)
+    → b₅ ≡ heatBytes s
+unfolding settingBytes heatBytes bytes
+setting-stored s e f g e₁ e₂ e₃ e₄ e₅ = rw (e₅, e₄, e₃, e₂, e₁, e, f, g)
+
+-- As much of it as the tag has.
+pub six-of : (s : Setting) → take 6 (heatBytes s) ≡ settingBytes s
+unfolding settingBytes heatBytes bytes
+six-of s = refl
+
+pub eight-of : (s : Setting) → take 8 (heatBytes s) ≡ heatBytes s
+unfolding settingBytes heatBytes bytes
+eight-of s = refl
 
 -- A frame's tag and length, the bytes before its identifier, the identifier and the data.
 pub frame-stored : (b : List ℕ) {b₁ b₂ b₃ b₄ b₅ : List ℕ} (at tag : ℕ) (w : List ℕ) (id : ℕ) (d : List ℕ) → b₁ ≡ set b at tag

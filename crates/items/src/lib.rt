@@ -5,10 +5,10 @@ ghost use mathlib.Core.Bool.{_&&_};
 ghost use mathlib.Core.List.{[], _∷_, _++_};
 ghost use Prim.Native.Nat.{_≤_};
 ghost use lib.Dec.{eqb};
-ghost use lib.ListN.{length};
+ghost use lib.ListN.{length, take};
 ghost use lib.Seq.{sets};
 ghost use Rattle.wire.specs.Bytes.{bytes, part, field};
-ghost use Rattle.items.specs.Items.{signed16, unsigned16, settingIn, settingBytes, dataOf, itemIn, itemBytes};
+ghost use Rattle.items.specs.Items.{signed16, unsigned16, settingIn, heatBytes, dataOf, itemIn, itemBytes};
 use wire::Field;
 
 // A question that is to be set: its slot, its k and its weights.
@@ -17,11 +17,12 @@ pub struct Setting {
     pub k: u8,
     pub loss: i16,
     pub shake: i16,
+    pub heat: i16,
 }
 
-// An item by what it says: the size of the window, a question, a frame's identifier, a slot to empty, a slot to show, the time
-// and the identifier of a frame that has a time. A frame's data bytes stay where they are, behind the identifier. An unknown
-// tag, or a length that isn't its tag's, is unknown.
+// An item by what it says: the size of the window, a question whose weight for heat is 0, a frame's identifier, a slot to
+// empty, a slot to show, the time and the identifier of a frame that has a time, a question with any weight for heat. A
+// frame's data bytes stay where they are, behind the identifier. An unknown tag, or a length that isn't its tag's, is unknown.
 pub enum Item {
     Window(u16),
     Set(Setting),
@@ -29,6 +30,7 @@ pub enum Item {
     Remove(u8),
     Show(u8),
     Timed(u32, u32),
+    SetHeat(Setting),
     Unknown,
 }
 
@@ -46,6 +48,8 @@ impl Item {
 
     pub const TIMED: u8 = 21;
 
+    pub const SET_HEAT: u8 = 22;
+
     // The lengths of their values.
     pub const WINDOW_SIZE: usize = 2;
 
@@ -58,6 +62,8 @@ impl Item {
     pub const SHOW_SIZE: usize = 1;
 
     pub const TIMED_SIZE: usize = 16;
+
+    pub const SET_HEAT_SIZE: usize = 8;
 
     // The longest value of a known item.
     pub const LONGEST: usize = 16;
@@ -96,6 +102,9 @@ impl Item {
         if is_item(tag, size, Item::TIMED, Item::TIMED_SIZE) {
             return Item::Timed(wire::read32(value, 0), wire::read32(value, Item::TIME));
         }
+        if is_item(tag, size, Item::SET_HEAT, Item::SET_HEAT_SIZE) {
+            return Item::SetHeat(Setting::read(value));
+        }
         Item::Unknown
     }
 
@@ -122,7 +131,7 @@ impl Item {
                 Field::HEAD + Item::WINDOW_SIZE
             }
             Item::Set(s) => {
-                put_setting(room, at, s);
+                put_setting(room, at, Item::SET, Item::SET_SIZE, s);
                 Field::HEAD + Item::SET_SIZE
             }
             Item::Frame(id) => {
@@ -141,6 +150,10 @@ impl Item {
                 put_timed(room, at, time, id, data);
                 Field::HEAD + Item::TIME + Item::DATA + data.len()
             }
+            Item::SetHeat(s) => {
+                put_setting(room, at, Item::SET_HEAT, Item::SET_HEAT_SIZE, s);
+                Field::HEAD + Item::SET_HEAT_SIZE
+            }
             Item::Unknown => {
                 wire::put_field(room, at, 0, wire::front(data, 0));
                 Field::HEAD
@@ -158,11 +171,13 @@ impl Setting {
         let k = wire::byte(value, 1);
         let loss = signed16(wire::read16(value, 2));
         let shake = signed16(wire::read16(value, 4));
+        let heat = signed16(wire::read16(value, 6));
         Setting {
             slot,
             k,
             loss,
             shake,
+            heat,
         }
     }
 }
@@ -207,16 +222,17 @@ fn unsigned16(z: i16) -> u16
     }
 }
 
-// Stores an item that sets a question.
-fn put_setting(room: &mut [u8], at: usize, s: Setting)
-    ensures { λ _. ⌜ now (room .exit) ≡ sets (now (room .entry)) at (field 17 (settingBytes s)) ⌝ }
+// Stores an item that sets a question: as much of its value as the tag has.
+fn put_setting(room: &mut [u8], at: usize, tag: u8, size: usize, s: Setting)
+    ensures { λ _. ⌜ now (room .exit) ≡ sets (now (room .entry)) at (field tag (take size (heatBytes s))) ⌝ }
 {
-    let mut value = [0u8; Item::SET_SIZE];
+    let mut value = [0u8; Item::SET_HEAT_SIZE];
     wire::put(&mut value, 0, s.slot);
     wire::put(&mut value, 1, s.k);
     wire::put16(&mut value, 2, unsigned16(s.loss));
     wire::put16(&mut value, 4, unsigned16(s.shake));
-    wire::put_field(room, at, Item::SET, &value);
+    wire::put16(&mut value, 6, unsigned16(s.heat));
+    wire::put_field(room, at, tag, wire::front(&value, size));
 }
 
 // Stores an item that is a frame, with `first` before its identifier: the bytes of its time, or none.

@@ -10,25 +10,25 @@ use lib.Dec.{leb, ltb, eqb}
 use Rattle.joining.specs.declared.Session.{Session}
 use Rattle.joining.specs.Joining.{packets, carries, isClosed, isOpen, fit}
 
--- A size that a payload of ours can have is 17, or 20 to 84.
-pub carried : (n : ℕ) → carries n ≡ true → (n ≡ 17) ⊎ ((20 ≤ n) × (n ≤ 84))
+-- A size that a payload of ours can have is 17, or 20 to 89.
+pub carried : (n : ℕ) → carries n ≡ true → (n ≡ 17) ⊎ ((20 ≤ n) × (n ≤ 89))
 unfolding carries
 carried n = go (eqb n 17) refl
   where
-    go : (b : Bool) → eqb n 17 ≡ b → (b || leb 20 n && leb n 84) ≡ true → (n ≡ 17) ⊎ ((20 ≤ n) × (n ≤ 84))
+    go : (b : Bool) → eqb n 17 ≡ b → (b || leb 20 n && leb n 89) ≡ true → (n ≡ 17) ⊎ ((20 ≤ n) × (n ≤ 89))
     go true e h = inl (eqb-true n 17 e)
     go false e h =
-        let p = and-eq-true-iff (leb 20 n) (leb n 84) .0 h in
-        inr (leb-true 20 n (p .0), leb-true n 84 (p .1))
+        let p = and-eq-true-iff (leb 20 n) (leb n 89) .0 h in
+        inr (leb-true 20 n (p .0), leb-true n 89 (p .1))
 
-pub carried-range : (n : ℕ) → carries n ≡ true → (17 ≤ n) × (n ≤ 84)
+pub carried-range : (n : ℕ) → carries n ≡ true → (17 ≤ n) × (n ≤ 89)
 carried-range n h = ⊎-elim (λ e. (omega arith, omega arith)) (λ w. (omega arith, w .1)) (carried n h)
 
 -- The numbers of an open session.
 pub record Open (s : Session) : Type 0 where
   pub carried : carries (s .size) ≡ true
   pub low : 17 ≤ s .size
-  pub high : s .size ≤ 84
+  pub high : s .size ≤ 89
   pub count : s .count ≡ packets (s .size)
   pub first : 1 ≤ s .next
   pub last : s .next ≤ s .count

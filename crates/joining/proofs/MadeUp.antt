@@ -36,7 +36,7 @@ pub record Opening (s : Session) (h : List Frame) : Type 0 where
   pub announces : Announces (s .size) announced
   pub sequence : InSequence 1 middle
   pub due : s .next ≡ suc (length middle)
-  pub long : length (s .bytes) ≡ 84
+  pub long : length (s .bytes) ≡ 89
   pub holds : take (7 * length middle) (s .bytes) ≡ joined middle
 
 abbrev Traced : Session → List Frame → Type 0
@@ -77,7 +77,7 @@ module _ (s : Session) (h : List Frame) (f : Frame) (o : Open s) (t : Opening s 
   at : place s ≡ 7 * length (t .middle)
   at = omega (arith, t .due)
 
-  room : place s + length new ≤ 84
+  room : place s + length new ≤ 89
   unfolding new
   room = omega (arith, o .last, o .count, o .high, o .first, length-take (s .size - place s) (drop 1 (f .data-bytes)))
 
@@ -151,7 +151,7 @@ starts n h f a =
       announces = a;
       sequence = tt;
       due = refl;
-      long = length-replicate {A = ℕ} 84 255;
+      long = length-replicate {A = ℕ} 89 255;
       holds = joined-none;
     }
 

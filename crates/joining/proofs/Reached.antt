@@ -68,9 +68,9 @@ pub reached-fit : (fs : List Frame) (k : ℕ) → k < 254 → fit (sessionOf k (
 reached-fit fs k h =
     rw (mixing k h freshSessions fs (length-replicate 254 freshSession) .0, fresh-of k h) (solo-fit freshSession (ownFrames k fs) fresh-fit)
 
--- What the payload bytes of a session are: 84 of them, each a byte.
+-- What the payload bytes of a session are: 89 of them, each a byte.
 pub record Held (bs : List ℕ) : Type 0 where
-  pub long : length bs ≡ 84
+  pub long : length bs ≡ 89
   pub low : Bytes bs
 
 -- The frames' data are bytes.
@@ -94,8 +94,8 @@ bytes-replicate zero i = lit< tt
 bytes-replicate (suc n) zero = lit< tt
 bytes-replicate (suc n) (suc i) = bytes-replicate n i
 
-pub blank-held : Held (replicate 84 255)
-blank-held = record { long = length-replicate {A = ℕ} 84 255; low = bytes-replicate 84 }
+pub blank-held : Held (replicate 89 255)
+blank-held = record { long = length-replicate {A = ℕ} 89 255; low = bytes-replicate 89 }
 
 pub stored-held : (s : Session) (d : List ℕ) → Bytes d → Held (s .bytes) → Held (stored s d)
 stored-held s d b h =

@@ -1,4 +1,4 @@
--- One sender's session, and what a frame does to it (docs/RULES.md, section 3).
+-- One sender's session, and what a frame does to it (docs/RULES.md, sections 3 and 17).
 use Prim.Native.Nat.{ℕ, _+_, _-_, _*_, _/_}
 use mathlib.Core.Bool.{Bool, cond, not, _&&_, _||_}
 use mathlib.Core.List.{List}
@@ -6,7 +6,7 @@ use lib.ListN.{getD, take, drop, replicate}
 use lib.Seq.{sets}
 use lib.Dec.{leb, ltb, eqb}
 use Rattle.wire.specs.Bytes.{number, part}
-use Rattle.report.specs.Payload.{largestPayload, readPayload}
+use Rattle.report.specs.Payload.{largestPayload, plainIn, readPayload}
 use Rattle.report.specs.declared.Reading.{Reading}
 use Rattle.report.specs.declared.Reading.the-variants as reading
 use Rattle.joining.specs.declared.Session.{Session}
@@ -19,7 +19,7 @@ use Rattle.joining.specs.Frame.{frameRefusal, isAnnouncement}
 abbrev pub packets : ℕ → ℕ
 packets size = (size + 6) / 7
 
--- The sizes that a payload of ours can have: 17, or 20 to 84.
+-- The sizes that can be announced for a payload of ours: 17, or 20 to 89. Which edition it is of its bytes say, when they are there.
 unfoldable pub carries : ℕ → Bool
 carries size = eqb size 17 || leb 20 size && leb size largestPayload
 
@@ -110,9 +110,10 @@ take-frame s id d =
     (cond (not (fit s)) (refused 24 s)
     (cond (isAnnouncement id) (announce s d) (packet s d)))
 
--- The size of the payload that a session's bytes hold when a report was finished: the note's field says it, and without one 255 stands there.
+-- The size of the payload that a session's bytes hold when a report was finished: behind the numbers of its edition the note's field says it,
+-- and without one 255 stands there.
 abbrev pub sizeHeld : List ℕ → ℕ
-sizeHeld bs = cond (eqb (getD bs 17 0) 4) (20 + number (part 18 2 bs)) 17
+sizeHeld bs = cond (eqb (getD bs (plainIn bs) 0) 4) (plainIn bs + 3 + number (part (plainIn bs + 1) 2 bs)) (plainIn bs)
 
 -- That payload, as a part of the session's bytes.
 unfoldable pub payloadHeld : List ℕ → List ℕ

@@ -3,4 +3,5 @@ pub mod Frame
 pub mod Joining
 pub mod Run
 pub mod Answers
+pub mod First
 pub mod Inner

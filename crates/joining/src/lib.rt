@@ -13,6 +13,7 @@ ghost use Rattle.joining.specs.Inner.{sessionWith, beside};
 
 mod lent;
 
+use report::Note;
 use report::Payload;
 use report::Reading;
 use report::Report;
@@ -378,9 +379,10 @@ pub fn answered(payload: &[u8]) -> Answer
 fn size_held(bytes: &[u8]) -> usize
     ensures { λ r. ⌜ r ≡ sizeHeld (now (bytes .entry)) ⌝ }
 {
-    if wire::byte(bytes, 17) == 4 {
-        20 + (wire::read16(bytes, 18) as usize)
+    let plain = Payload::plain_in(bytes);
+    if wire::byte(bytes, plain) == Note::TAG {
+        plain + 3 + (wire::read16(bytes, plain + 1) as usize)
     } else {
-        17
+        plain
     }
 }

@@ -11,6 +11,7 @@ use printing::refused;
 use printing::text;
 use report::Payload;
 use report::Report;
+use values::Edition;
 use values::Values;
 
 // A session with these numbers and the first bytes of P1's payload.
@@ -111,7 +112,7 @@ fn touched(session: Session) -> bool {
 }
 
 pub fn write(line: &[u8]) {
-    let mut space = [238u8; 157];
+    let mut space = [238u8; 169];
     let room: &mut [u8] = &mut space;
     let size = cases::byte(line, 1) as usize;
     if size <= room.len() {
@@ -123,6 +124,7 @@ fn write_in(room: &mut [u8], line: &[u8]) {
     let values = Values {
         loss: cases::short(line, 3),
         shake: cases::short(line, 4),
+        edition: Edition::of(cases::short(line, 8)),
     };
     let report = Report {
         values,

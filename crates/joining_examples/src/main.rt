@@ -9,10 +9,10 @@
 // bus                            a fresh session for every sender
 // take ID DATA..                 the bus takes a frame: the answer
 // left                           the sessions of the bus that are not fresh
-// write ROOM SENDER LOSS SHAKE OWN NOTED LENGTH
+// write ROOM SENDER LOSS SHAKE OWN NOTED LENGTH EDITION
 //                                the bench sender, with a note of that length: its answer, and the room that it leaves
 //
-// ID and DATA are hexadecimal, the other numbers decimal.
+// ID and DATA are hexadecimal, the other numbers decimal. EDITION is one more than the heat, and 0 or nothing without one.
 mod calls;
 mod print;
 

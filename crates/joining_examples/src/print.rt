@@ -7,6 +7,7 @@ use printing::refused;
 use printing::text;
 use report::Report;
 use report::Written;
+use values::Edition;
 
 pub fn answer(a: Answer) {
     text(b"\n ");
@@ -22,6 +23,12 @@ fn report(r: Report) {
     number(r.values.loss as u64);
     number(r.values.shake as u64);
     number(r.own as u64);
+    let values = r.values;
+    let edition = values.edition;
+    if let Edition::Second(heat) = edition {
+        text(b" heat");
+        number(heat as u64);
+    }
 }
 
 // The size, the count and the next packet, and the payload bytes up to the last that isn't 255.

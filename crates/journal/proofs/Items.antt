@@ -8,7 +8,7 @@ use lib.ListN.{length}
 use Rattle.items.specs.declared.Item.{Item}
 use Rattle.items.specs.declared.Item.the-variants.{Unknown}
 use Rattle.items.specs.Items.{settingIn, dataOf, itemIn}
-use Rattle.items.proofs.Reading.{set-read, frame-read, remove-read, show-read, timed-read}
+use Rattle.items.proofs.Reading.{withZero, set-read, frame-read, remove-read, show-read, timed-read, set-heat-read, set-as-heat}
 use Rattle.board.proofs.Refusals.{zero-is}
 use Rattle.journal.specs.declared.Log.{Log}
 use Rattle.journal.specs.Log.{withItem, refused, unless, early, itemRefusal, setItem, removeItem, showItem, frameIn, timedIn, frameItem, byItem, itemDone}
@@ -22,6 +22,13 @@ pub unknown-done : (log : Log) (tag : ℕ) (v : List ℕ) → itemIn tag v ≡ U
 unfolding itemDone itemRefusal unless
 unknown-done log tag v e = rw e
 
+-- Rule 17.7: an item of tag 17 is one of tag 22 with the weight 0 behind its value, in any log.
+pub tag-17 : (log : Log) (v : List ℕ) → length v ≡ 6 → itemDone log 17 v ≡ itemDone log 22 (withZero v)
+unfolding itemDone itemRefusal byItem
+tag-17 log v e =
+    let both = set-as-heat v e in
+    rw (both .0, both .1)
+
 module _ (log : Log) (there : log .board .window .counts .size ≡ 0 → ⊥) where
   in-place : early (withItem log) ≡ 0
   in-place = rw (ne-eqb (log .board .window .counts .size) 0 there)
@@ -29,6 +36,10 @@ module _ (log : Log) (there : log .board .window .counts .size ≡ 0 → ⊥) wh
   pub set-done : (v : List ℕ) → length v ≡ 6 → itemDone log 17 v ≡ setItem (withItem log) (settingIn v)
   unfolding itemRefusal byItem
   set-done v e = done-by log 17 v (set-read v e) in-place
+
+  pub set-heat-done : (v : List ℕ) → length v ≡ 8 → itemDone log 22 v ≡ setItem (withItem log) (settingIn v)
+  unfolding itemRefusal byItem
+  set-heat-done v e = done-by log 22 v (set-heat-read v e) in-place
 
   pub frame-done : (v : List ℕ) → length v ≡ 12 → itemDone log 18 v ≡ frameItem (withItem log) (frameIn v)
   unfolding itemRefusal byItem

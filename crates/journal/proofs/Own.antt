@@ -23,7 +23,7 @@ use Rattle.window.specs.declared.Counts.{Counts}
 use Rattle.window.proofs.Fitness.{fit-facts}
 use Rattle.question.specs.declared.Question.{Question}
 use Rattle.question.specs.Lines.{emptySlot, finished, inRows}
-use Rattle.list.specs.Lines.{allOf}
+use Rattle.list.specs.Lines.{allOf, numbersIn}
 use Rattle.list.proofs.Blank.{all-in}
 use Rattle.board.specs.Work.{slotAt, freshBoard, setWork, removeWork, readWork, newReport, outgoing, turned, enterRefusal, enterWork}
 use Rattle.board.specs.Calls.{fitBoard, enterCall}
@@ -58,7 +58,7 @@ use Rattle.text.specs.Text as text
 use Rattle.text.proofs.Lengths.{listed-in-range}
 use Rattle.items.specs.declared.Setting.{Setting}
 use Rattle.items.specs.declared.Item.{Item}
-use Rattle.items.specs.declared.Item.the-variants.{Window, Set, Remove, Show, Unknown}
+use Rattle.items.specs.declared.Item.the-variants.{Window, Set, Remove, Show, SetHeat, Unknown}
 use Rattle.items.specs.declared.Item.the-variants as item
 use Rattle.items.specs.Items.{dataOf, itemIn}
 use Rattle.journal.specs.declared.Log.{Log}
@@ -266,9 +266,9 @@ module _ (fs : List Timed) (log : Log) (heard : stationsOf log ≡ stationsAfter
           let there = ltb-true slot 32 t in
           let q = slotAt b slot in
           let small = each slot there in
-          let short : length (take (q .len) (text.entriesOf (q .numbers) (q .scores))) ≤ 16 = simp length-take (omega (arith, small .few)) in
+          let short : length (take (q .len) (text.entriesOf (numbersIn (q .names)) (q .scores))) ≤ 16 = simp length-take (omega (arith, small .few)) in
           subst P (sym (if-so _ _ t ∙ if-not _ _ u))
-          (does log 0 refl (record { own = owns is; prints = list slot _ there short (listed-in-range (q .len) (q .numbers) (q .scores) (small .numbers) (small .scores)) refl }))
+          (does log 0 refl (record { own = owns is; prints = list slot _ there short (listed-in-range (q .len) (numbersIn (q .names)) (q .scores) (small .numbers) (small .scores)) refl }))
       go (passed t) (passed u) = subst P (sym (if-so _ _ t ∙ if-so _ _ u)) (refused-does 17 _ is (omega arith) refl)
       go (failed t) u = subst P (sym (if-not _ _ t)) (refused-does 13 _ is (omega arith) refl)
 
@@ -318,6 +318,7 @@ item-code log (item.Frame id) = early-code log
 item-code log (Remove slot) = early-code log
 item-code log (Show slot) = early-code log
 item-code log (item.Timed time id) = early-code log
+item-code log (SetHeat s) = early-code log
 
 pub no-window : freshBoard 0 .board .window .counts .size ≡ 0
 unfolding freshBoard freshWindow
@@ -352,15 +353,19 @@ module _ (fs : List Timed) (log : Log) (own : Own fs log) where
   no-frame : {o : Outcome} → Does fs (log .items) o → Does (fs ++ []) (log .items) o
   no-frame {o} d = subst (λ gs. Does gs (log .items) o) (sym (append-nil fs)) d
 
+  asks : (s : Setting) → early log ≡ 0 → Does (fs ++ []) (log .items) (setItem log s)
+  asks s passes = standing passes (λ n past r fits same. no-frame (set-does fs log (own .heard) s (set-board (log .board) r fits fs same (s .slot) (s .k) (settingRule s))))
+
   by-item-does : (i : Item) (ds : List ℕ) → itemRefusal log i ≡ 0 → Does (fs ++ framed i ds) (log .items) (byItem log i ds)
   unfolding itemRefusal byItem
   by-item-does Unknown ds passes = absurd (omega arith)
   by-item-does (Window n) ds passes = no-frame (window-does log own (not-yet (first-one _ passes)) n)
-  by-item-does (Set s) ds passes = standing passes (λ n past r fits same. no-frame (set-does fs log (own .heard) s (set-board (log .board) r fits fs same (s .slot) (s .k) (settingRule s))))
+  by-item-does (Set s) ds passes = asks s passes
   by-item-does (item.Frame id) ds passes = standing passes (λ n past r fits same. frame-does fs log (own .heard) r fits same (untimedAt id ds))
   by-item-does (Remove slot) ds passes = standing passes (λ n past r fits same. no-frame (remove-does fs log (own .heard) slot (remove-board (log .board) r fits fs same slot)))
   by-item-does (Show slot) ds passes = standing passes (λ n past r fits same. no-frame (show-does fs log (own .heard) slot (own .board-is) (slots-small (log .board) r fits)))
   by-item-does (item.Timed time id) ds passes = standing passes (λ n past r fits same. frame-does fs log (own .heard) r fits same (timedAt time id ds))
+  by-item-does (SetHeat s) ds passes = asks s passes
 
 pub fresh-own : Own [] freshLog
 unfolding freshLog stationsAfterAll

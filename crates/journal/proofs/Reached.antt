@@ -5,7 +5,7 @@ use mathlib.Core.Path.{_≡_, refl, sym, ap, ap₂, _∙_, subst}
 use mathlib.Core.Logic.{_⊎_, inl, inr}
 use mathlib.Core.Bool.{true, false}
 use mathlib.Core.List.{List, [], _∷_}
-use Prim.Native.Nat.{ℕ, zero, suc, _-_, _^_, _≤_, _<_}
+use Prim.Native.Nat.{ℕ, zero, suc, _-_, _^_, _/_, _≤_, _<_}
 use native.Mathlib.Omega.{arith}
 use borrow.Author.Tests.{lt-ltb, ne-eqb, eqb-false}
 use lib.Dec.{eqb}
@@ -18,7 +18,7 @@ use Rattle.ranking.specs.declared.Rule.{Rule}
 use Rattle.window.specs.Rows.{reportLimit, freshWindow, heldReports}
 use Rattle.window.specs.History.{numbered, latest}
 use Rattle.window.proofs.Reports.{empty-holds}
-use Rattle.list.specs.Lines.{linesOf}
+use Rattle.list.specs.Lines.{linesOf, numbersIn}
 use Rattle.question.specs.Lines.{lines}
 use Rattle.board.specs.Work.{slotAt, freshBoard, setWork, removeWork, readWork, enterWork}
 use Rattle.slot.specs.Asking.{readIn}
@@ -62,15 +62,15 @@ none-held = empty-holds 0
 
 -- ---- a list as it is printed
 
-shown-lines : (n : ℕ) (ns : List ℕ) (ss : List ℤ) → take n (entriesOf ns ss) ≡ shownAs (take n (linesOf ns ss))
+shown-lines : (n : ℕ) (ns : List ℕ) (ss : List ℤ) → take n (entriesOf (numbersIn ns) ss) ≡ shownAs (take n (linesOf ns ss))
 unfolding entriesOf
 shown-lines zero ns ss = refl
 shown-lines (suc n) [] ss = refl
 shown-lines (suc n) (x ∷ ns) [] = refl
-shown-lines (suc n) (x ∷ ns) (s ∷ ss) = ap (λ (l : List Entry). record { number = x; score = s } ∷ l) (shown-lines n ns ss)
+shown-lines (suc n) (x ∷ ns) (s ∷ ss) = ap (λ (l : List Entry). record { number = x / 4097; score = s } ∷ l) (shown-lines n ns ss)
 
 show-text : (log : Log) (slot : ℕ) → eqb (log .board .window .counts .size) 0 ≡ false → slot < 32 → (slotAt (log .board) slot .k ≡ 0 → ⊥)
-    → itemDone log 20 (slot ∷ []) .text ≡ qLine slot (take (slotAt (log .board) slot .len) (entriesOf (slotAt (log .board) slot .numbers) (slotAt (log .board) slot .scores)))
+    → itemDone log 20 (slot ∷ []) .text ≡ qLine slot (take (slotAt (log .board) slot .len) (entriesOf (numbersIn (slotAt (log .board) slot .names)) (slotAt (log .board) slot .scores)))
 unfolding showItem readWork readIn unless
 show-text log slot there h used =
     ap (λ (o : Outcome). o .text) (show-done log (eqb-false (log .board .window .counts .size) 0 there) slot) ∙ rw (lt-ltb slot 32 h, ne-eqb (slotAt (log .board) slot .k) 0 used)
@@ -150,7 +150,7 @@ module _ {log : Log} (reached : Reached log) where
 
   -- ---- demand 2
 
-  -- After every item, every question in use has as its list the first min(k, held) of the held reports in the ranking.
+  -- After every item, every question in use has as its list the best k of the held reports that count.
   pub log-demand-2 : (slot : ℕ) → slot < 32 → (slotAt (log .board) slot .k ≡ 0 → ⊥)
       → lines (slotAt (log .board) slot) ≡ top (slotAt (log .board) slot .rule) (slotAt (log .board) slot .k) (heldReports (log .board .window))
   log-demand-2 slot h used = go (own reached .board-is)
@@ -169,14 +169,14 @@ module _ {log : Log} (reached : Reached log) where
           ∙ sym (ap (λ (vs : List Values). latest (log .board .window .counts .size) (numbered 1 vs)) (ap enteredBy first ∙ none-yet) ∙ drop-nil (0 - log .board .window .counts .size))
       go (window r f same) = reached-holds r ∙ ap₂ (λ (n : ℕ) (vs : List Values). latest n (numbered 1 vs)) (sym (kept r .since .of-size)) same
 
-  -- Showing a question in use prints the first min(k, held) of the last N reports that the log's frames completed.
+  -- Showing a question in use prints the best k of the last N reports that the log's frames completed, of those that count.
   pub show-prints : (slot : ℕ) → slot < 32 → (slotAt (log .board) slot .k ≡ 0 → ⊥)
       → itemDone log 20 (slot ∷ []) .text
       ≡ qLine slot (shownAs (top (slotAt (log .board) slot .rule) (slotAt (log .board) slot .k) (latest (log .board .window .counts .size) (numbered 1 (enteredBy (framesOf reached))))))
   show-prints slot h used =
       let q = slotAt (log .board) slot in
       show-text log slot (has-window-used (own reached .board-is)) h used
-      ∙ ap (qLine slot) (shown-lines (q .len) (q .numbers) (q .scores) ∙ ap shownAs (log-demand-2 slot h used ∙ ap (λ (hs : List Held). top (q .rule) (q .k) hs) log-holds))
+      ∙ ap (qLine slot) (shown-lines (q .len) (q .names) (q .scores) ∙ ap shownAs (log-demand-2 slot h used ∙ ap (λ (hs : List Held). top (q .rule) (q .k) hs) log-holds))
     where
       has-window-used : Boarded (framesOf reached) (log .board) → eqb (log .board .window .counts .size) 0 ≡ false
       has-window-used (none first e) = absurd (used (ap (λ (b : Board). slotAt b slot .k) e ∙ ap (λ q. q .k) (fresh-empty 0 slot h)))

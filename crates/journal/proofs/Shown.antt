@@ -1,14 +1,15 @@
--- A list that a fit board shows fits its line: its numbers are those of held reports, and its scores those of fit rules and permitted values.
+-- A list that a fit board shows fits its line: its names are those of held reports, and its scores those of fit rules and permitted values.
 -- Assumes nothing.
 use mathlib.Core.Path.{_≡_, sym, subst}
 use mathlib.Core.Bool.{true}
 use mathlib.Core.List.{List, [], _∷_, _++_, map, List·Memᴰ·not-nil}
-use Prim.Native.Nat.{ℕ, zero, suc, _^_, _≤_, _<_}
+use Prim.Native.Nat.{ℕ, zero, suc, _^_, _/_, _≤_, _<_}
 use native.Mathlib.Omega.{arith}
 use lib.IntN.{ℤ, pos}
 use lib.Signed.{mag}
-use lib.ListN.{length, getD, take, replicate}
+use lib.ListN.{length, getD, take, replicate, List·getD-map}
 use Rattle.laws.specs.Lists.{_∈_}
+use Rattle.values.proofs.Names.{code-small}
 use Rattle.ranking.specs.Standing.{Held, above, entries, top}
 use Rattle.ranking.specs.Standing as ranked
 use Rattle.ranking.specs.declared.Rule.{Rule}
@@ -21,16 +22,17 @@ use Rattle.window.specs.Rows.{heldReports, fitWindow}
 use Rattle.window.proofs.Fitness.{fit-facts}
 use Rattle.window.proofs.Reports.{held-latest}
 use Rattle.window.proofs.Standing.{held-permitted}
+use Rattle.list.specs.Lines.{namesOf, numbersIn}
 use Rattle.question.specs.declared.Question.{Question}
 use Rattle.question.specs.Lines.{asked}
 use Rattle.slot.specs.Fitness.{slotFit}
 use Rattle.slot.proofs.Standing.{Slot, not-searching}
 use Rattle.slot.proofs.Standing as state
 
--- The numbers and scores of a question, as they are stored, fit their lines.
+-- The numbers in a question's names, and its scores, fit their lines.
 pub record Small (q : Question) : Type 0 where
   pub few : q .len ≤ 16
-  pub numbers : (i : ℕ) → getD (q .numbers) i 0 < 2 ^ 32
+  pub numbers : (i : ℕ) → getD (numbersIn (q .names)) i 0 < 2 ^ 32
   pub scores : (i : ℕ) → mag (getD (q .scores) i (pos 0)) < 2 ^ 31
 
 -- What holds of each element, and of what fills up the list, holds at every place.
@@ -42,12 +44,16 @@ padded P f d p (suc n) [] (suc m) h (suc i) = padded P f d p n [] m h i
 padded P f d p (suc n) (x ∷ l) m h zero = h x here
 padded P f d p (suc n) (x ∷ l) m h (suc i) = padded P f d p n l m (λ y k. h y (there k)) i
 
+-- A number is no greater than its name.
+number-small : (names : List ℕ) (i : ℕ) → getD names i 0 < 2 ^ 32 → getD (numbersIn names) i 0 < 2 ^ 32
+number-small names i h = omega (arith, List·getD-map (λ (n : ℕ). n / 4097) names i 0)
+
 asked-small : (k : ℕ) (rule : Rule) (l : List ranked.Entry) (next : ℕ) → length l ≤ 16
-    → ((e : ranked.Entry) → e ∈ l → (e .number < 2 ^ 32) × (mag (e .score) < 2 ^ 31)) → Small (asked k rule l next)
+    → ((e : ranked.Entry) → e ∈ l → (e .name < 2 ^ 32) × (mag (e .score) < 2 ^ 31)) → Small (asked k rule l next)
 asked-small k rule l next short h =
     record {
       few = short;
-      numbers = padded (λ (n : ℕ). n < 2 ^ 32) (λ e. e .number) 0 (omega arith) 16 l 16 (λ e m. h e m .0);
+      numbers = λ i. number-small (namesOf l) i (padded (λ (n : ℕ). n < 2 ^ 32) (λ e. e .name) 0 (omega arith) 16 l 16 (λ e m. h e m .0) i);
       scores = padded (λ (z : ℤ). mag z < 2 ^ 31) (λ e. e .score) (pos 0) (omega arith) 16 l 16 (λ e m. h e m .1);
     }
 
@@ -59,14 +65,14 @@ slot-small w fits q t (state.stands s) =
     (asked-small (s .k) (s .rule) (top (s .rule) (s .k) (heldReports w)) (s .next)
     (omega (arith, s .asks .small, length-best-le (above (s .rule)) (above-strict (s .rule)) (s .k) (entries (s .rule) (heldReports w)))) small)
   where
-    small : (e : ranked.Entry) → e ∈ top (s .rule) (s .k) (heldReports w) → (e .number < 2 ^ 32) × (mag (e .score) < 2 ^ 31)
+    small : (e : ranked.Entry) → e ∈ top (s .rule) (s .k) (heldReports w) → (e .name < 2 ^ 32) × (mag (e .score) < 2 ^ 31)
     small e m =
         let ranges = fit-facts w fits .ranges in
         let r = top-of (s .rule) (s .k) (heldReports w) m in
         let h : Held = r .0 in
         let number = held-latest w ranges h (r .1) .1 in
         let fits32 = score-fits (s .rule) (s .asks .rule-fits) (h .values) (held-permitted w fits h (r .1)) in
-        subst (λ (x : ranked.Entry). (x .number < 2 ^ 32) × (mag (x .score) < 2 ^ 31)) (r .2) (omega (arith, number, ranges .at-most), fits32 .sfits)
+        subst (λ (x : ranked.Entry). (x .name < 2 ^ 32) × (mag (x .score) < 2 ^ 31)) (r .2) (omega (arith, number, ranges .at-most, code-small (h .values .edition)), fits32 .sfits)
 
 -- ---- steps
 

@@ -4,7 +4,8 @@ use mathlib.Core.Path.{_≡_, sym, ap, _∙_, subst}
 use mathlib.Core.Bool.{true, false}
 use mathlib.Core.List.{List}
 use Prim.Native.Nat.{ℕ, _<_}
-use lib.ListN.{length, getD}
+use lib.ListN.{getD}
+use Rattle.items.specs.Items.{settingIn}
 use Rattle.window.specs.Rows.{added}
 use Rattle.board.specs.Work.{slotAt, enterRefusal}
 use Rattle.board.specs.Calls.{setCall, enterCall}
@@ -21,7 +22,6 @@ use Rattle.journal.specs.declared.Log.{Log}
 use Rattle.journal.specs.Log.{Outcome, nextItem, withItem, stationsOf, withBoard, withStations, unless, ruleIn, setItem, sLines, enterItem, answerItem, frameItem, itemDone}
 use Rattle.journal.specs.Reached.{Reached}
 use Rattle.journal.proofs.Answers.{enter-refusal}
-use Rattle.journal.proofs.Items.{set-done}
 use Rattle.journal.proofs.Reached.{log-board, same-answers}
 
 module _ {log : Log} (reached : Reached log) (there : log .board .window .counts .size ≡ 0 → ⊥) (v : List ℕ) where
@@ -37,17 +37,18 @@ module _ {log : Log} (reached : Reached log) (there : log .board .window .counts
   abbrev placed : Placed
   placed = setCall b slot (getD v 1 0) (ruleIn v)
 
-  module _ (six : length v ≡ 6) (taken : placed .refusal ≡ 0) where
+  -- An item of tag 17 or 22 (`set-done`, `set-heat-done`) that isn't refused.
+  module _ (tag : ℕ) (is : itemDone log tag v ≡ setItem (withItem log) (settingIn v)) (taken : placed .refusal ≡ 0) where
     -- It prints the steps of its search.
-    pub set-prints : itemDone log 17 v ≡ record { text = sLine (nextItem (log .items)) slot (placed .steps); log = withBoard (withItem log) (placed .board) }
+    pub set-prints : itemDone log tag v ≡ record { text = sLine (nextItem (log .items)) slot (placed .steps); log = withBoard (withItem log) (placed .board) }
     unfolding setItem unless
     set-prints =
         let done : Placed → Outcome = λ r. record { text = sLine (nextItem (log .items)) slot (r .steps); log = withBoard (withItem log) (r .board) } in
         let same = same-answers reached there .set slot (getD v 1 0) (ruleIn v) in
-        set-done log there v six ∙ zero-is _ _ (sym (ap (λ (r : Placed). r .refusal) same) ∙ taken) ∙ sym (ap done same)
+        is ∙ zero-is _ _ (sym (ap (λ (r : Placed). r .refusal) same) ∙ taken) ∙ sym (ap done same)
 
     -- And that search is exact.
-    pub set-steps : Exactly (b .window) (getD v 1 0) (ruleIn v) (placed .steps) (slotAt (itemDone log 17 v .log .board) slot)
+    pub set-steps : Exactly (b .window) (getD v 1 0) (ruleIn v) (placed .steps) (slotAt (itemDone log tag v .log .board) slot)
     set-steps =
         let own = log-board reached there in
         subst (λ (o : Outcome). Exactly (b .window) (getD v 1 0) (ruleIn v) (placed .steps) (slotAt (o .log .board) slot)) (sym set-prints)

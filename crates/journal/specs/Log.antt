@@ -1,4 +1,4 @@
--- The text that a whole log fixes, item by item (docs/RULES.md, sections 11 and 15).
+-- The text that a whole log fixes, item by item (docs/RULES.md, sections 11 and 15, and rule 17.7).
 use Prim.Native.Nat.{ℕ, zero, suc, _+_, _-_, _^_, min}
 use mathlib.Core.Path.{_≡_}
 use mathlib.Core.Bool.{Bool, cond}
@@ -11,7 +11,7 @@ use Rattle.wire.specs.declared.Field.{Field}
 use Rattle.wire.specs.declared.Field.the-variants.{Whole, Cut}
 use Rattle.items.specs.declared.Setting.{Setting}
 use Rattle.items.specs.declared.Item.{Item}
-use Rattle.items.specs.declared.Item.the-variants.{Window, Set, Remove, Show, Unknown}
+use Rattle.items.specs.declared.Item.the-variants.{Window, Set, Remove, Show, SetHeat, Unknown}
 use Rattle.items.specs.declared.Item.the-variants as item
 use Rattle.items.specs.Items.{settingIn, dataOf, itemIn}
 use Rattle.values.specs.declared.Values.{Values}
@@ -86,6 +86,7 @@ itemRefusal log (item.Frame id) = early log
 itemRefusal log (Remove slot) = early log
 itemRefusal log (Show slot) = early log
 itemRefusal log (item.Timed time id) = early log
+itemRefusal log (SetHeat s) = early log
 
 -- Rule 11.1, tag 16: the window is made.
 unfoldable pub windowItem : Log → ℕ → Outcome
@@ -93,9 +94,9 @@ windowItem log n =
     let made = freshBoard n in
     unless log (made .refusal) (noText (withBoard log (made .board)))
 
--- The weights a and b of a question that is to be set, its rule, and that in an item's value.
+-- The weights a, b and c of a question that is to be set, its rule, and that in an item's value.
 abbrev pub weightsOf : Setting → Weights
-weightsOf s = record { loss = s .loss; shake = s .shake }
+weightsOf s = record { loss = s .loss; shake = s .shake; heat = s .heat }
 
 abbrev pub settingRule : Setting → Rule
 settingRule s = ruleOf (weightsOf s)
@@ -103,7 +104,7 @@ settingRule s = ruleOf (weightsOf s)
 abbrev pub ruleIn : List ℕ → Rule
 ruleIn v = settingRule (settingIn v)
 
--- Tag 17: a question is set, and so searched; the S line of that search (rule 11.2).
+-- Tags 17 and 22: a question is set, and so searched; the S line of that search (rule 11.2).
 unfoldable pub setItem : Log → Setting → Outcome
 setItem log s =
     let placed = setWork (log .board) (s .slot) (s .k) (settingRule s) in
@@ -159,6 +160,7 @@ byItem log (item.Frame id) ds = frameItem log (untimedAt id ds)
 byItem log (Remove slot) ds = removeItem log slot
 byItem log (Show slot) ds = showItem log slot
 byItem log (item.Timed time id) ds = frameItem log (timedAt time id ds)
+byItem log (SetHeat s) ds = setItem log s
 byItem log Unknown ds = noText log
 
 -- Rules 11.1 and 9.4: an item counts, also where it is skipped; 22, 23, then the refusals of its call. (21 is `ending`.)

@@ -9,6 +9,7 @@ use Rattle.items.specs.declared.Item.the-variants as said
 use Rattle.items.specs.Items.{dataOf, itemIn}
 use Rattle.ranking.specs.Standing as ranked
 use Rattle.values.specs.declared.Values.{Values}
+use Rattle.slot.specs.Turn.{numberNamed}
 use Rattle.window.specs.Rows.{reportLimit}
 use Rattle.text.specs.Text.{Entry}
 use Rattle.times.specs.Run.{Timed, freshStations, timedAnswers, timedAt, untimedAt}
@@ -30,6 +31,7 @@ framed (said.Window n) ds = []
 framed (said.Set s) ds = []
 framed (said.Remove slot) ds = []
 framed (said.Show slot) ds = []
+framed (said.SetHeat s) ds = []
 framed said.Unknown ds = []
 
 -- The frame of an item that isn't skipped, if it is one.
@@ -52,6 +54,6 @@ completed (Complete r ∷ l) = r .values ∷ completed l
 unfoldable pub enteredBy : List Timed → List Values
 enteredBy fs = take reportLimit (completed (timedAnswers freshStations fs))
 
--- The entries of a list, as a Q line has them.
+-- The entries of a list, as a Q line has them: of a name its number.
 abbrev pub shownAs : List ranked.Entry → List Entry
-shownAs l = map (λ (e : ranked.Entry). record { number = e .number; score = e .score }) l
+shownAs l = map (λ (e : ranked.Entry). record { number = numberNamed e; score = e .score }) l

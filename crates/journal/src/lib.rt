@@ -153,6 +153,7 @@ impl Log {
             Item::Remove(slot) => self.remove_item(slot, out, at),
             Item::Show(slot) => self.show_item(slot, out, at),
             Item::Timed(time, id) => self.timed_item(time, id, data, out, at),
+            Item::SetHeat(s) => self.set_item(s, out, at),
             Item::Unknown => Done { log: self, at },
         }
     }
@@ -316,6 +317,7 @@ fn weights_of(s: Setting) -> Weights
     Weights {
         loss: s.loss,
         shake: s.shake,
+        heat: s.heat,
     }
 }
 

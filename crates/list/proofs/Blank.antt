@@ -20,8 +20,8 @@ use Rattle.laws.proofs.Whole.{equal-is}
 use Rattle.search.proofs.Best.{Falling}
 use Rattle.ranking.specs.Standing.{Entry}
 use Rattle.list.specs.declared.Lines.{Lines}
-use Rattle.list.specs.Lines.{linesOf, numbersOf, scoresOf, columnsOf, linesIn, allOf, falls, blank}
-use Rattle.list.proofs.Stored.{Roomy, take-replicate, length-all, length-shown, column-numbers, column-scores}
+use Rattle.list.specs.Lines.{linesOf, namesOf, scoresOf, columnsOf, linesIn, allOf, falls, blank}
+use Rattle.list.proofs.Stored.{Roomy, take-replicate, length-all, length-shown, column-names, column-scores}
 
 -- ---- tests over a list
 
@@ -53,7 +53,7 @@ module _ (above : Entry → Entry → Bool) where
 
 -- ---- the places past the lines
 
-rest-blank : (n p : ℕ) → n ≤ p → (l : List Entry) → allOf blank (drop (length l) (linesOf (take n (map (λ e. e .number) l ++ replicate p 0)) (take n (map (λ e. e .score) l ++ replicate p (pos 0))))) ≡ true
+rest-blank : (n p : ℕ) → n ≤ p → (l : List Entry) → allOf blank (drop (length l) (linesOf (take n (map (λ e. e .name) l ++ replicate p 0)) (take n (map (λ e. e .score) l ++ replicate p (pos 0))))) ≡ true
 unfolding equal
 rest-blank n p h [] = ap₂ (λ ns ss. allOf blank (linesOf ns ss)) (take-replicate 0 n p h) (take-replicate (pos 0) n p h) ∙ zeros n
   where
@@ -64,7 +64,7 @@ rest-blank zero p h (x ∷ l) = refl
 rest-blank (suc n) p h (x ∷ l) = rest-blank n p (omega arith) l
 
 -- those of a stored list are 0
-pub stored-blank : (l : List Entry) → allOf blank (drop (length l) (linesOf (numbersOf l) (scoresOf l))) ≡ true
+pub stored-blank : (l : List Entry) → allOf blank (drop (length l) (linesOf (namesOf l) (scoresOf l))) ≡ true
 stored-blank l = rest-blank 16 16 (omega arith) l
 
 module _ {A : Type 0} (f : Entry → A) (d : A) where
@@ -81,35 +81,35 @@ module _ {A : Type 0} (f : Entry → A) (d : A) where
       ap (λ m. f x ∷ m) (column-back n p (omega arith) len l (suc-inj e) rest)
 
 -- a list whose rest is 0 is its lines, stored
-module _ (l : Lines) (room : Roomy (l .numbers) (l .scores)) (short : l .len ≤ 16) (rest : allOf blank (drop (l .len) (linesOf (l .numbers) (l .scores))) ≡ true) where
+module _ (l : Lines) (room : Roomy (l .names) (l .scores)) (short : l .len ≤ 16) (rest : allOf blank (drop (l .len) (linesOf (l .names) (l .scores))) ≡ true) where
   abbrev places : List Entry
-  places = linesOf (l .numbers) (l .scores)
+  places = linesOf (l .names) (l .scores)
 
-  zeros : (e : Entry) → e ∈ drop (l .len) places → (e .number ≡ 0) × (e .score ≡ pos 0)
+  zeros : (e : Entry) → e ∈ drop (l .len) places → (e .name ≡ 0) × (e .score ≡ pos 0)
   zeros e m =
-      let both = and-both (eqb (e .number) 0) (equal (e .score) (pos 0)) (all-in blank (drop (l .len) places) rest e m) in
-      (eqb-true (e .number) 0 (both .0), equal-is (e .score) (pos 0) (both .1))
+      let both = and-both (eqb (e .name) 0) (equal (e .score) (pos 0)) (all-in blank (drop (l .len) places) rest e m) in
+      (eqb-true (e .name) 0 (both .0), equal-is (e .score) (pos 0) (both .1))
 
   pub blank-stored : l ≡ columnsOf (linesIn l)
-  blank-stored i = record { numbers = numbers i; scores = scores i; len = len i }
+  blank-stored i = record { names = names i; scores = scores i; len = len i }
     where
       long : length places ≡ 16
-      long = length-all (l .numbers) (l .scores) room
+      long = length-all (l .names) (l .scores) room
 
-      numbers : l .numbers ≡ numbersOf (linesIn l)
-      numbers =
+      names : l .names ≡ namesOf (linesIn l)
+      names =
           sym
-          (column-back (λ e. e .number) 0 16 16 (omega arith) (l .len) places long (λ e m. zeros e m .0)
-          ∙ column-numbers (l .numbers) (l .scores) room)
+          (column-back (λ e. e .name) 0 16 16 (omega arith) (l .len) places long (λ e m. zeros e m .0)
+          ∙ column-names (l .names) (l .scores) room)
 
       scores : l .scores ≡ scoresOf (linesIn l)
       scores =
           sym
           (column-back (λ e. e .score) (pos 0) 16 16 (omega arith) (l .len) places long (λ e m. zeros e m .1)
-          ∙ column-scores (l .numbers) (l .scores) room)
+          ∙ column-scores (l .names) (l .scores) room)
 
       len : l .len ≡ length (linesIn l)
-      len = sym (length-shown (l .numbers) (l .scores) room (l .len) (l .len) all)
+      len = sym (length-shown (l .names) (l .scores) room (l .len) (l .len) all)
         where
           all : l .len ≡ min (l .len) 16
           all = omega arith

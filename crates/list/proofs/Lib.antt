@@ -6,4 +6,5 @@ pub mod Walking
 pub mod Blank
 pub mod Bars
 pub mod Gathering
+pub mod Reading
 pub mod Outcomes

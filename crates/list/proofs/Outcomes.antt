@@ -20,6 +20,10 @@ use Rattle.list.proofs.Lines.bar.Kinds as bar-kinds
 use Rattle.list.proofs.Lines.bar.Reads as bar-reads
 use Rattle.list.proofs.gathered.Kinds as gathered-kinds
 use Rattle.list.proofs.gathered.Reads as gathered-reads
+use Rattle.list.proofs.numbers_in.Kinds as numbers-in-kinds
+use Rattle.list.proofs.numbers_in.Reads as numbers-in-reads
+use Rattle.list.proofs.editions_in.Kinds as editions-in-kinds
+use Rattle.list.proofs.editions_in.Reads as editions-in-reads
 
 none-once : OneAnswer 0 none-kinds.ps none-kinds.r none-reads.Post
 none-once κs a x y s t p q = p ∙ sym q
@@ -47,3 +51,9 @@ bar-once κs a x y s t p q = p ∙ sym q
 
 gathered-once : OneAnswer 1 gathered-kinds.ps gathered-kinds.r gathered-reads.Post
 gathered-once κs a x y s t p q = p ∙ sym q
+
+numbers-in-once : OneAnswer 0 numbers-in-kinds.ps numbers-in-kinds.r numbers-in-reads.Post
+numbers-in-once κs a x y s t p q = p ∙ sym q
+
+editions-in-once : OneAnswer 0 editions-in-kinds.ps editions-in-kinds.r editions-in-reads.Post
+editions-in-once κs a x y s t p q = p ∙ sym q

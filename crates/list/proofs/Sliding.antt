@@ -15,9 +15,9 @@ use Rattle.ranking.specs.Standing.{Entry}
 use Rattle.laws.proofs.Orders.{StrictTotal}
 use Rattle.search.proofs.Best.{place-length-ge}
 use Rattle.list.specs.declared.Lines.{Lines}
-use Rattle.list.specs.Lines.{linesOf, numbersOf, scoresOf, columnsOf, linesIn}
+use Rattle.list.specs.Lines.{linesOf, namesOf, scoresOf, columnsOf, linesIn}
 use Rattle.list.specs.Inner.{rankIn, newIn, slid, Placing, wiped}
-use Rattle.list.proofs.Stored.{Roomy, take-replicate, fewest, column-numbers, column-scores, lines-back}
+use Rattle.list.proofs.Stored.{Roomy, take-replicate, fewest, column-names, column-scores, lines-back}
 use Rattle.list.proofs.Placed.{rank-le, place-new, place-old, place-over, cut-new}
 
 -- ---- one column
@@ -104,15 +104,15 @@ lines-cut zero (n ∷ ns) [] = lines-none ns
 lines-cut zero (n ∷ ns) (s ∷ ss) = refl
 lines-cut (suc m) [] ss = refl
 lines-cut (suc m) (n ∷ ns) [] = refl
-lines-cut (suc m) (n ∷ ns) (s ∷ ss) = ap (λ l. record { number = n; score = s } ∷ l) (lines-cut m ns ss)
+lines-cut (suc m) (n ∷ ns) (s ∷ ss) = ap (λ l. record { name = n; score = s } ∷ l) (lines-cut m ns ss)
 
-pub lines-slid : (at m n : ℕ) (s : ℤ) (ns : List ℕ) (ss : List ℤ) → length ns ≡ length ss → at ≤ m → m < length ns → linesOf (slid at m n ns) (slid at m s ss) ≡ slid at m (record { number = n; score = s }) (linesOf ns ss)
-lines-slid zero m n s ns ss e h g = ap (λ l. record { number = n; score = s } ∷ l) (lines-cut m ns ss)
+pub lines-slid : (at m n : ℕ) (s : ℤ) (ns : List ℕ) (ss : List ℤ) → length ns ≡ length ss → at ≤ m → m < length ns → linesOf (slid at m n ns) (slid at m s ss) ≡ slid at m (record { name = n; score = s }) (linesOf ns ss)
+lines-slid zero m n s ns ss e h g = ap (λ l. record { name = n; score = s } ∷ l) (lines-cut m ns ss)
 lines-slid (suc a) zero n s ns ss e h g = absurd (not-suc-le-zero h)
 lines-slid (suc a) (suc m) n s [] ss e h g = absurd (not-suc-le-zero g)
 lines-slid (suc a) (suc m) n s (y ∷ ns) [] e h g = absurd (not-suc-le-zero (subst (λ j. suc m < j) e g))
 lines-slid (suc a) (suc m) n s (y ∷ ns) (z ∷ ss) e h g =
-    ap (λ l. record { number = y; score = z } ∷ l) (lines-slid a m n s ns ss (suc-inj e) (le-of-suc-le-suc h) (le-of-suc-le-suc g))
+    ap (λ l. record { name = y; score = z } ∷ l) (lines-slid a m n s ns ss (suc-inj e) (le-of-suc-le-suc h) (le-of-suc-le-suc g))
 
 -- ---- an entry by its rank
 
@@ -184,17 +184,17 @@ module _ {ns ns' : List ℕ} {ss ss' : List ℤ} (room : Roomy ns ss) (at last n
   pub slid-roomy : Roomy ns' ss'
   slid-roomy =
       record {
-        numbers = ap length left ∙ length-slid n at last ns order (omega (arith, room .numbers)) ∙ room .numbers;
+        names = ap length left ∙ length-slid n at last ns order (omega (arith, room .names)) ∙ room .names;
         scores = ap length right ∙ length-slid s at last ss order (omega (arith, room .scores)) ∙ room .scores;
       }
 
-  pub slid-lines : linesOf ns' ss' ≡ slid at last (record { number = n; score = s }) (linesOf ns ss)
-  slid-lines = ap₂ linesOf left right ∙ lines-slid at last n s ns ss (room .numbers ∙ sym (room .scores)) order (omega (arith, room .numbers))
+  pub slid-lines : linesOf ns' ss' ≡ slid at last (record { name = n; score = s }) (linesOf ns ss)
+  slid-lines = ap₂ linesOf left right ∙ lines-slid at last n s ns ss (room .names ∙ sym (room .scores)) order (omega (arith, room .names))
 
 -- ---- the list as it is stored
 
 abbrev blank : Entry
-blank = record { number = 0; score = pos 0 }
+blank = record { name = 0; score = pos 0 }
 
 -- a column of the lines
 column : {A : Type 0} (f : Entry → A) (n p : ℕ) (l : List Entry) → map f (take n (l ++ replicate p blank)) ≡ take n (map f l ++ replicate p (f blank))
@@ -207,16 +207,16 @@ column f (suc n) p (y ∷ l) = ap (λ r. f y ∷ r) (column f n p l)
 abbrev padded : List Entry → List Entry
 padded l = take 16 (l ++ replicate 16 blank)
 
-lines-stored : (ns : List ℕ) (ss : List ℤ) → Roomy ns ss → (l : List Entry) → linesOf ns ss ≡ padded l → (r : ℕ) → r ≡ length l → record { numbers = ns; scores = ss; len = r } ≡ columnsOf l
-lines-stored ns ss room l is r e = λ i. record { numbers = left i; scores = right i; len = e i }
+lines-stored : (ns : List ℕ) (ss : List ℤ) → Roomy ns ss → (l : List Entry) → linesOf ns ss ≡ padded l → (r : ℕ) → r ≡ length l → record { names = ns; scores = ss; len = r } ≡ columnsOf l
+lines-stored ns ss room l is r e = λ i. record { names = left i; scores = right i; len = e i }
   where
-    left : ns ≡ numbersOf l
-    left = sym (column-numbers ns ss room) ∙ ap (map (λ e. e .number)) is ∙ column (λ e. e .number) 16 16 l
+    left : ns ≡ namesOf l
+    left = sym (column-names ns ss room) ∙ ap (map (λ e. e .name)) is ∙ column (λ e. e .name) 16 16 l
 
     right : ss ≡ scoresOf l
     right = sym (column-scores ns ss room) ∙ ap (map (λ e. e .score)) is ∙ column (λ e. e .score) 16 16 l
 
-stored-lines : (n p : ℕ) (l : List Entry) → linesOf (take n (map (λ e. e .number) l ++ replicate p 0)) (take n (map (λ e. e .score) l ++ replicate p (pos 0))) ≡ take n (l ++ replicate p blank)
+stored-lines : (n p : ℕ) (l : List Entry) → linesOf (take n (map (λ e. e .name) l ++ replicate p 0)) (take n (map (λ e. e .score) l ++ replicate p (pos 0))) ≡ take n (l ++ replicate p blank)
 stored-lines zero p l = refl
 stored-lines (suc n) zero [] = refl
 stored-lines (suc n) (suc p) [] = ap (λ r. blank ∷ r) (stored-lines n p [])
@@ -234,7 +234,7 @@ over (suc n) p q (z ∷ l) (y ∷ m) h g a b =
     ap (λ r. y ∷ r) (over n p q l m (le-of-suc-le-suc h) (le-of-suc-le-suc g) (omega arith) (omega arith))
 
 -- an entry put in its rank in the arrays of a stored list is stored with it
-module _ (above : Entry → Entry → Bool) (strict : StrictTotal above) (k : ℕ) (small : k ≤ 16) (ns ns' : List ℕ) (ss ss' : List ℤ) (len r : ℕ) (l : List Entry) (x : Entry) (is : record { numbers = ns; scores = ss; len = len } ≡ columnsOf l) (few : length l ≤ k) (room : Roomy ns' ss') (placing : Placing above x len k (linesOf ns ss) (linesOf ns' ss') r) where
+module _ (above : Entry → Entry → Bool) (strict : StrictTotal above) (k : ℕ) (small : k ≤ 16) (ns ns' : List ℕ) (ss ss' : List ℤ) (len r : ℕ) (l : List Entry) (x : Entry) (is : record { names = ns; scores = ss; len = len } ≡ columnsOf l) (few : length l ≤ k) (room : Roomy ns' ss') (placing : Placing above x len k (linesOf ns ss) (linesOf ns' ss') r) where
   abbrev new : List Entry
   new = take k (placed above x l)
 
@@ -254,8 +254,8 @@ module _ (above : Entry → Entry → Bool) (strict : StrictTotal above) (k : �
   lines-now =
       sym (take-append-drop r (linesOf ns' ss'))
       ∙ ap₂ (λ a b. a ++ b) (placing .front ∙ ap (λ m. take k (placed above x m)) front)
-      (placing .rest ∙ ap₂ drop count (ap (λ (q : Lines). linesOf (q .numbers) (q .scores)) is ∙ stored-lines 16 16 l))
+      (placing .rest ∙ ap₂ drop count (ap (λ (q : Lines). linesOf (q .names) (q .scores)) is ∙ stored-lines 16 16 l))
       ∙ over 16 16 16 l new more most (omega arith) (omega arith)
 
-  pub placed-stored : record { numbers = ns'; scores = ss'; len = r } ≡ columnsOf (take k (placed above x l))
+  pub placed-stored : record { names = ns'; scores = ss'; len = r } ≡ columnsOf (take k (placed above x l))
   placed-stored = lines-stored ns' ss' room new lines-now r count

@@ -17,7 +17,7 @@ use Rattle.ranking.specs.Standing.{Entry}
 use Rattle.laws.proofs.Lists.{last-at}
 use Rattle.laws.proofs.Tests.{Tested, passed, failed, tested}
 use Rattle.list.specs.declared.Lines.{Lines}
-use Rattle.list.specs.Lines.{linesOf, numbersOf, scoresOf, columnsOf, linesIn}
+use Rattle.list.specs.Lines.{linesOf, namesOf, scoresOf, columnsOf, linesIn}
 pub use Rattle.list.specs.Inner.{Roomy}
 use Rattle.list.specs.Inner.{wiped}
 
@@ -54,7 +54,7 @@ map-take f (suc n) (y ∷ l) = ap (λ r. f y ∷ r) (map-take f n l)
 
 -- ---- a list as it is stored
 
-read-back : (n p : ℕ) (l : List Entry) → length l ≤ n → take (length l) (linesOf (take n (map (λ e. e .number) l ++ replicate p 0)) (take n (map (λ e. e .score) l ++ replicate p (pos 0)))) ≡ l
+read-back : (n p : ℕ) (l : List Entry) → length l ≤ n → take (length l) (linesOf (take n (map (λ e. e .name) l ++ replicate p 0)) (take n (map (λ e. e .score) l ++ replicate p (pos 0)))) ≡ l
 read-back n p [] h = refl
 read-back zero p (x ∷ l) h = absurd (not-suc-le-zero h)
 read-back (suc n) p (x ∷ l) h = ap (λ m. x ∷ m) (read-back n p l (le-of-suc-le-suc h))
@@ -64,20 +64,20 @@ pub lines-back : (l : List Entry) → length l ≤ 16 → linesIn (columnsOf l) 
 lines-back l h = read-back 16 16 l h
 
 -- a stored list has its room
-pub roomy-stored : (l : List Entry) → Roomy (numbersOf l) (scoresOf l)
-roomy-stored l = record { numbers = long (λ e. e .number) 0; scores = long (λ e. e .score) (pos 0) }
+pub roomy-stored : (l : List Entry) → Roomy (namesOf l) (scoresOf l)
+roomy-stored l = record { names = long (λ e. e .name) 0; scores = long (λ e. e .score) (pos 0) }
   where
     long : {A : Type 0} (f : Entry → A) (d : A) → length (take 16 (map f l ++ replicate 16 d)) ≡ 16
     long f d = simp (length-take, length-append, length-replicate) (omega arith)
 
 -- as a function knows it of the arrays of a struct that is handed in
 pub roomy-known : (ns : List ℕ) (ss : List ℤ) → length (map (λ (n : ℕ). n) ns) ≡ 16 → length (map (λ (s : ℤ). s) ss) ≡ 16 → Roomy ns ss
-roomy-known ns ss n s = record { numbers = sym (length-map ns (λ v. v)) ∙ n; scores = sym (length-map ss (λ v. v)) ∙ s }
+roomy-known ns ss n s = record { names = sym (length-map ns (λ v. v)) ∙ n; scores = sym (length-map ss (λ v. v)) ∙ s }
 
 -- ---- the lines of two columns
 
 -- the line that stands at a place
-getD-lines : (ns : List ℕ) (ss : List ℤ) (i : ℕ) → i < length ns → i < length ss → getD (linesOf ns ss) i (record { number = 0; score = pos 0 }) ≡ record { number = getD ns i 0; score = getD ss i (pos 0) }
+getD-lines : (ns : List ℕ) (ss : List ℤ) (i : ℕ) → i < length ns → i < length ss → getD (linesOf ns ss) i (record { name = 0; score = pos 0 }) ≡ record { name = getD ns i 0; score = getD ss i (pos 0) }
 getD-lines [] ss i h g = absurd (not-suc-le-zero h)
 getD-lines (n ∷ ns) [] i h g = absurd (not-suc-le-zero g)
 getD-lines (n ∷ ns) (s ∷ ss) zero h g = refl
@@ -88,10 +88,10 @@ length-of [] ss e = refl
 length-of (n ∷ ns) [] e = sym e
 length-of (n ∷ ns) (s ∷ ss) e = ap suc (length-of ns ss (suc-inj e))
 
-numbers-of : (ns : List ℕ) (ss : List ℤ) → length ns ≡ length ss → map (λ e. e .number) (linesOf ns ss) ≡ ns
-numbers-of [] ss h = refl
-numbers-of (n ∷ ns) [] h = absurd (suc-ne-zero (length ns) h)
-numbers-of (n ∷ ns) (s ∷ ss) h = ap (λ l. n ∷ l) (numbers-of ns ss (suc-inj h))
+names-of : (ns : List ℕ) (ss : List ℤ) → length ns ≡ length ss → map (λ e. e .name) (linesOf ns ss) ≡ ns
+names-of [] ss h = refl
+names-of (n ∷ ns) [] h = absurd (suc-ne-zero (length ns) h)
+names-of (n ∷ ns) (s ∷ ss) h = ap (λ l. n ∷ l) (names-of ns ss (suc-inj h))
 
 scores-of : (ns : List ℕ) (ss : List ℤ) → length ns ≡ length ss → map (λ e. e .score) (linesOf ns ss) ≡ ss
 scores-of [] [] h = refl
@@ -101,18 +101,18 @@ scores-of (n ∷ ns) (s ∷ ss) h = ap (λ l. s ∷ l) (scores-of ns ss (suc-inj
 
 -- the line that the columns have at a place
 abbrev pub lineAt : List ℕ → List ℤ → ℕ → Entry
-lineAt ns ss i = record { number = getD ns i 0; score = getD ss i (pos 0) }
+lineAt ns ss i = record { name = getD ns i 0; score = getD ss i (pos 0) }
 
 module _ (ns : List ℕ) (ss : List ℤ) (r : Roomy ns ss) where
   even : length ns ≡ length ss
-  even = r .numbers ∙ sym (r .scores)
+  even = r .names ∙ sym (r .scores)
 
   pub length-all : length (linesOf ns ss) ≡ 16
-  length-all = length-of ns ss even ∙ r .numbers
+  length-all = length-of ns ss even ∙ r .names
 
   -- the columns say no more than the lines
-  pub column-numbers : map (λ e. e .number) (linesOf ns ss) ≡ ns
-  column-numbers = numbers-of ns ss even
+  pub column-names : map (λ e. e .name) (linesOf ns ss) ≡ ns
+  column-names = names-of ns ss even
 
   pub column-scores : map (λ e. e .score) (linesOf ns ss) ≡ ss
   column-scores = scores-of ns ss even
@@ -121,14 +121,14 @@ module _ (ns : List ℕ) (ss : List ℤ) (r : Roomy ns ss) where
     pub length-front : length (take n (linesOf ns ss)) ≡ n
     length-front = length-take-le n (linesOf ns ss) (rw length-all h)
 
-    pub line-at : (i : ℕ) → i < n → getD (take n (linesOf ns ss)) i (record { number = 0; score = pos 0 }) ≡ lineAt ns ss i
+    pub line-at : (i : ℕ) → i < n → getD (take n (linesOf ns ss)) i (record { name = 0; score = pos 0 }) ≡ lineAt ns ss i
     line-at i g =
-        getD-take n (linesOf ns ss) i (record { number = 0; score = pos 0 }) g
-        ∙ getD-lines ns ss i (omega (arith, r .numbers)) (omega (arith, r .scores))
+        getD-take n (linesOf ns ss) i (record { name = 0; score = pos 0 }) g
+        ∙ getD-lines ns ss i (omega (arith, r .names)) (omega (arith, r .scores))
 
     pub drop-line : (i : ℕ) → i < n → drop i (take n (linesOf ns ss)) ≡ lineAt ns ss i ∷ drop (i + 1) (take n (linesOf ns ss))
     drop-line i g =
-        drop-cons (take n (linesOf ns ss)) i (record { number = 0; score = pos 0 }) (rw length-front g) ∙ rw (line-at i g, ← add-one i)
+        drop-cons (take n (linesOf ns ss)) i (record { name = 0; score = pos 0 }) (rw length-front g) ∙ rw (line-at i g, ← add-one i)
 
     pub none-left : (i : ℕ) → i ≡ n → drop i (take n (linesOf ns ss)) ≡ []
     none-left i e = drop-of-length-le (take n (linesOf ns ss)) {i = i} (rw length-front (omega arith))
@@ -136,13 +136,13 @@ module _ (ns : List ℕ) (ss : List ℤ) (r : Roomy ns ss) where
     pub take-line : (i : ℕ) → i < n → take (i + 1) (take n (linesOf ns ss)) ≡ take i (take n (linesOf ns ss)) ++ (lineAt ns ss i ∷ [])
     take-line i g =
         rw (add-one i)
-        (take-suc (take n (linesOf ns ss)) i (record { number = 0; score = pos 0 }) (rw length-front g) ∙ rw (line-at i g))
+        (take-suc (take n (linesOf ns ss)) i (record { name = 0; score = pos 0 }) (rw length-front g) ∙ rw (line-at i g))
 
   -- the first m lines, 0 past them
-  pub wiped-stored : {ns' : List ℕ} {ss' : List ℤ} (m : ℕ) → m ≤ 16 → ns' ≡ wiped m 0 ns → ss' ≡ wiped m (pos 0) ss → record { numbers = ns'; scores = ss'; len = m } ≡ columnsOf (take m (linesOf ns ss))
+  pub wiped-stored : {ns' : List ℕ} {ss' : List ℤ} (m : ℕ) → m ≤ 16 → ns' ≡ wiped m 0 ns → ss' ≡ wiped m (pos 0) ss → record { names = ns'; scores = ss'; len = m } ≡ columnsOf (take m (linesOf ns ss))
   wiped-stored m h left right = λ i.
       record {
-        numbers = (left ∙ ap (λ l. take 16 (l ++ replicate 16 0)) (front (λ e. e .number) column-numbers)) i;
+        names = (left ∙ ap (λ l. take 16 (l ++ replicate 16 0)) (front (λ e. e .name) column-names)) i;
         scores = (right ∙ ap (λ l. take 16 (l ++ replicate 16 (pos 0))) (front (λ e. e .score) column-scores)) i;
         len = sym (length-front m h) i;
       }
@@ -177,10 +177,10 @@ module _ (ns : List ℕ) (ss : List ℤ) (r : Roomy ns ss) where
     pub last-shown : (i : ℕ) → i + 1 ≡ n → (p : Entry → Bool) → onLast p (take len (linesOf ns ss)) ≡ p (lineAt ns ss i)
     last-shown i e p = go (take len (linesOf ns ss)) refl
       where
-        line-is : (l : List Entry) → length l ≡ i → getD (take len (linesOf ns ss)) (length l) (record { number = 0; score = pos 0 }) ≡ lineAt ns ss i
+        line-is : (l : List Entry) → length l ≡ i → getD (take len (linesOf ns ss)) (length l) (record { name = 0; score = pos 0 }) ≡ lineAt ns ss i
         line-is l h =
-            ap (λ m. getD m (length l) (record { number = 0; score = pos 0 })) (sym take-shown)
-            ∙ ap (λ m. getD (take n (linesOf ns ss)) m (record { number = 0; score = pos 0 })) h
+            ap (λ m. getD m (length l) (record { name = 0; score = pos 0 })) (sym take-shown)
+            ∙ ap (λ m. getD (take n (linesOf ns ss)) m (record { name = 0; score = pos 0 })) h
             ∙ line-at n (omega arith) i (omega arith)
 
         go : (l : List Entry) → take len (linesOf ns ss) ≡ l → onLast p (take len (linesOf ns ss)) ≡ p (lineAt ns ss i)
@@ -190,8 +190,8 @@ module _ (ns : List ℕ) (ss : List ℤ) (r : Roomy ns ss) where
             empty m a b = omega (arith, length-shown)
         go (x ∷ l) h =
             ap (onLast p) h
-            ∙ last-at p (record { number = 0; score = pos 0 }) x l
-            ∙ ap (λ m. p (getD m (length l) (record { number = 0; score = pos 0 }))) (sym h)
+            ∙ last-at p (record { name = 0; score = pos 0 }) x l
+            ∙ ap (λ m. p (getD m (length l) (record { name = 0; score = pos 0 }))) (sym h)
             ∙ ap p (line-is l (fewer (length l) (sym (ap length h) ∙ length-shown)))
           where
             fewer : (m : ℕ) → suc m ≡ n → m ≡ i
@@ -199,23 +199,23 @@ module _ (ns : List ℕ) (ss : List ℤ) (r : Roomy ns ss) where
 
 -- ---- a list of any length
 
-module _ (l : Lines) (r : Roomy (l .numbers) (l .scores)) where
+module _ (l : Lines) (r : Roomy (l .names) (l .scores)) where
   -- the first n lines, as many as there are
-  pub front-lines : (n : ℕ) → n ≡ min (l .len) 16 → take n (linesOf (l .numbers) (l .scores)) ≡ linesIn l
-  front-lines n e = take-shown (l .numbers) (l .scores) r (l .len) n e
+  pub front-lines : (n : ℕ) → n ≡ min (l .len) 16 → take n (linesOf (l .names) (l .scores)) ≡ linesIn l
+  front-lines n e = take-shown (l .names) (l .scores) r (l .len) n e
 
   -- all of them
-  pub all-lines : (n : ℕ) → n ≡ min (l .len) 16 → (m : ℕ) → m ≡ n → take m (take n (linesOf (l .numbers) (l .scores))) ≡ linesIn l
+  pub all-lines : (n : ℕ) → n ≡ min (l .len) 16 → (m : ℕ) → m ≡ n → take m (take n (linesOf (l .names) (l .scores))) ≡ linesIn l
   all-lines n e m f =
-      take-all m (take n (linesOf (l .numbers) (l .scores))) (omega (arith, length-front (l .numbers) (l .scores) r n (omega arith)))
+      take-all m (take n (linesOf (l .names) (l .scores))) (omega (arith, length-front (l .names) (l .scores) r n (omega arith)))
       ∙ front-lines n e
 
   -- and cut
-  pub cut-lines : (n m : ℕ) → n ≡ min m (min (l .len) 16) → take n (linesOf (l .numbers) (l .scores)) ≡ take m (linesIn l)
+  pub cut-lines : (n m : ℕ) → n ≡ min m (min (l .len) 16) → take n (linesOf (l .names) (l .scores)) ≡ take m (linesIn l)
   cut-lines n m e =
-      ap (λ j. take j (linesOf (l .numbers) (l .scores))) e
-      ∙ fewest m (min (l .len) 16) (linesOf (l .numbers) (l .scores))
+      ap (λ j. take j (linesOf (l .names) (l .scores))) e
+      ∙ fewest m (min (l .len) 16) (linesOf (l .names) (l .scores))
       ∙ ap (take m) (front-lines (min (l .len) 16) refl)
 
 pub no-lines : (l : Lines) → min (l .len) 16 ≡ 0 → linesIn l ≡ []
-no-lines l e = let none : l .len ≡ 0 = omega arith in ap (λ m. take m (linesOf (l .numbers) (l .scores))) none
+no-lines l e = let none : l .len ≡ 0 = omega arith in ap (λ m. take m (linesOf (l .names) (l .scores))) none

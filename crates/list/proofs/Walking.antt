@@ -27,11 +27,11 @@ pub record Walk (p : Entry → Bool) (whole : Bool) (ns : List ℕ) (ss : List �
 
 -- a line as it is read, its score back from its bits
 abbrev pub readLine : List ℕ → List ℤ → ℕ → Entry
-readLine ns ss i = record { number = getD ns i 0; score = toZ w32 (ofZ w32 (getD ss i (pos 0))) }
+readLine ns ss i = record { name = getD ns i 0; score = toZ w32 (ofZ w32 (getD ss i (pos 0))) }
 
 pub as-read : (p : Entry → Bool) (ns : List ℕ) (ss : List ℤ) (i : ℕ) → mag (getD ss i (pos 0)) < 2147483648 → {t : Bool} → t ≡ p (readLine ns ss i) → p (lineAt ns ss i) ≡ t
 as-read p ns ss i fits is =
-    ap (λ s. p (record { number = getD ns i 0; score = s })) (sym (kept w32 (getD ss i (pos 0)) fits)) ∙ sym is
+    ap (λ s. p (record { name = getD ns i 0; score = s })) (sym (kept w32 (getD ss i (pos 0)) fits)) ∙ sym is
 
 module _ {p : Entry → Bool} {whole : Bool} {ns : List ℕ} {ss : List ℤ} {n i : ℕ} (w : Walk p whole ns ss n i) where
   -- past the last line
@@ -58,13 +58,13 @@ module _ {p : Entry → Bool} {whole : Bool} {ns : List ℕ} {ss : List ℤ} {n 
           decides = sym (next ∙ ap (λ b. b && allOf p (drop (i + 1) (take n (linesOf ns ss)))) e) ∙ w .decides;
         }
 
--- which places are 0: the number's test, and the score's by its bits
-pub blank-number : (e : Entry) → (e .number ≡ 0 → ⊥) → blank e ≡ false
-blank-number e h = ap (λ b. b && equal (e .score) (pos 0)) (ne-eqb (e .number) 0 h)
+-- which places are 0: the name's test, and the score's by its bits
+pub blank-name : (e : Entry) → (e .name ≡ 0 → ⊥) → blank e ≡ false
+blank-name e h = ap (λ b. b && equal (e .score) (pos 0)) (ne-eqb (e .name) 0 h)
 
-pub blank-score : (e : Entry) → e .number ≡ 0 → mag (e .score) < 2147483648 → {t : Bool} → eqb (ofZ w32 (e .score)) 0 ≡ t → blank e ≡ t
+pub blank-score : (e : Entry) → e .name ≡ 0 → mag (e .score) < 2147483648 → {t : Bool} → eqb (ofZ w32 (e .score)) 0 ≡ t → blank e ≡ t
 blank-score e h fits is =
-    ap (λ b. b && equal (e .score) (pos 0)) (eq-eqb (e .number) 0 h)
+    ap (λ b. b && equal (e .score) (pos 0)) (eq-eqb (e .name) 0 h)
     ∙ sym (same-bits w32 (e .score) (pos 0) (record { sfits = fits }) (record { sfits = lit< tt }))
     ∙ is
 
@@ -95,7 +95,7 @@ module _ {above : Entry → Entry → Bool} {whole : Bool} {ns : List ℕ} {ss :
     falling =
         sym
         (is
-        ∙ ap₂ (λ a b. above (record { number = getD ns i 0; score = a }) (record { number = getD ns (i + 1) 0; score = b }))
+        ∙ ap₂ (λ a b. above (record { name = getD ns i 0; score = a }) (record { name = getD ns (i + 1) 0; score = b }))
         (kept w32 (getD ss i (pos 0)) fits) (kept w32 (getD ss (i + 1) (pos 0)) fits′))
 
     after : drop (i + 1) (take n (linesOf ns ss)) ≡ lineAt ns ss (i + 1) ∷ drop (i + 1 + 1) (take n (linesOf ns ss))

@@ -13,9 +13,9 @@ use Rattle.list.specs.declared.Lines.{Lines}
 unfoldable pub barAt : List ℕ → List ℤ → ℕ → Bool → Bar
 barAt ns ss n full =
     cond (eqb n 0)
-    (record { full = false; number = 0; score = pos 0 })
-    (record { full = full; number = getD ns (n - 1) 0; score = getD ss (n - 1) (pos 0) })
+    (record { full = false; name = 0; score = pos 0 })
+    (record { full = full; name = getD ns (n - 1) 0; score = getD ss (n - 1) (pos 0) })
 
 -- That of a list for k lines.
 abbrev pub barOf : Lines → ℕ → Bar
-barOf l k = barAt (l .numbers) (l .scores) (min (l .len) mostLines) (eqb (l .len) k)
+barOf l k = barAt (l .names) (l .scores) (min (l .len) mostLines) (eqb (l .len) k)

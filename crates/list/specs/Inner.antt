@@ -1,19 +1,20 @@
 -- What the inner functions of `list` answer, and what its proofs speak of; no public contract and no promise cites it.
 use mathlib.Core.Path.{_≡_}
-use Prim.Native.Nat.{ℕ, suc}
+use Prim.Native.Nat.{ℕ, suc, _/_}
 use mathlib.Core.Bool.{Bool, true, cond, not, _&&_, _||_}
 use mathlib.Core.List.{List, [], _∷_, _++_}
 use lib.ListN.{length, take, drop, replicate}
 use lib.IntN.{ℤ, negsuc}
 use lib.Dec.{eqb}
 use Rattle.search.specs.Best.{placed}
+use Rattle.values.specs.Names.{editions}
 use Rattle.ranking.specs.Standing.{Entry}
 use Rattle.list.specs.Lines.{mostLines}
 use Rattle.list.specs.declared.Bar.{Bar}
 
 -- The columns have their room.
 pub record Roomy (ns : List ℕ) (ss : List ℤ) : Type 0 where
-  pub numbers : length ns ≡ mostLines
+  pub names : length ns ≡ mostLines
   pub scores : length ss ≡ mostLines
 
 -- x at a place, and what stood from there to the place `last` one place back; what stood at `last` goes.
@@ -41,10 +42,10 @@ module _ {E : Type 0} (above : E → E → Bool) where
 unfoldable pub leastAt : Bar → ℤ
 leastAt bar = cond (bar .full) (bar .score) (negsuc 2147483647)
 
--- An entry with a number passes the bar.
+-- An entry passes the bar: the number in its name isn't 0, and where the list is full it ranks above the last line.
 unfoldable pub admits : (Entry → Entry → Bool) → Bar → Entry → Bool
 admits above bar e =
-    not (eqb (e .number) 0) && (not (bar .full) || above e (record { number = bar .number; score = bar .score }))
+    not (eqb (e .name / editions) 0) && (not (bar .full) || above e (record { name = bar .name; score = bar .score }))
 
 -- The first n of a column, and d in the places past them.
 abbrev pub wiped : {A : Type 0} → ℕ → A → List A → List A

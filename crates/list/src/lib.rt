@@ -1,4 +1,4 @@
-// A list in its two arrays, the reports' numbers and their scores, best first, and the pass over a window's rows that fills
+// A list in its two arrays, the reports' names and their scores, best first, and the pass over a window's rows that fills
 // one. A length over the room counts as the room.
 ghost use mathlib.Core.Path.{_≡_};
 ghost use mathlib.Core.List.{[]};
@@ -8,18 +8,18 @@ ghost use lib.IntN.{pos};
 ghost use Rattle.search.specs.Best.{best, placed};
 ghost use Rattle.ranking.specs.Standing.{above, top};
 ghost use Rattle.window.specs.Rows.{rowCount, standing};
-ghost use Rattle.list.specs.Lines.{mostLines, linesOf, linesIn, columnsOf, allOf, falls, blank};
+ghost use Rattle.list.specs.Lines.{mostLines, linesOf, linesIn, columnsOf, allOf, falls, blank, numbersIn, editionsIn};
 ghost use Rattle.list.specs.Bars.{barAt, barOf};
 ghost use Rattle.list.specs.Rows.{rowsOf};
 ghost use Rattle.list.specs.Inner.{Roomy, rankIn, newIn, slid, Placing, leastAt, admits, wiped};
 use ranking::Rule;
 use ranking::Score;
-use values::Values;
+use values::Name;
 use window::Window;
 
 // The first `len` places are its lines. In a list that is well stored the others are 0.
 pub struct Lines {
-    pub numbers: [u32; Lines::MOST],
+    pub names: [u32; Lines::MOST],
     pub scores: [i32; Lines::MOST],
     pub len: u8,
 }
@@ -27,7 +27,7 @@ pub struct Lines {
 // What an entry has to rank above to change a list that is full: its last line.
 pub struct Bar {
     pub full: bool,
-    pub number: u32,
+    pub name: u32,
     pub score: i32,
 }
 
@@ -39,10 +39,10 @@ impl Lines {
     pub fn none() -> Lines
         ensures { λ r. ⌜ r ≡ columnsOf [] ⌝ }
     {
-        let numbers = [0u32; Lines::MOST];
+        let names = [0u32; Lines::MOST];
         let scores = [0i32; Lines::MOST];
         Lines {
-            numbers,
+            names,
             scores,
             len: 0,
         }
@@ -60,33 +60,25 @@ impl Lines {
         ensures { λ r. ⌜ r ≡ columnsOf (take m (linesIn self)) ⌝ }
     {
         let n = smaller(m, self.line_count());
-        let mut numbers = self.numbers;
+        let mut names = self.names;
         let mut scores = self.scores;
-        wipe(&mut numbers, &mut scores, n);
+        wipe(&mut names, &mut scores, n);
         let len = n as u8;
-        Lines {
-            numbers,
-            scores,
-            len,
-        }
+        Lines { names, scores, len }
     }
 
     // One entry put in its rank among the lines, once, of which at most `most` are kept.
-    pub fn placed(self, rule: Rule, most: usize, number: u32, score: i32) -> Lines
-        ensures { λ r. ⌜ r ≡ columnsOf (take (min most mostLines) (placed (above rule) (record { number = number; score = score }) (linesIn self))) ⌝ }
+    pub fn placed(self, rule: Rule, most: usize, name: u32, score: i32) -> Lines
+        ensures { λ r. ⌜ r ≡ columnsOf (take (min most mostLines) (placed (above rule) (record { name = name; score = score }) (linesIn self))) ⌝ }
     {
         let n = self.line_count();
-        let mut numbers = self.numbers;
+        let mut names = self.names;
         let mut scores = self.scores;
         let k = smaller(most, Lines::MOST);
-        let m = put_in(rule, &mut numbers, &mut scores, n, k, number, score);
-        wipe(&mut numbers, &mut scores, m);
+        let m = put_in(rule, &mut names, &mut scores, n, k, name, score);
+        wipe(&mut names, &mut scores, m);
         let len = m as u8;
-        Lines {
-            numbers,
-            scores,
-            len,
-        }
+        Lines { names, scores, len }
     }
 
     // The best k of the lines.
@@ -94,12 +86,12 @@ impl Lines {
         ensures { λ r. ⌜ r ≡ columnsOf (best (above rule) (min k mostLines) (linesIn self)) ⌝ }
     {
         let n = self.line_count();
-        let numbers = self.numbers;
+        let names = self.names;
         let scores = self.scores;
         let mut list = Lines::none();
         let mut i: usize = 0;
         while i < n {
-            list = list.placed(rule, k, numbers[i], scores[i]);
+            list = list.placed(rule, k, names[i], scores[i]);
             i += 1;
         }
         list
@@ -114,9 +106,9 @@ impl Lines {
         while i + 1 < n {
             let next = i + 1;
             if !rule.above(
-                self.numbers[i],
+                self.names[i],
                 self.scores[i],
-                self.numbers[next],
+                self.names[next],
                 self.scores[next],
             ) {
                 return false;
@@ -128,11 +120,11 @@ impl Lines {
 
     // The places past the list's end are 0.
     pub fn rest_blank(self) -> bool
-        ensures { λ r. ⌜ r ≡ allOf blank (drop (self .len) (linesOf (self .numbers) (self .scores))) ⌝ }
+        ensures { λ r. ⌜ r ≡ allOf blank (drop (self .len) (linesOf (self .names) (self .scores))) ⌝ }
     {
         let mut i = self.line_count();
         while i < Lines::MOST {
-            if self.numbers[i] != 0 {
+            if self.names[i] != 0 {
                 return false;
             }
             if self.scores[i] != 0 {
@@ -149,7 +141,7 @@ impl Lines {
     {
         let n = self.line_count();
         let full = self.len == k;
-        bar_in(&self.numbers, &self.scores, n, full)
+        bar_in(&self.names, &self.scores, n, full)
     }
 }
 
@@ -164,15 +156,15 @@ impl Bar {
         -2147483648
     }
 
-    // A report passes: it has a number, and the list isn't full or it ranks above the last line.
-    fn admits(self, rule: Rule, number: u32, score: i32) -> bool
-        ensures { λ r. ⌜ r ≡ admits (above rule) self (record { number = number; score = score }) ⌝ }
+    // A report passes: the number in its name isn't 0, and the list isn't full or it ranks above the last line.
+    fn admits(self, rule: Rule, name: u32, score: i32) -> bool
+        ensures { λ r. ⌜ r ≡ admits (above rule) self (record { name = name; score = score }) ⌝ }
     {
-        if number == 0 {
+        if Name::number(name) == 0 {
             return false;
         }
         if self.full {
-            return rule.above(number, score, self.number, self.score);
+            return rule.above(name, score, self.name, self.score);
         }
         true
     }
@@ -185,11 +177,11 @@ pub fn gathered<'a>(
     k: u8,
     losses: &'a [u16; Window::ROWS],
     shakes: &'a [u16; Window::ROWS],
-    numbers: &'a [u32; Window::ROWS],
+    names: &'a [u32; Window::ROWS],
     rows: usize,
 ) -> Lines
     ensures { λ r. ⌜
-        r ≡ columnsOf (top rule (min k mostLines) (standing (rowsOf (now (losses .entry)) (now (shakes .entry)) (now (numbers .entry))) (min rows rowCount)))
+        r ≡ columnsOf (top rule (min k mostLines) (standing (rowsOf (now (losses .entry)) (now (shakes .entry)) (now (names .entry))) (min rows rowCount)))
         ⌝ }
 {
     let most = smaller(k as usize, Lines::MOST);
@@ -205,62 +197,88 @@ pub fn gathered<'a>(
         row += 1;
         let loss = losses[here];
         let shake = shakes[here];
-        let scored = rule.score_from(Values { loss, shake }, least);
+        let name = names[here];
+        let scored = rule.score_from(loss, shake, name, least);
         let Score::Scored(score) = scored else {
             continue;
         };
-        let number = numbers[here];
-        if !bar.admits(rule, number, score) {
+        if !bar.admits(rule, name, score) {
             continue;
         }
-        len = put_in(rule, &mut found, &mut by, len, most, number, score);
+        len = put_in(rule, &mut found, &mut by, len, most, name, score);
         bar = bar_in(&found, &by, len, len == most);
         least = bar.least();
     }
     let count = len as u8;
     Lines {
-        numbers: found,
+        names: found,
         scores: by,
         len: count,
     }
 }
 
+// The numbers in the names of a list.
+pub fn numbers_in(names: [u32; Lines::MOST]) -> [u32; Lines::MOST]
+    ensures { λ r. ⌜ r ≡ numbersIn names ⌝ }
+{
+    let mut numbers = [0u32; Lines::MOST];
+    let mut i: usize = 0;
+    while i < Lines::MOST {
+        numbers[i] = Name::number(names[i]);
+        i += 1;
+    }
+    numbers
+}
+
+// And their editions, as numbers: 0 for the first, one more than the heat for the second.
+pub fn editions_in(names: [u32; Lines::MOST]) -> [u16; Lines::MOST]
+    ensures { λ r. ⌜ r ≡ editionsIn names ⌝ }
+{
+    let mut editions = [0u16; Lines::MOST];
+    let mut i: usize = 0;
+    while i < Lines::MOST {
+        editions[i] = (names[i] % Name::EDITIONS) as u16;
+        i += 1;
+    }
+    editions
+}
+
 // The bar of the first `len` lines of two arrays, where it is told whether they are a full list.
 fn bar_in<'a>(
-    numbers: &'a [u32; Lines::MOST],
+    names: &'a [u32; Lines::MOST],
     scores: &'a [i32; Lines::MOST],
     len: usize,
     full: bool,
 ) -> Bar
     requires { ⌜ len ≤ mostLines ⌝ }
-    ensures { λ r. ⌜ r ≡ barAt (now (numbers .entry)) (now (scores .entry)) len full ⌝ }
+    ensures { λ r. ⌜ r ≡ barAt (now (names .entry)) (now (scores .entry)) len full ⌝ }
 {
     if len == 0 {
         return Bar {
             full: false,
-            number: 0,
+            name: 0,
             score: 0,
         };
     }
     let last = len - 1;
     Bar {
         full,
-        number: numbers[last],
+        name: names[last],
         score: scores[last],
     }
 }
 
 // 0 in the places of two arrays from one on.
-fn wipe<'a>(numbers: &'a mut [u32; Lines::MOST], scores: &'a mut [i32; Lines::MOST], from: usize)
-    requires { ⌜ (from ≤ mostLines) × Roomy (now numbers) (now scores) ⌝ }
+fn wipe<'a>(names: &'a mut [u32; Lines::MOST], scores: &'a mut [i32; Lines::MOST], from: usize)
+    requires { ⌜ (from ≤ mostLines) × Roomy (now names) (now scores) ⌝ }
     ensures { λ _. ⌜
-        (now (numbers .exit) ≡ wiped from 0 (now (numbers .entry))) × (now (scores .exit) ≡ wiped from (pos 0) (now (scores .entry)))
+        (now (names .exit) ≡ wiped from 0 (now (names .entry))) × (now (scores .exit) ≡ wiped from (pos 0) (now (scores .entry)))
         ⌝ }
 {
     let mut i: usize = Lines::MOST;
     while from < i {
         i -= 1;
-        numbers[i] = 0;
+        names[i] = 0;
         scores[i] = 0;
     }
 }
@@ -276,48 +294,48 @@ fn smaller(a: usize, b: usize) -> usize
 // number then. The lines past them stay.
 fn put_in<'a>(
     rule: Rule,
-    numbers: &'a mut [u32; Lines::MOST],
+    names: &'a mut [u32; Lines::MOST],
     scores: &'a mut [i32; Lines::MOST],
     len: usize,
     most: usize,
-    number: u32,
+    name: u32,
     score: i32,
 ) -> usize
-    requires { ⌜ (len ≤ mostLines) × (most ≤ mostLines) × Roomy (now numbers) (now scores) ⌝ }
+    requires { ⌜ (len ≤ mostLines) × (most ≤ mostLines) × Roomy (now names) (now scores) ⌝ }
     ensures { λ r. ⌜
-        Placing (above rule) (record { number = number; score = score }) len most (linesOf (now (numbers .entry)) (now (scores .entry))) (linesOf (now (numbers .exit)) (now (scores .exit))) r
-        × Roomy (now (numbers .exit)) (now (scores .exit))
+        Placing (above rule) (record { name = name; score = score }) len most (linesOf (now (names .entry)) (now (scores .entry))) (linesOf (now (names .exit)) (now (scores .exit))) r
+        × Roomy (now (names .exit)) (now (scores .exit))
         ⌝ }
 {
-    let at = rank_in(rule, numbers, scores, len, number, score);
+    let at = rank_in(rule, names, scores, len, name, score);
     if most <= at {
         return most;
     }
-    if !new_in(rule, numbers, scores, len, at, number, score) {
+    if !new_in(rule, names, scores, len, at, name, score) {
         return smaller(len, most);
     }
     let last = smaller(len, most - 1);
-    slide(numbers, scores, at, last, number, score);
+    slide(names, scores, at, last, name, score);
     last + 1
 }
 
 // How many of the first `len` lines of two arrays rank above an entry, before the first that doesn't.
 fn rank_in<'a>(
     rule: Rule,
-    numbers: &'a [u32; Lines::MOST],
+    names: &'a [u32; Lines::MOST],
     scores: &'a [i32; Lines::MOST],
     len: usize,
-    number: u32,
+    name: u32,
     score: i32,
 ) -> usize
-    requires { ⌜ (len ≤ mostLines) × Roomy (now numbers) (now scores) ⌝ }
+    requires { ⌜ (len ≤ mostLines) × Roomy (now names) (now scores) ⌝ }
     ensures { λ r. ⌜
-        r ≡ rankIn (above rule) (record { number = number; score = score }) (take len (linesOf (now (numbers .entry)) (now (scores .entry))))
+        r ≡ rankIn (above rule) (record { name = name; score = score }) (take len (linesOf (now (names .entry)) (now (scores .entry))))
         ⌝ }
 {
     let mut i: usize = 0;
     while i < len {
-        if !rule.above(numbers[i], scores[i], number, score) {
+        if !rule.above(names[i], scores[i], name, score) {
             return i;
         }
         i += 1;
@@ -328,49 +346,49 @@ fn rank_in<'a>(
 // The line at an entry's rank is another.
 fn new_in<'a>(
     rule: Rule,
-    numbers: &'a [u32; Lines::MOST],
+    names: &'a [u32; Lines::MOST],
     scores: &'a [i32; Lines::MOST],
     len: usize,
     at: usize,
-    number: u32,
+    name: u32,
     score: i32,
 ) -> bool
     requires { ⌜
-        (len ≤ mostLines) × Roomy (now numbers) (now scores)
-        × (at ≡ rankIn (above rule) (record { number = number; score = score }) (take len (linesOf (now numbers) (now scores))))
+        (len ≤ mostLines) × Roomy (now names) (now scores)
+        × (at ≡ rankIn (above rule) (record { name = name; score = score }) (take len (linesOf (now names) (now scores))))
         ⌝ }
     ensures { λ r. ⌜
-        r ≡ newIn (above rule) (record { number = number; score = score }) (take len (linesOf (now (numbers .entry)) (now (scores .entry))))
+        r ≡ newIn (above rule) (record { name = name; score = score }) (take len (linesOf (now (names .entry)) (now (scores .entry))))
         ⌝ }
 {
     if at < len {
-        return rule.above(number, score, numbers[at], scores[at]);
+        return rule.above(name, score, names[at], scores[at]);
     }
     true
 }
 
 // An entry put at a place, and the lines from there to the last one moved one place back; the last one goes.
 fn slide<'a>(
-    numbers: &'a mut [u32; Lines::MOST],
+    names: &'a mut [u32; Lines::MOST],
     scores: &'a mut [i32; Lines::MOST],
     at: usize,
     last: usize,
-    number: u32,
+    name: u32,
     score: i32,
 )
-    requires { ⌜ (at ≤ last) × (last < mostLines) × Roomy (now numbers) (now scores) ⌝ }
+    requires { ⌜ (at ≤ last) × (last < mostLines) × Roomy (now names) (now scores) ⌝ }
     ensures { λ _. ⌜
-        (now (numbers .exit) ≡ slid at last number (now (numbers .entry)))
+        (now (names .exit) ≡ slid at last name (now (names .entry)))
         × (now (scores .exit) ≡ slid at last score (now (scores .entry)))
         ⌝ }
 {
     let mut i = last;
     while at < i {
         let before = i - 1;
-        numbers[i] = numbers[before];
+        names[i] = names[before];
         scores[i] = scores[before];
         i = before;
     }
-    numbers[at] = number;
+    names[at] = name;
     scores[at] = score;
 }

@@ -1,43 +1,147 @@
 // The words in brackets behind a line's numbers: in any order, each once.
-use crate::within::Bounds;
-use crate::within::Within;
 use forms::Form;
 use ranges::Numbers;
-use ranges::behind_bytes;
+use ranges::short;
+use values::Edition;
+
+// Such a word; None is any other.
+enum Word {
+    Heat,
+    Loss,
+    Shake,
+    Note,
+    Room,
+    At,
+    None,
+}
+
+// Whether a word is said, and the numbers behind it: one, or the two of a range.
+pub struct Said {
+    pub said: bool,
+    pub first: u32,
+    pub second: u32,
+}
 
 // What the words in brackets say, and whether they are right. The next one is read at the word `at`.
 pub struct Extras {
     pub right: bool,
     pub at: u8,
-    // A note, which is the bytes in the word `note`; no bytes where none stand there.
-    pub noted: bool,
-    pub note: u8,
-    // The room lent to the writer, in bytes; more than any report needs where nothing is said.
-    pub lent: bool,
-    pub room: u32,
-    // A time, in milliseconds.
-    pub timed: bool,
-    pub time: u32,
+    // A report's heat, or a question's weight for it.
+    pub heat: Said,
     // A question's ranges.
-    pub within: Within,
+    pub loss: Said,
+    pub shake: Said,
+    // A note, which is the bytes in the word of that number; no bytes where none stand there.
+    pub note: Said,
+    // The room lent to the writer, in bytes.
+    pub room: Said,
+    // A time, in milliseconds.
+    pub time: Said,
+}
+
+impl Word {
+    fn of(word: &[u8]) -> Word {
+        if lines::same(word, b"heat") {
+            return Word::Heat;
+        }
+        if lines::same(word, b"loss") {
+            return Word::Loss;
+        }
+        if lines::same(word, b"shake") {
+            return Word::Shake;
+        }
+        if lines::same(word, b"note") {
+            return Word::Note;
+        }
+        if lines::same(word, b"room") {
+            return Word::Room;
+        }
+        if lines::same(word, b"at") {
+            return Word::At;
+        }
+        Word::None
+    }
+
+    // The letter of the numbers behind it in a line of this form; 0, which no number has, where the form doesn't have the word.
+    fn letter(self, form: Form) -> u8 {
+        match form {
+            Form::Set | Form::PokeSlot => match self {
+                Word::Heat => b'w',
+                Word::Loss | Word::Shake => b'h',
+                _ => 0,
+            },
+            Form::Enter => match self {
+                Word::Heat => b'h',
+                _ => 0,
+            },
+            Form::PokeRow | Form::PokeLine => match self {
+                Word::Heat => b'e',
+                _ => 0,
+            },
+            Form::Write => match self {
+                Word::Heat => b'h',
+                Word::Note => b'd',
+                Word::Room => b'n',
+                _ => 0,
+            },
+            Form::Frame | Form::PokeSession => match self {
+                Word::At => b'n',
+                _ => 0,
+            },
+            _ => 0,
+        }
+    }
+
+    // How many numbers are behind it.
+    fn count(self) -> usize {
+        match self {
+            Word::Loss | Word::Shake => 2,
+            _ => 1,
+        }
+    }
+
+    // These numbers, from the word `at` on.
+    fn numbers(self, form: Form, line: &[u8], at: u8) -> Numbers {
+        let letter = self.letter(form);
+        let letters = [letter, letter];
+        Numbers::read(line, at, wire::front(&letters, self.count()))
+    }
+}
+
+impl Said {
+    fn none() -> Said {
+        Said {
+            said: false,
+            first: 0,
+            second: 0,
+        }
+    }
+
+    fn of(numbers: Numbers) -> Said {
+        let values = numbers.values;
+        Said {
+            said: true,
+            first: values[0],
+            second: values[1],
+        }
+    }
 }
 
 impl Extras {
     // The most such words that a form has.
-    pub const WORDS: u8 = 2;
+    pub const WORDS: u8 = 3;
 
     fn none(at: u8) -> Extras {
-        let within = Within::none();
+        let none = Said::none();
         Extras {
             right: true,
             at,
-            noted: false,
-            note: 0,
-            lent: false,
-            room: 4294967295,
-            timed: false,
-            time: 0,
-            within,
+            heat: none,
+            loss: none,
+            shake: none,
+            note: none,
+            room: none,
+            time: none,
         }
     }
 
@@ -52,119 +156,61 @@ impl Extras {
         extras.ended(line)
     }
 
-    // Whether nothing stands behind them.
-    fn ended(self, line: &[u8]) -> Extras {
+    // They are wrong where anything is left.
+    fn ended(mut self, line: &[u8]) -> Extras {
         let rest = lines::tail(line, self.at);
-        if rest.len() == 0 {
+        if rest.len() != 0 {
+            self.right = false;
+        }
+        self
+    }
+
+    // With the next one, where it is one of the form's, for the first time, with its numbers; any other is left.
+    fn with(self, form: Form, line: &[u8]) -> Extras {
+        let word = Word::of(lines::word(line, self.at));
+        let numbers = word.numbers(form, line, std::num::wrapping_add_u8(self.at, 1));
+        let before = self.said(word);
+        if before.said {
             return self;
         }
-        self.wrong()
-    }
-
-    fn wrong(mut self) -> Extras {
-        self.right = false;
-        self
-    }
-
-    // With the next one, where it is one that the form has.
-    fn with(self, form: Form, line: &[u8]) -> Extras {
-        let word = lines::word(line, self.at);
-        match form {
-            Form::Write => self.with_writing(word, line),
-            Form::Frame | Form::PokeSession => self.with_timing(word, line),
-            Form::Set | Form::PokeSlot => self.with_range(word, line),
-            _ => self,
-        }
-    }
-
-    fn with_writing(self, word: &[u8], line: &[u8]) -> Extras {
-        if lines::same(word, b"note") {
-            return self.with_note(line);
-        }
-        if lines::same(word, b"room") {
-            return self.with_room(line);
-        }
-        self
-    }
-
-    fn with_timing(self, word: &[u8], line: &[u8]) -> Extras {
-        if lines::same(word, b"at") {
-            return self.with_time(line);
-        }
-        self
-    }
-
-    fn with_range(self, word: &[u8], line: &[u8]) -> Extras {
-        if lines::same(word, b"loss") {
-            return self.with_loss(line);
-        }
-        if lines::same(word, b"shake") {
-            return self.with_shake(line);
-        }
-        self
-    }
-
-    fn with_note(mut self, line: &[u8]) -> Extras {
-        if self.noted {
-            return self.wrong();
-        }
-        let word = std::num::wrapping_add_u8(self.at, 1);
-        self.noted = true;
-        self.note = word;
-        self.at = behind_bytes(lines::word(line, word), word);
-        self
-    }
-
-    fn with_room(self, line: &[u8]) -> Extras {
-        let numbers = self.numbers(line, b"n");
-        let values = numbers.values;
-        let mut extras = self.behind(numbers, self.lent);
-        extras.lent = true;
-        extras.room = values[0];
-        extras
-    }
-
-    fn with_time(self, line: &[u8]) -> Extras {
-        let numbers = self.numbers(line, b"n");
-        let values = numbers.values;
-        let mut extras = self.behind(numbers, self.timed);
-        extras.timed = true;
-        extras.time = values[0];
-        extras
-    }
-
-    fn with_loss(self, line: &[u8]) -> Extras {
-        let numbers = self.numbers(line, b"hh");
-        let within = self.within;
-        let mut extras = self.behind(numbers, within.loss.said);
-        let changed = within.with_loss(Bounds::of(numbers));
-        extras.within = changed;
-        extras
-    }
-
-    fn with_shake(self, line: &[u8]) -> Extras {
-        let numbers = self.numbers(line, b"hh");
-        let within = self.within;
-        let mut extras = self.behind(numbers, within.shake.said);
-        let changed = within.with_shake(Bounds::of(numbers));
-        extras.within = changed;
-        extras
-    }
-
-    // The numbers behind the next one's name.
-    fn numbers(self, line: &[u8], letters: &[u8]) -> Numbers {
-        Numbers::read(line, std::num::wrapping_add_u8(self.at, 1), letters)
-    }
-
-    // Goes on behind these numbers. They are wrong where the word they belong to was said before.
-    fn behind(mut self, numbers: Numbers, before: bool) -> Extras {
-        if before {
-            return self.wrong();
-        }
         if !numbers.right {
-            return self.wrong();
+            return self;
         }
-        self.at = numbers.at;
+        let mut extras = self.saying(word, Said::of(numbers));
+        extras.at = numbers.at;
+        extras
+    }
+
+    // What is said of a word.
+    fn said(self, word: Word) -> Said {
+        match word {
+            Word::Heat => self.heat,
+            Word::Loss => self.loss,
+            Word::Shake => self.shake,
+            Word::Note => self.note,
+            Word::Room => self.room,
+            _ => self.time,
+        }
+    }
+
+    fn saying(mut self, word: Word, said: Said) -> Extras {
+        match word {
+            Word::Heat => self.heat = said,
+            Word::Loss => self.loss = said,
+            Word::Shake => self.shake = said,
+            Word::Note => self.note = said,
+            Word::Room => self.room = said,
+            _ => self.time = said,
+        }
         self
+    }
+
+    // The edition of a report whose heat may be said: the one that it had, where it isn't.
+    pub fn edition(self, had: Edition) -> Edition {
+        let heat = self.heat;
+        if !heat.said {
+            return had;
+        }
+        Edition::Second(short(heat.first))
     }
 }

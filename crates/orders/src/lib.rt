@@ -1,16 +1,16 @@
 // The desk's lines (docs/DESK.md): what a line asks for, or which form it should have had.
 mod extras;
-mod within;
 
 pub use extras::Extras;
+pub use extras::Said;
 use forms::Form;
 use ranges::Numbers;
 use ranges::byte;
 use ranges::score;
 use ranges::short;
 use ranges::weight;
-pub use within::Bounds;
-pub use within::Within;
+use values::Edition;
+use values::Values;
 
 // What a line asks for. A line that is passed over asks for nothing.
 pub enum Order {
@@ -30,14 +30,11 @@ pub enum BoardOrder {
         k: u8,
         loss: i16,
         shake: i16,
-        within: Within,
+        extras: Extras,
     },
     Remove(u8),
     Read(u8),
-    Enter {
-        loss: u16,
-        shake: u16,
-    },
+    Enter(Values),
     Begin(u8),
     Step(u8),
     Marks(u8),
@@ -53,6 +50,7 @@ pub enum BoardOrder {
         number: u32,
         loss: u16,
         shake: u16,
+        extras: Extras,
     },
     PokeSlot {
         slot: u8,
@@ -61,13 +59,14 @@ pub enum BoardOrder {
         shake: i16,
         len: u8,
         next: u16,
-        within: Within,
+        extras: Extras,
     },
     PokeLine {
         slot: u8,
         place: u8,
         number: u32,
         score: i32,
+        extras: Extras,
     },
 }
 
@@ -84,8 +83,7 @@ pub enum BusOrder {
     },
     Write {
         sender: u8,
-        loss: u16,
-        shake: u16,
+        values: Values,
         own: u32,
         extras: Extras,
     },
@@ -141,10 +139,17 @@ fn numbers_of(form: Form, line: &[u8]) -> Numbers {
         Form::Session => Numbers::read(line, 1, b"u"),
         Form::Payload => Numbers::read(line, 1, b"d"),
         Form::Write => Numbers::read(line, 1, b"bhhn"),
+        _ => poke_numbers_of(form, line),
+    }
+}
+
+// The same behind `poke` and its name; none of a line that has no numbers.
+fn poke_numbers_of(form: Form, line: &[u8]) -> Numbers {
+    match form {
         Form::PokeWindow => Numbers::read(line, 2, b"hnh"),
-        Form::PokeRow => Numbers::read(line, 2, b"rnhh"),
+        Form::PokeRow => Numbers::read(line, 2, b"rmhh"),
         Form::PokeSlot => Numbers::read(line, 2, b"sbwwbh"),
-        Form::PokeLine => Numbers::read(line, 2, b"spnz"),
+        Form::PokeLine => Numbers::read(line, 2, b"spmz"),
         Form::PokeSession => Numbers::read(line, 2, b"ubbb"),
         Form::PokeByte => Numbers::read(line, 2, b"uyb"),
         Form::PokeUntimed => Numbers::read(line, 2, b"un"),
@@ -166,7 +171,7 @@ fn made(form: Form, numbers: Numbers, extras: Extras) -> Order {
         | Form::PokeSession
         | Form::PokeByte
         | Form::PokeUntimed => Order::Bus(bus_order(form, numbers, extras)),
-        _ => Order::Board(board_order(form, numbers, extras.within)),
+        _ => Order::Board(board_order(form, numbers, extras)),
     }
 }
 
@@ -182,8 +187,7 @@ fn bus_order(form: Form, numbers: Numbers, extras: Extras) -> BusOrder {
         Form::Payload => BusOrder::Payload { word: byte(n[0]) },
         Form::Write => BusOrder::Write {
             sender: byte(n[0]),
-            loss: short(n[1]),
-            shake: short(n[2]),
+            values: values(n[1], n[2], extras),
             own: n[3],
             extras,
         },
@@ -208,7 +212,7 @@ fn bus_order(form: Form, numbers: Numbers, extras: Extras) -> BusOrder {
 }
 
 // The same of a form that needs a window.
-fn board_order(form: Form, numbers: Numbers, within: Within) -> BoardOrder {
+fn board_order(form: Form, numbers: Numbers, extras: Extras) -> BoardOrder {
     let n = numbers.values;
     match form {
         Form::Set => BoardOrder::Set {
@@ -216,18 +220,24 @@ fn board_order(form: Form, numbers: Numbers, within: Within) -> BoardOrder {
             k: byte(n[1]),
             loss: weight(n[2]),
             shake: weight(n[3]),
-            within,
+            extras,
         },
         Form::Remove => BoardOrder::Remove(byte(n[0])),
         Form::Read => BoardOrder::Read(byte(n[0])),
-        Form::Enter => BoardOrder::Enter {
-            loss: short(n[0]),
-            shake: short(n[1]),
-        },
+        Form::Enter => BoardOrder::Enter(values(n[0], n[1], extras)),
         Form::Begin => BoardOrder::Begin(byte(n[0])),
         Form::Step => BoardOrder::Step(byte(n[0])),
         Form::Marks => BoardOrder::Marks(byte(n[0])),
         Form::Steps => BoardOrder::Steps(byte(n[0])),
+        Form::Held => BoardOrder::Held,
+        _ => poke_order(form, numbers, extras),
+    }
+}
+
+// The same of a poke.
+fn poke_order(form: Form, numbers: Numbers, extras: Extras) -> BoardOrder {
+    let n = numbers.values;
+    match form {
         Form::PokeWindow => BoardOrder::PokeWindow {
             size: short(n[0]),
             entered: n[1],
@@ -238,6 +248,7 @@ fn board_order(form: Form, numbers: Numbers, within: Within) -> BoardOrder {
             number: n[1],
             loss: short(n[2]),
             shake: short(n[3]),
+            extras,
         },
         Form::PokeSlot => BoardOrder::PokeSlot {
             slot: byte(n[0]),
@@ -246,15 +257,24 @@ fn board_order(form: Form, numbers: Numbers, within: Within) -> BoardOrder {
             shake: weight(n[3]),
             len: byte(n[4]),
             next: short(n[5]),
-            within,
+            extras,
         },
-        Form::PokeLine => BoardOrder::PokeLine {
+        _ => BoardOrder::PokeLine {
             slot: byte(n[0]),
             place: byte(n[1]),
             number: n[2],
             score: score(n[3]),
+            extras,
         },
-        _ => BoardOrder::Held,
+    }
+}
+
+// The values of a report that has no heat where none is said.
+fn values(loss: u32, shake: u32, extras: Extras) -> Values {
+    Values {
+        loss: short(loss),
+        shake: short(shake),
+        edition: extras.edition(Edition::First),
     }
 }
 

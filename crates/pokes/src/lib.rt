@@ -1,14 +1,17 @@
-// Boards made up by hand, as the desk's pokes ask for them, the slots of a board, and a rule with the ranges that a line says.
+// Boards made up by hand, as the desk's pokes ask for them, the slots of a board, and a rule with what a line says in brackets.
 use board::Board;
 use list::Lines;
 use orders::BoardOrder;
-use orders::Bounds;
-use orders::Within;
+use orders::Extras;
+use orders::Said;
 use question::Question;
+use ranges::short;
+use ranges::weight;
 use ranking::Range;
 use ranking::Ranges;
 use ranking::Rule;
 use ranking::Weights;
+use values::Name;
 use window::Counts;
 use window::Window;
 
@@ -32,7 +35,8 @@ pub fn poked(board: Board, order: BoardOrder) -> Board {
             number,
             loss,
             shake,
-        } => with_row(board, row as usize, number, loss, shake),
+            extras,
+        } => with_row(board, row as usize, number, loss, shake, extras),
         BoardOrder::PokeSlot { slot: at, .. } | BoardOrder::PokeLine { slot: at, .. } => {
             with_slot(board, at, poked_slot(slot(board, at), order))
         }
@@ -50,40 +54,54 @@ fn poked_slot(question: Question, order: BoardOrder) -> Question {
             shake,
             len,
             next,
-            within,
+            extras,
         } => {
             let old = question.rule;
+            let heat = old.weights.heat;
             let ranges = old.ranges;
-            let rule = ranged(Rule::within(Weights { loss, shake }, ranges), within);
-            with_numbers(question, k, rule, len, next)
+            let rule = Rule::within(Weights { loss, shake, heat }, ranges);
+            with_numbers(question, k, ruled(rule, extras), len, next)
         }
         BoardOrder::PokeLine {
             slot: _,
             place,
             number,
             score,
-        } => with_line(question, place as usize, number, score),
+            extras,
+        } => with_line(question, place as usize, number, score, extras),
         _ => question,
     }
 }
 
-// The rule with the ranges that a line says; one that it doesn't say stays.
-pub fn ranged(rule: Rule, within: Within) -> Rule {
-    let weights = rule.weights;
+// The rule with the heat's weight and the ranges that a line says; what it doesn't say stays.
+pub fn ruled(rule: Rule, extras: Extras) -> Rule {
+    let weights = weighted(rule.weights, extras.heat);
     let ranges = rule.ranges;
-    let loss = bounded(ranges.loss, within.loss);
-    let shake = bounded(ranges.shake, within.shake);
+    let loss = bounded(ranges.loss, extras.loss);
+    let shake = bounded(ranges.shake, extras.shake);
     Rule::within(weights, Ranges { loss, shake })
 }
 
-fn bounded(range: Range, bounds: Bounds) -> Range {
-    if !bounds.said {
+fn weighted(mut weights: Weights, said: Said) -> Weights {
+    if said.said {
+        weights.heat = weight(said.first);
+    }
+    weights
+}
+
+fn bounded(range: Range, said: Said) -> Range {
+    if !said.said {
         return range;
     }
     Range {
-        low: bounds.low,
-        high: bounds.high,
+        low: short(said.first),
+        high: short(said.second),
     }
+}
+
+// The name of that number, with the edition that the name before it had unless a heat is said.
+fn renamed(name: u32, number: u32, extras: Extras) -> u32 {
+    Name::of(number, extras.edition(Name::edition(name)))
 }
 
 fn with_counts(board: Board, counts: Counts) -> Board {
@@ -93,11 +111,11 @@ fn with_counts(board: Board, counts: Counts) -> Board {
     Board { window, slots }
 }
 
-fn with_row(board: Board, row: usize, number: u32, loss: u16, shake: u16) -> Board {
+fn with_row(board: Board, row: usize, number: u32, loss: u16, shake: u16, extras: Extras) -> Board {
     let mut window = board.window;
     let slots = board.slots;
     if row < Window::ROWS {
-        window.numbers[row] = number;
+        window.names[row] = renamed(window.names[row], number, extras);
         window.losses[row] = loss;
         window.shakes[row] = shake;
     }
@@ -113,10 +131,16 @@ fn with_numbers(question: Question, k: u8, rule: Rule, len: u8, next: u16) -> Qu
     changed
 }
 
-fn with_line(question: Question, place: usize, number: u32, score: i32) -> Question {
+fn with_line(
+    question: Question,
+    place: usize,
+    number: u32,
+    score: i32,
+    extras: Extras,
+) -> Question {
     let mut changed = question;
     if place < Lines::MOST {
-        changed.numbers[place] = number;
+        changed.names[place] = renamed(changed.names[place], number, extras);
         changed.scores[place] = score;
     }
     changed

@@ -41,7 +41,7 @@ module _ (w : Window) (q : Question) where
   unfolding fitQuestion
   unfit-fall e f g = rw (e, f, g)
 
-  pub fit-rest : rangesFit q (w .counts .held) ≡ true → allOf (heldAs w (q .rule)) (lines q) ≡ true → falls (above (q .rule)) (lines q) ≡ true → fitQuestion w q ≡ allOf blank (drop (q .len) (linesOf (q .numbers) (q .scores)))
+  pub fit-rest : rangesFit q (w .counts .held) ≡ true → allOf (heldAs w (q .rule)) (lines q) ≡ true → falls (above (q .rule)) (lines q) ≡ true → fitQuestion w q ≡ allOf blank (drop (q .len) (linesOf (q .names) (q .scores)))
   unfolding fitQuestion
   fit-rest e f g = rw (e, f, g)
 
@@ -73,7 +73,7 @@ pub record Fit (w : Window) (q : Question) : Type 0 where
   pub numbers : Ranges q (w .counts .held)
   pub listed : allOf (heldAs w (q .rule)) (lines q) ≡ true
   pub falling : falls (above (q .rule)) (lines q) ≡ true
-  pub rest : allOf blank (drop (q .len) (linesOf (q .numbers) (q .scores))) ≡ true
+  pub rest : allOf blank (drop (q .len) (linesOf (q .names) (q .scores))) ≡ true
 
 pub fit-facts : (w : Window) (q : Question) → fitQuestion w q ≡ true → Fit w q
 unfolding fitQuestion
@@ -81,7 +81,7 @@ fit-facts w q h =
     let A = rangesFit q (w .counts .held) in
     let B = allOf (heldAs w (q .rule)) (lines q) in
     let C = falls (above (q .rule)) (lines q) in
-    let a = and-both (A && B && C) (allOf blank (drop (q .len) (linesOf (q .numbers) (q .scores)))) h in
+    let a = and-both (A && B && C) (allOf blank (drop (q .len) (linesOf (q .names) (q .scores)))) h in
     let b = and-both (A && B) C (a .0) in
     let c = and-both A B (b .0) in
     record { numbers = ranges q (w .counts .held) (c .0); listed = c .1; falling = b .1; rest = a .1 }

@@ -33,7 +33,7 @@ module _ (q : Question) where
         go (passed t) =
             rw (h, no-lines q (bar-open (listOf q) (q .k) e (eqb-true (q .len) (q .k) t))) (and-false (eqb (q .len) (q .k)))
 
-    pub finished-full : Roomy (q .numbers) (q .scores) → barOf q .full ≡ true → finished q ≡ ltZ (bestScore (q .rule) (q .next)) (barOf q .score)
+    pub finished-full : Roomy (q .names) (q .scores) → barOf q .full ≡ true → finished q ≡ ltZ (bestScore (q .rule) (q .next)) (barOf q .score)
     unfolding finished
     finished-full r e =
         let full = bar-full (listOf q) (q .k) r e in

@@ -14,7 +14,6 @@ use Rattle.laws.proofs.Lists.{getD-past}
 use Rattle.laws.proofs.Tests.{Tested, passed, failed, tested, if-so, if-not}
 use Rattle.search.specs.Search.{steps, found}
 use Rattle.search.proofs.Search.{All}
-use Rattle.values.specs.Range.{low}
 use Rattle.values.proofs.Facts.{low-in}
 use Rattle.ranking.specs.declared.Reach.{Reach}
 use Rattle.ranking.specs.Cells.{mostSteps, cellAt, visiting, reaching, reachOf}
@@ -23,7 +22,7 @@ use Rattle.ranking.proofs.Entries.{above-strict}
 use Rattle.ranking.proofs.Scan.{left-none}
 use Rattle.ranking.proofs.Standing.{found-best, steps-all, steps-full}
 use Rattle.window.specs.declared.Window.{Window}
-use Rattle.window.specs.Rows.{valuesIn, reportIn, standing}
+use Rattle.window.specs.Rows.{numberIn, valuesIn, reportAt, reportIn, standing}
 use Rattle.list.specs.declared.Bar.{Bar}
 use Rattle.list.specs.Lines.{columnsOf}
 use Rattle.list.specs.Rows.{rowsOf}
@@ -40,9 +39,9 @@ use Rattle.question.specs.Inner.{lineCount}
 -- what stands in rows is permitted
 standing-permitted : (w : Window) (n : ℕ) → All Permitted (standing w n)
 standing-permitted w zero r m = absurd (List·Memᴰ·not-nil m)
-standing-permitted w (suc n) r m = go (tested (eqb (getD (w .numbers) n 0) 0)) (standing-permitted w n r)
+standing-permitted w (suc n) r m = go (tested (eqb (numberIn w n) 0)) (standing-permitted w n r)
   where
-    go : Tested (eqb (getD (w .numbers) n 0) 0) → (r ∈ standing w n → Permitted r) → Permitted r
+    go : Tested (eqb (numberIn w n) 0) → (r ∈ standing w n → Permitted r) → Permitted r
     go (passed z) ih = ih (subst (λ l. r ∈ l) (if-so (standing w n) (reportIn w n ∷ standing w n) z) m)
     go (failed z) ih =
         ⊎-elim
@@ -84,7 +83,7 @@ module _ (q : Question) (small : q .k ≤ 16) (w : Window) (n : ℕ) where
   ended-searched = go (tested (barOf with-it .full))
     where
       few-lines : lineCount with-it ≡ length list
-      few-lines = sym (length-shown (with-it .numbers) (with-it .scores) (roomy-stored list) (length list) (lineCount with-it) refl) ∙ ap length back
+      few-lines = sym (length-shown (with-it .names) (with-it .scores) (roomy-stored list) (length list) (lineCount with-it) refl) ∙ ap length back
 
       go : Tested (barOf with-it .full) → endedOf with-it ≡ searchedIn q hs
       go (passed t) =
@@ -92,7 +91,7 @@ module _ (q : Question) (small : q .k ≤ 16) (w : Window) (n : ℕ) where
           let bar = barOf with-it in
           if-so _ _ t
           ∙ by-steps (reaching (q .rule) (bar .score))
-          (steps-full (q .rule) hs (standing-permitted w n) (q .k) (full .positive) (full .as-many) (record { number = bar .number; score = bar .score })
+          (steps-full (q .rule) hs (standing-permitted w n) (q .k) (full .positive) (full .as-many) (record { name = bar .name; score = bar .score })
           (λ p. ap (onLast p) (sym back) ∙ full .last p))
       go (failed t) =
           if-not _ _ t
@@ -133,14 +132,14 @@ module _ (q : Question) (w : Window) where
   searched-rows n e = ap (λ hs. cond (leb (q .k) 16) (searchedIn q hs) (record { steps = 0; question = q })) e
 
 -- the arrays are all that a search reads of a window
-standing-same : (w v : Window) → w .losses ≡ v .losses → w .shakes ≡ v .shakes → w .numbers ≡ v .numbers → (n : ℕ) → standing w n ≡ standing v n
+standing-same : (w v : Window) → w .losses ≡ v .losses → w .shakes ≡ v .shakes → w .names ≡ v .names → (n : ℕ) → standing w n ≡ standing v n
 standing-same w v a b c zero = refl
 standing-same w v a b c (suc n) =
-    ap₂ (λ (h : Held) l. cond (eqb (h .number) 0) l (h ∷ l)) (λ i. record { number = getD (c i) n 0; values = low (record { loss = getD (a i) n 0; shake = getD (b i) n 0 }) })
+    ap₂ (λ (h : Held) l. cond (eqb (h .number) 0) l (h ∷ l)) (λ i. reportAt (record { loss = getD (a i) n 0; shake = getD (b i) n 0; name = getD (c i) n 0 }))
     (standing-same w v a b c n)
 
-pub searched-arrays : (q : Question) (w : Window) → searchedOn q (rowsOf (w .losses) (w .shakes) (w .numbers)) ≡ searchedOn q w
+pub searched-arrays : (q : Question) (w : Window) → searchedOn q (rowsOf (w .losses) (w .shakes) (w .names)) ≡ searchedOn q w
 unfolding searchedOn inRows
 searched-arrays q w =
     ap (λ hs. cond (leb (q .k) 16) (searchedIn q hs) (record { steps = 0; question = q }))
-    (standing-same (rowsOf (w .losses) (w .shakes) (w .numbers)) w refl refl refl 1024)
+    (standing-same (rowsOf (w .losses) (w .shakes) (w .names)) w refl refl refl 1024)

@@ -1,14 +1,14 @@
 -- A line that a fit window holds is the entry of one of its held reports, and a question with such lines, strictly falling and not too many, is fit.
 -- Assumes nothing.
-use mathlib.Core.Path.{_≡_, sym, ap, _∙_, subst}
+use mathlib.Core.Path.{_≡_, refl, sym, ap, ap₂, _∙_, subst}
 use mathlib.Core.Logic.{_↔_}
-use mathlib.Core.Bool.{true}
+use mathlib.Core.Bool.{true, _&&_}
 use mathlib.Core.List.{List}
-use Prim.Native.Nat.{ℕ, _+_, min, _≤_, _<_}
+use Prim.Native.Nat.{ℕ, _+_, _/_, min, _≤_, _<_}
 use native.Mathlib.Omega.{arith}
-use borrow.Author.Tests.{le-leb, lt-ltb, eq-eqb}
+use borrow.Author.Tests.{le-leb, lt-ltb, eq-eqb, eqb-true}
 use lib.Dec.{eqb}
-use lib.ListN.{length, getD}
+use lib.ListN.{length}
 use Rattle.laws.specs.Lists.{_∈_}
 use Rattle.laws.specs.Whole.{equal}
 use Rattle.laws.proofs.Lists.{moved}
@@ -16,15 +16,17 @@ use Rattle.laws.proofs.Tests.{and-both, and-true, or-left, or-right}
 use Rattle.laws.proofs.Whole.{equal-is, equal-same}
 use Rattle.search.proofs.Best.{Falling}
 use Rattle.values.proofs.Facts.{low-same}
+use Rattle.values.proofs.Names.{name-number}
 use Rattle.ranking.specs.declared.Rule.{Rule}
-use Rattle.ranking.specs.Cells.{score, isScored, points, inOrder}
-use Rattle.ranking.specs.Standing.{Entry, above, isCounted, entry, entries}
+use Rattle.ranking.specs.Cells.{inOrder}
+use Rattle.ranking.specs.Standing.{Held, Entry, above, isCounted, entry, entries}
 use Rattle.ranking.proofs.Entries.{entries-in, entries-of}
 use Rattle.window.specs.declared.Counts.{Counts}
 use Rattle.window.specs.declared.Window.{Window}
-use Rattle.window.specs.Rows.{rowOf, valuesIn, reportOf, reportIn, heldReports, due, fitWindow}
+use Rattle.window.specs.Rows.{rowOf, numberIn, valuesIn, reportOf, reportIn, heldReports, due, fitWindow}
 use Rattle.window.proofs.Fitness as window
 use Rattle.window.proofs.Reports.{held-in, held-of}
+use Rattle.window.proofs.Standing.{number-there}
 use Rattle.list.specs.Lines.{allOf, falls}
 use Rattle.list.proofs.Blank.{falling-falls, stored-blank, blank-stored}
 pub use Rattle.list.proofs.Blank.{all-in, all-is}
@@ -51,33 +53,37 @@ module _ (w : Window) (fit : fitWindow w ≡ true) (rule : Rule) where
   counts : window.Ranges (w .counts)
   counts = facts .ranges
 
-  -- the row of a held number has that report's values, and so its score
-  its-score : (m : ℕ) → Holds (w .counts) m → score rule (reportIn w (rowOf (w .counts .size) m) .values) ≡ score rule (reportOf w m .values)
-  its-score m h =
+  -- the row of a held number has that report
+  its-report : (m : ℕ) → Holds (w .counts) m → reportIn w (rowOf (w .counts .size) m) ≡ reportOf w m
+  its-report m h =
       let r = rowOf (w .counts .size) m in
-      let row = window.row-holds (due (w .counts) r) (getD (w .numbers) r 0) (valuesIn w r) (facts .rows r (row-within h)) in
-      ap (score rule) (low-same (valuesIn w r) (row .permitted))
+      let row = window.row-holds (due (w .counts) r) (numberIn w r) (valuesIn w r) (facts .rows r (row-within h)) in
+      ap₂ (λ n v. record { number = n; values = v }) (number-there w fit m (h .late) (h .was-entered)) (low-same (valuesIn w r) (row .permitted))
 
-  -- rules 9.5 and 16.6: a line names a held report that counts, with its score
+  -- rules 9.5, 16.6 and 17.6: a line names a held report that counts, with its edition and its score
   pub listed : (e : Entry) → heldAs w rule e ≡ true ↔ e ∈ entries rule (heldReports w)
   unfolding heldAs
   listed e = (to, from)
     where
       to : heldAs w rule e ≡ true → e ∈ entries rule (heldReports w)
       to t =
-          let row = reportIn w (rowOf (w .counts .size) (e .number)) in
-          let both = and-both (holdsNumber (w .counts) (e .number)) (isLineOf rule e row) t in
-          let line = and-both (isCounted rule row) (equal (e .score) (entry rule row .score)) (both .1) in
-          let h = holds (w .counts) (e .number) (both .0) in
-          let same = equal-is (e .score) (entry rule row .score) (line .1) ∙ ap points (its-score (e .number) h) in
-          moved (ap (λ s. record { number = e .number; score = s }) (sym same))
-          (entries-in rule (held-in w counts (e .number) (h .late) (h .was-entered)) (sym (ap isScored (its-score (e .number) h)) ∙ line .0))
+          let m = e .name / 4097 in
+          let row = reportIn w (rowOf (w .counts .size) m) in
+          let both = and-both (holdsNumber (w .counts) m) (isLineOf rule e row) t in
+          let line = and-both (isCounted rule row && eqb (e .name) (entry rule row .name)) (equal (e .score) (entry rule row .score)) (both .1) in
+          let named = and-both (isCounted rule row) (eqb (e .name) (entry rule row .name)) (line .0) in
+          let h = holds (w .counts) m (both .0) in
+          let same : e ≡ entry rule row = ap₂ (λ n s. record { name = n; score = s }) (eqb-true (e .name) (entry rule row .name) (named .1)) (equal-is (e .score) (entry rule row .score) (line .1)) in
+          moved (sym (same ∙ ap (entry rule) (its-report m h)))
+          (entries-in rule (held-in w counts m (h .late) (h .was-entered)) (subst (λ g. isCounted rule g ≡ true) (its-report m h) (named .0)))
+
+      is-line : (g : Held) → isCounted rule g ≡ true → isLineOf rule (entry rule g) g ≡ true
+      is-line g counted = and-true (and-true counted (eq-eqb (entry rule g .name) (entry rule g .name) refl)) (equal-same (entry rule g .score) (entry rule g .score) refl)
 
       held : (m : ℕ) → Holds (w .counts) m → isCounted rule (reportOf w m) ≡ true → heldAs w rule (entry rule (reportOf w m)) ≡ true
       held m h counted =
-          and-true (holds-is h)
-          (and-true (ap isScored (its-score m h) ∙ counted)
-          (equal-same (entry rule (reportOf w m) .score) (entry rule (reportIn w (rowOf (w .counts .size) m)) .score) (sym (ap points (its-score m h)))))
+          ap (λ n. holdsNumber (w .counts) n && isLineOf rule (entry rule (reportOf w m)) (reportIn w (rowOf (w .counts .size) n))) (name-number m (reportOf w m .values .edition))
+          ∙ and-true (holds-is h) (subst (λ g. isLineOf rule (entry rule (reportOf w m)) g ≡ true) (sym (its-report m h)) (is-line (reportOf w m) counted))
 
       from : e ∈ entries rule (heldReports w) → heldAs w rule e ≡ true
       from k =
@@ -125,7 +131,7 @@ fit-asked w fit k rule l next r held fall =
     back = lines-asked k rule l next (omega (arith, r .small, r .short))
 
 -- A fit question is its list, stored: k, rule, lines and next cell say all of it.
-pub fit-stored : (w : Window) (q : Question) → Roomy (q .numbers) (q .scores) → fitQuestion w q ≡ true → q ≡ withList q (lines q)
+pub fit-stored : (w : Window) (q : Question) → Roomy (q .names) (q .scores) → fitQuestion w q ≡ true → q ≡ withList q (lines q)
 fit-stored w q room fit =
     let facts = fit-facts w q fit in
     ap (holding q) (blank-stored (listOf q) room (omega (arith, facts .numbers .small, facts .numbers .short)) (facts .rest))

@@ -22,19 +22,19 @@ pub lines-asked : (k : ℕ) (w : Rule) (l : List Entry) (next : ℕ) → length 
 lines-asked k w l next h = list.lines-back l h
 
 -- as a function knows it of the arrays of a question that is handed in
-pub roomy : (q : Question) → length (map (λ (n : ℕ). n) (q .numbers)) ≡ 16 → length (map (λ (s : ℤ). s) (q .scores)) ≡ 16 → Roomy (q .numbers) (q .scores)
-roomy q n s = list.roomy-known (q .numbers) (q .scores) n s
+pub roomy : (q : Question) → length (map (λ (n : ℕ). n) (q .names)) ≡ 16 → length (map (λ (s : ℤ). s) (q .scores)) ≡ 16 → Roomy (q .names) (q .scores)
+roomy q n s = list.roomy-known (q .names) (q .scores) n s
 
-module _ (q : Question) (r : Roomy (q .numbers) (q .scores)) where
-  pub shown-lines : (n : ℕ) → n ≡ lineCount q → take n (linesOf (q .numbers) (q .scores)) ≡ lines q
+module _ (q : Question) (r : Roomy (q .names) (q .scores)) where
+  pub shown-lines : (n : ℕ) → n ≡ lineCount q → take n (linesOf (q .names) (q .scores)) ≡ lines q
   shown-lines = list.front-lines (listOf q) r
 
-  pub all-lines : (n : ℕ) → n ≡ lineCount q → (m : ℕ) → m ≡ n → take m (take n (linesOf (q .numbers) (q .scores))) ≡ lines q
+  pub all-lines : (n : ℕ) → n ≡ lineCount q → (m : ℕ) → m ≡ n → take m (take n (linesOf (q .names) (q .scores))) ≡ lines q
   all-lines = list.all-lines (listOf q) r
 
   -- the last line
-  pub last-line : (i : ℕ) → i + 1 ≡ lineCount q → (p : Entry → Bool) → onLast p (lines q) ≡ p (lineAt (q .numbers) (q .scores) i)
-  last-line = list.last-shown (q .numbers) (q .scores) r (q .len) (lineCount q) refl
+  pub last-line : (i : ℕ) → i + 1 ≡ lineCount q → (p : Entry → Bool) → onLast p (lines q) ≡ p (lineAt (q .names) (q .scores) i)
+  last-line = list.last-shown (q .names) (q .scores) r (q .len) (lineCount q) refl
 
 pub no-lines : (q : Question) → lineCount q ≡ 0 → lines q ≡ []
 no-lines q = list.no-lines (listOf q)

@@ -9,7 +9,7 @@ use native.Mathlib.Numerals.{add-one}
 use native.Mathlib.Omega.{arith}
 use borrow.Author.Tests.{lt-leb, le-leb}
 use lib.Dec.{eqb, leb}
-use lib.ListN.{length, take, getD, length-take}
+use lib.ListN.{length, take, length-take}
 use lib.Seq.{take-take}
 use Rattle.laws.specs.Lists.{only}
 use Rattle.laws.proofs.Lists.{_⊆_, Same, there, only-yes, only-no}
@@ -21,7 +21,7 @@ use Rattle.ranking.specs.Cells.{inOrder, cellAfter}
 use Rattle.ranking.specs.Standing.{Held, Entry, above, isCounted, entry, entries}
 use Rattle.ranking.proofs.Entries.{above-strict, entries-none, entries-cons, entries-out}
 use Rattle.window.specs.declared.Window.{Window}
-use Rattle.window.specs.Rows.{reportIn, standing}
+use Rattle.window.specs.Rows.{numberIn, reportIn, standing}
 use Rattle.list.proofs.Stored.{fewest, lines-back}
 use Rattle.question.specs.declared.Question.{Question}
 use Rattle.question.specs.Lines.{lines, asked, withList, cutToK, inCell, stepped, stepOn, inRows, withNext, cutWith}
@@ -81,7 +81,7 @@ within-joined q x = ap (withList q) (fewest (q .k) 16 whole ∙ ap (take (q .k))
 module _ (q : Question) (small : q .k ≤ 16) (w : Window) where
   -- one row more
   pub taken-more : (row : ℕ) → taking (listTaken q w row) (reportIn w row) ≡ listTaken q w (row + 1)
-  taken-more row = go (tested (eqb (getD (w .numbers) row 0) 0)) (tested (inCell (q .next) (reportIn w row))) (tested (isCounted (q .rule) (reportIn w row))) ∙ ap (listTaken q w) (sym (add-one row))
+  taken-more row = go (tested (eqb (numberIn w row) 0)) (tested (inCell (q .next) (reportIn w row))) (tested (isCounted (q .rule) (reportIn w row))) ∙ ap (listTaken q w) (sym (add-one row))
     where
       e : Entry
       e = entry (q .rule) (reportIn w row)
@@ -111,7 +111,7 @@ module _ (q : Question) (small : q .k ≤ 16) (w : Window) where
               (λ h. ⊎-elim (λ t. Memᴰ·append-left (e ∷ old) t) (λ t. Memᴰ·append-right (lines q) (there t)) (List·Memᴰ·append-cases (lines q) h))
               (List·Memᴰ·cases-cons m)
 
-      go : Tested (eqb (getD (w .numbers) row 0) 0) → Tested (inCell (q .next) (reportIn w row)) → Tested (isCounted (q .rule) (reportIn w row)) → taking (listTaken q w row) (reportIn w row) ≡ listTaken q w (suc row)
+      go : Tested (eqb (numberIn w row) 0) → Tested (inCell (q .next) (reportIn w row)) → Tested (isCounted (q .rule) (reportIn w row)) → taking (listTaken q w row) (reportIn w row) ≡ listTaken q w (suc row)
       go (passed z) t u = taking-none (listTaken q w row) (reportIn w row) z ∙ ap rows (sym (if-so (standing w row) (reportIn w row ∷ standing w row) z))
       go (failed z) (failed t) u =
           taking-other (listTaken q w row) (reportIn w row) z t

@@ -1,9 +1,10 @@
 -- Which questions are fit, and what a step and a beginning answer (docs/RULES.md, section 9).
-use Prim.Native.Nat.{ℕ, _+_, min}
+use Prim.Native.Nat.{ℕ, _+_, _/_, min}
 use mathlib.Core.Bool.{Bool, cond, _&&_, _||_}
 use lib.ListN.{drop}
 use lib.Dec.{leb, ltb, eqb}
 use Rattle.laws.specs.Whole.{equal}
+use Rattle.values.specs.Names.{editions}
 use Rattle.ranking.specs.declared.Rule.{Rule}
 use Rattle.ranking.specs.Cells.{cellCount, fitRule, inOrder}
 use Rattle.ranking.specs.Standing.{Held, Entry, above, isCounted, entry}
@@ -20,13 +21,14 @@ use Rattle.question.specs.declared.Stepped.{Stepped}
 unfoldable pub holdsNumber : Counts → ℕ → Bool
 holdsNumber c m = sized (c .size) && leb 1 m && leb m (c .entered) && ltb (c .entered) (m + c .held)
 
--- Rules 9.5 and 16.6: a line is that of a report that counts.
+-- Rules 9.5, 16.6 and 17.6: a line is that of a report that counts, of its edition.
 abbrev pub isLineOf : Rule → Entry → Held → Bool
-isLineOf rule e h = isCounted rule h && equal (e .score) (entry rule h .score)
+isLineOf rule e h = isCounted rule h && eqb (e .name) (entry rule h .name) && equal (e .score) (entry rule h .score)
 
--- A line names a report that is held and counts, with its score, as its row has it.
+-- A line names a report that is held and counts, with its edition and its score, as its row has it.
 unfoldable pub heldAs : Window → Rule → Entry → Bool
-heldAs w rule e = holdsNumber (w .counts) (e .number) && isLineOf rule e (reportIn w (rowOf (w .counts .size) (e .number)))
+heldAs w rule e =
+    holdsNumber (w .counts) (e .name / editions) && isLineOf rule e (reportIn w (rowOf (w .counts .size) (e .name / editions)))
 
 -- Rules 9.5 and 16.6: the cell that is next is in the visiting order, or none is.
 unfoldable pub nextFits : Rule → ℕ → Bool
@@ -37,13 +39,13 @@ unfoldable pub rangesFit : Question → ℕ → Bool
 rangesFit q held =
     leb 1 (q .k) && leb (q .k) mostLines && fitRule (q .rule) && nextFits (q .rule) (q .next) && leb (q .len) (min (q .k) held)
 
--- Rules 9.5 and 9.6: each line names a held report that counts, with its score, the lines fall in rank, and places past the list's end are 0.
+-- Rules 9.5, 9.6 and 17.6: each line names a held report that counts, with its edition and its score, the lines fall in rank, and places past the list's end are 0.
 unfoldable pub fitQuestion : Window → Question → Bool
 fitQuestion w q =
     rangesFit q (w .counts .held)
     && allOf (heldAs w (q .rule)) (lines q)
     && falls (above (q .rule)) (lines q)
-    && allOf blank (drop (q .len) (linesOf (q .numbers) (q .scores)))
+    && allOf blank (drop (q .len) (linesOf (q .names) (q .scores)))
 
 -- Rules 7.7 and 9.4: a step, refused 24, then 25; a refusal hands the question back.
 unfoldable pub stepCall : Window → Question → Stepped

@@ -13,7 +13,7 @@ use Rattle.ranking.specs.Standing.{Held, Entry, above, entries, reaches, search
 use Rattle.window.specs.declared.Window.{Window}
 use Rattle.window.specs.Rows.{rowCount, standing}
 use Rattle.list.specs.declared.Lines.{Lines}
-use Rattle.list.specs.Lines.{mostLines, numbersOf, scoresOf, columnsOf, linesIn}
+use Rattle.list.specs.Lines.{mostLines, namesOf, scoresOf, columnsOf, linesIn}
 pub use Rattle.list.specs.Lines.{linesOf}
 pub use Rattle.list.specs.Rows.{rowsOf}
 use Rattle.list.specs.declared.Bar.{Bar}
@@ -23,7 +23,7 @@ use Rattle.question.specs.declared.Searched.{Searched}
 
 -- A question's list.
 abbrev pub listOf : Question → Lines
-listOf q = record { numbers = q .numbers; scores = q .scores; len = q .len }
+listOf q = record { names = q .names; scores = q .scores; len = q .len }
 
 -- Its lines, best first.
 abbrev pub lines : Question → List Entry
@@ -32,7 +32,7 @@ lines q = linesIn (listOf q)
 -- The same question with another list.
 abbrev pub holding : Question → Lines → Question
 holding q l =
-    record { k = q .k; rule = q .rule; numbers = l .numbers; scores = l .scores; len = l .len; next = q .next }
+    record { k = q .k; rule = q .rule; names = l .names; scores = l .scores; len = l .len; next = q .next }
 
 -- And with some lines, as a list stores them.
 abbrev pub withList : Question → List Entry → Question
@@ -41,7 +41,7 @@ withList q l = holding q (columnsOf l)
 -- A question with that list and that next cell.
 abbrev pub asked : ℕ → Rule → List Entry → ℕ → Question
 asked k rule l next =
-    record { k = k; rule = rule; numbers = numbersOf l; scores = scoresOf l; len = length l; next = next }
+    record { k = k; rule = rule; names = namesOf l; scores = scoresOf l; len = length l; next = next }
 
 -- Rules 6.6 and 9.6: an empty slot has k 0, and all else in it is 0.
 abbrev pub emptySlot : Question
@@ -136,7 +136,7 @@ barOf q = bars.barOf (listOf q) (q .k)
 -- The same list, and another cell is next.
 abbrev pub withNext : Question → ℕ → Question
 withNext q next =
-    record { k = q .k; rule = q .rule; numbers = q .numbers; scores = q .scores; len = q .len; next = next }
+    record { k = q .k; rule = q .rule; names = q .names; scores = q .scores; len = q .len; next = next }
 
 -- Where the search that found this list ends.
 unfoldable pub endedOf : Question → Searched

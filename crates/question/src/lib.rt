@@ -4,9 +4,8 @@ ghost use mathlib.Core.List.{[]};
 ghost use Prim.Native.Nat.{min, _≤_};
 ghost use lib.ListN.{take, drop};
 ghost use Rattle.search.specs.Best.{best, placed};
-ghost use Rattle.values.specs.Range.{low};
 ghost use Rattle.ranking.specs.Standing.{above};
-ghost use Rattle.window.specs.Rows.{rowCount};
+ghost use Rattle.window.specs.Rows.{rowCount, reportAt};
 ghost use Rattle.list.specs.Lines.{mostLines, linesOf, allOf, blank};
 ghost use Rattle.list.specs.Rows.{rowsOf};
 ghost use Rattle.question.specs.Lines.{asked, listOf, holding, withList, lines, emptySlot, withEntry, cutToK, finished, begun, stepOn, searchedOn, searchedFirst, stepsTaken, isMarked, isPast, marksOf, endedOf, withNext, cutWith};
@@ -17,8 +16,9 @@ use list::gathered;
 use ranking::Grid;
 use ranking::Rule;
 use ranking::Score;
-use values::Values;
+use values::Name;
 use window::Counts;
+use window::Row;
 use window::Window;
 
 // `next` is the cell that the search takes next, 256 where none is left: the cells before it in the visiting order are the
@@ -26,7 +26,7 @@ use window::Window;
 pub struct Question {
     pub k: u8,
     pub rule: Rule,
-    pub numbers: [u32; Lines::MOST],
+    pub names: [u32; Lines::MOST],
     pub scores: [i32; Lines::MOST],
     pub len: u8,
     pub next: u16,
@@ -66,12 +66,12 @@ impl Question {
     fn without_lines(k: u8, rule: Rule, next: u16) -> Question
         ensures { λ r. ⌜ r ≡ asked k rule [] next ⌝ }
     {
-        let numbers = [0u32; Lines::MOST];
+        let names = [0u32; Lines::MOST];
         let scores = [0i32; Lines::MOST];
         Question {
             k,
             rule,
-            numbers,
+            names,
             scores,
             len: 0,
             next,
@@ -82,10 +82,10 @@ impl Question {
     fn list(self) -> Lines
         ensures { λ r. ⌜ r ≡ listOf self ⌝ }
     {
-        let numbers = self.numbers;
+        let names = self.names;
         let scores = self.scores;
         Lines {
-            numbers,
+            names,
             scores,
             len: self.len,
         }
@@ -96,12 +96,12 @@ impl Question {
         ensures { λ r. ⌜ r ≡ holding self list ⌝ }
     {
         let rule = self.rule;
-        let numbers = list.numbers;
+        let names = list.names;
         let scores = list.scores;
         Question {
             k: self.k,
             rule,
-            numbers,
+            names,
             scores,
             len: list.len,
             next: self.next,
@@ -109,17 +109,17 @@ impl Question {
     }
 
     // One entry put in its rank among the lines, once, of which at most `most` are kept.
-    fn placed_within(self, most: usize, number: u32, score: i32) -> Question
-        ensures { λ r. ⌜ r ≡ withList self (take (min most mostLines) (placed (above (self .rule)) (record { number = number; score = score }) (lines self))) ⌝ }
+    fn placed_within(self, most: usize, name: u32, score: i32) -> Question
+        ensures { λ r. ⌜ r ≡ withList self (take (min most mostLines) (placed (above (self .rule)) (record { name = name; score = score }) (lines self))) ⌝ }
     {
-        self.holding(self.list().placed(self.rule, most, number, score))
+        self.holding(self.list().placed(self.rule, most, name, score))
     }
 
     // One entry put in its rank among the lines, once, of which at most 16 are kept.
-    pub fn with_entry(self, number: u32, score: i32) -> Question
-        ensures { λ r. ⌜ r ≡ withEntry self (record { number = number; score = score }) ⌝ }
+    pub fn with_entry(self, name: u32, score: i32) -> Question
+        ensures { λ r. ⌜ r ≡ withEntry self (record { name = name; score = score }) ⌝ }
     {
-        self.placed_within(Lines::MOST, number, score)
+        self.placed_within(Lines::MOST, name, score)
     }
 
     // The first k lines.
@@ -130,10 +130,10 @@ impl Question {
     }
 
     // One entry among the first k.
-    pub fn cut_with(self, number: u32, score: i32) -> Question
-        ensures { λ r. ⌜ r ≡ cutWith self (record { number = number; score = score }) ⌝ }
+    pub fn cut_with(self, name: u32, score: i32) -> Question
+        ensures { λ r. ⌜ r ≡ cutWith self (record { name = name; score = score }) ⌝ }
     {
-        self.placed_within(self.k as usize, number, score)
+        self.placed_within(self.k as usize, name, score)
     }
 
     // The search has ended (rule 7.6): no cell is left, or k lines are there and the cell that comes next can't reach the
@@ -168,19 +168,21 @@ impl Question {
     }
 
     // The report of one row joins the lines, if it lies in the next cell and counts.
-    fn taking(self, number: u32, values: Values) -> Question
-        ensures { λ r. ⌜ r ≡ taking self (record { number = number; values = low values }) ⌝ }
+    fn taking(self, row: Row) -> Question
+        ensures { λ r. ⌜ r ≡ taking self (reportAt row) ⌝ }
     {
-        if number == 0 {
+        let name = row.name;
+        if Name::number(name) == 0 {
             return self;
         }
         let next = self.next;
+        let values = row.values();
         let cell = Grid::cell(values) as u16;
         if cell != next {
             return self;
         }
         match self.rule.score(values) {
-            Score::Scored(score) => self.cut_with(number, score),
+            Score::Scored(score) => self.cut_with(name, score),
             Score::DoesNotCount => self,
         }
     }
@@ -195,7 +197,8 @@ impl Question {
         while row < Window::ROWS {
             let loss = window.losses[row];
             let shake = window.shakes[row];
-            list = list.taking(window.numbers[row], Values { loss, shake });
+            let name = window.names[row];
+            list = list.taking(Row { loss, shake, name });
             row += 1;
         }
         list
@@ -229,12 +232,7 @@ impl Question {
     pub fn searched(self, window: Window) -> Searched
         ensures { λ r. ⌜ r ≡ searchedOn self window ⌝ }
     {
-        self.searched_in(
-            &window.losses,
-            &window.shakes,
-            &window.numbers,
-            Window::ROWS,
-        )
+        self.searched_in(&window.losses, &window.shakes, &window.names, Window::ROWS)
     }
 
     // The same over the reports in the first `rows` rows alone, for a caller that lends them.
@@ -242,10 +240,10 @@ impl Question {
         self,
         losses: &'a [u16; Window::ROWS],
         shakes: &'a [u16; Window::ROWS],
-        numbers: &'a [u32; Window::ROWS],
+        names: &'a [u32; Window::ROWS],
         rows: usize,
     ) -> Searched
-        ensures { λ r. ⌜ r ≡ searchedFirst self (rowsOf (now (losses .entry)) (now (shakes .entry)) (now (numbers .entry))) (min rows rowCount) ⌝ }
+        ensures { λ r. ⌜ r ≡ searchedFirst self (rowsOf (now (losses .entry)) (now (shakes .entry)) (now (names .entry))) (min rows rowCount) ⌝ }
     {
         if Question::LINES < self.k {
             return Searched {
@@ -253,7 +251,7 @@ impl Question {
                 question: self,
             };
         }
-        let list = gathered(self.rule, self.k, losses, shakes, numbers, rows);
+        let list = gathered(self.rule, self.k, losses, shakes, names, rows);
         self.holding(list).ended()
     }
 
@@ -428,7 +426,7 @@ impl Question {
         let n = self.list().line_count();
         let mut i: usize = 0;
         while i < n {
-            if !held_as(window, self.rule, self.numbers[i], self.scores[i]) {
+            if !held_as(window, self.rule, self.names[i], self.scores[i]) {
                 return false;
             }
             i += 1;
@@ -438,24 +436,34 @@ impl Question {
 
     // The places past the list's end are 0.
     pub fn rest_blank(self) -> bool
-        ensures { λ r. ⌜ r ≡ allOf blank (drop (self .len) (linesOf (self .numbers) (self .scores))) ⌝ }
+        ensures { λ r. ⌜ r ≡ allOf blank (drop (self .len) (linesOf (self .names) (self .scores))) ⌝ }
     {
         self.list().rest_blank()
     }
 }
 
-// The window holds the report of that number, and it counts, with that score.
-fn held_as(window: Window, rule: Rule, number: u32, score: i32) -> bool
-    ensures { λ r. ⌜ r ≡ heldAs window rule (record { number = number; score = score }) ⌝ }
+// The window holds the report of that name, which has its edition too, and it counts, with that score.
+fn held_as(window: Window, rule: Rule, name: u32, score: i32) -> bool
+    ensures { λ r. ⌜ r ≡ heldAs window rule (record { name = name; score = score }) ⌝ }
 {
     let counts = window.counts;
+    let number = Name::number(name);
     if !holds_number(counts, number) {
         return false;
     }
     let row = ((number - 1) % (counts.size as u32)) as usize;
     let loss = window.losses[row];
     let shake = window.shakes[row];
-    match rule.score(Values { loss, shake }) {
+    let own_name = window.names[row];
+    if name != own_name {
+        return false;
+    }
+    let held = Row {
+        loss,
+        shake,
+        name: own_name,
+    };
+    match rule.score(held.values()) {
         Score::Scored(own) => score == own,
         Score::DoesNotCount => false,
     }

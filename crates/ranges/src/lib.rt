@@ -13,10 +13,12 @@ impl Numbers {
 
     // Reads a number from the word `from` on for each letter:
     //   b  0 to 255                s  0 to 31, a slot       h  0 to 65535         n  0 to 4294967295
-    //   u  0 to 253, a sender      r  0 to 1023, a row      p  0 to 15, a line    y  0 to 83, a byte's place
+    //   u  0 to 253, a sender      r  0 to 1023, a row      p  0 to 15, a line    y  0 to 88, a byte's place
+    //   e  0 to 4095, a heat       m  0 to 1048319, the number in a name
     //   w  -32768 to 32767         z  -2147483648 to 2147483647
     //   x  1 to 8 hexadecimal digits
     //   d  bytes in hexadecimal digits, which may be missing: the number is that of the word, where `bytes` reads them
+    // Any other letter has no number.
     pub fn read(line: &[u8], from: u8, letters: &[u8]) -> Numbers {
         let values = [0u32; Numbers::MOST];
         let mut numbers = Numbers {
@@ -82,14 +84,17 @@ fn number(word: &[u8], letter: u8, at: u8) -> Number {
         b'u' => Number::read(word, 10, 253),
         b'r' => Number::read(word, 10, 1023),
         b'p' => Number::read(word, 10, 15),
-        b'y' => Number::read(word, 10, 83),
+        b'y' => Number::read(word, 10, 88),
+        b'e' => Number::read(word, 10, 4095),
+        b'm' => Number::read(word, 10, 1048319),
         b'w' => Number::short(word),
         b'z' => long(word),
         b'x' => identifier(word),
-        _ => Number {
+        b'd' => Number {
             known: true,
             value: at as u32,
         },
+        _ => unknown(),
     }
 }
 

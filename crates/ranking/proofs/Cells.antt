@@ -1,8 +1,8 @@
 -- The visiting order holds each cell that counts once, by falling best possible score; a score is at most its cell's best, which the corner in cell and ranges attains; scores fit 32 bits.
 -- Assumes nothing.
-use mathlib.Core.Path.{_≡_, refl, sym, ap, _∙_, subst}
+use mathlib.Core.Path.{_≡_, refl, sym, ap, ap₂, _∙_, subst}
 use mathlib.Core.Logic.{_⊎_, inl, inr, ⊎-elim}
-use mathlib.Core.Bool.{Bool, true, false, _&&_}
+use mathlib.Core.Bool.{Bool, true, false, cond, _&&_}
 use mathlib.Core.List.{List, [], _∷_, List·Memᴰ·head, List·Memᴰ·cases-cons, List·Memᴰ·not-nil}
 use Prim.Native.Nat.{ℕ, zero, suc, _+_, _*_, _-_, _/_, _%_, _≤_, _<_}
 use native.Mathlib.Nat.{le-of-suc-le-suc, mul-le-mul, not-suc-le-zero}
@@ -10,24 +10,29 @@ use native.Mathlib.Omega.{arith}
 use borrow.Author.Tests.{lt-ltb, ltb-true, le-leb, leb-true}
 use lib.Dec.{ltb, leb}
 use lib.ListN.{length}
-use lib.IntN.{ℤ, pos, negsuc, natAbs, _*ℤ_}
+use lib.IntN.{ℤ, pos, negsuc, natAbs, _+ℤ_, _*ℤ_, +ℤ-idr, zero-*ℤ}
 use lib.Signed.{ltZ, mag, natAbs-le}
 use mir.Syntax.{w16, w32}
 use mir.Val.{SFits}
 use Rattle.laws.specs.Lists.{_∈_, only}
+use Rattle.laws.specs.Whole as whole
 use Rattle.values.specs.declared.Values.{Values}
-use Rattle.values.specs.Range.{inRange}
+use Rattle.values.specs.declared.Edition.{Edition}
+use Rattle.values.specs.declared.Edition.the-variants.{First, Second}
+use Rattle.values.specs.Range.{heatInRange, inRange, low}
+use Rattle.values.specs.Names.{editionOf}
 use Rattle.values.proofs.Facts.{range-facts, range-is}
-use Rattle.ranking.specs.Cells.{inside, weightFits, weightsFit, isProper, rangesProper, fitRule, counts, sum, score, isScored, points, ScoreFits, fromLeast, cell, meets, cellCounts, nearest, corner, cornerOf, bestScore, greater, before, numbersBelow, cells, countedCells, mostSteps, visiting, inOrder}
+use Rattle.ranking.specs.Cells.{inside, weightFits, weightsFit, isProper, rangesProper, fitRule, heatCounts, counts, heatOf, weighed, sum, score, isScored, points, ScoreFits, fromLeast, valuesNamed, cell, meets, cellCounts, nearest, corner, cornerHeat, cornerOf, bestScore, greater, before, numbersBelow, cells, countedCells, mostSteps, visiting, inOrder}
+use Rattle.ranking.specs.Inner.{pairPart, hottest, editionBy, Words}
 use Rattle.ranking.specs.declared.Range.{Range}
 use Rattle.ranking.specs.declared.Rule.{Rule}
 use Rattle.ranking.specs.declared.Score.{Score}
 use Rattle.ranking.specs.declared.Score.the-variants.{Scored, DoesNotCount}
-use Rattle.laws.proofs.Tests.{Tested, passed, failed, tested, clash, and-both, and-true, if-so, if-not}
+use Rattle.laws.proofs.Tests.{Tested, passed, failed, tested, clash, and-both, and-true, and-so, if-so, if-not}
 use Rattle.laws.proofs.Lists.{Pairwise, Distinct, Other, Same, there, pairwise-map, pairwise-only, only-in, only-of, only-only, only-length, same-only, lt-or-eq}
-use Rattle.laws.proofs.Orders.{StrictTotal, one-way, ltb-strict}
+use Rattle.laws.proofs.Orders.{StrictTotal, one-way, ahead, ltb-strict}
 use Rattle.search.proofs.Best.{Falling, rank-in, rank-of, rank-falling, falling-distinct, length-rank, length-same}
-use Rattle.laws.proofs.Whole.{ltZ-strict, Up, up-le, up-sum, up-times, down-times, mag-le, abs-times, abs-sum}
+use Rattle.laws.proofs.Whole.{ltZ-strict, Up, up-le, up-sum, up-times, down-times, mag-le, abs-times, abs-sum, equal-same, equal-is}
 
 -- ---- by a number, and then by a tie
 
@@ -353,16 +358,72 @@ corner-up (negsuc n) range v h =
     bottom : nearest (range .low) (v / 256) + (v - nearest (range .low) (v / 256)) ≡ v
     bottom = let f = inside-facts range v h in omega arith
 
--- a weight of 16 bits times a permitted value
+-- ---- heat
+
+unfoldable pub up-same : (x : ℤ) → Up x x
+up-same x = record { gap = 0; is = +ℤ-idr x }
+
+pub heat-hot : (c : ℤ) → ltZ (pos 0) c ≡ true → cornerHeat c ≡ 4095
+heat-hot c e = rw (e, cornerHeat)
+
+pub heat-cold : (c : ℤ) → ltZ (pos 0) c ≡ false → cornerHeat c ≡ 0
+heat-cold c e = rw (e, cornerHeat)
+
+pub heat-small : (c : ℤ) → cornerHeat c ≤ 4095
+heat-small c = go (tested (ltZ (pos 0) c))
+  where
+    go : Tested (ltZ (pos 0) c) → cornerHeat c ≤ 4095
+    go (passed e) = rw (heat-hot c e) (omega arith)
+    go (failed e) = rw (heat-cold c e) (omega arith)
+
+-- where heat has no weight every edition counts
+pub heat-counts-cold : (c : ℤ) (e : Edition) → whole.equal c (pos 0) ≡ true → heatCounts c e ≡ true
+heat-counts-cold c First h = h
+heat-counts-cold c (Second heat) h = refl
+
+heat-fits : (e : Edition) → heatInRange e ≡ true → heatOf e ≤ 4095
+heat-fits First h = omega arith
+heat-fits (Second heat) h = leb-true heat 4095 h
+
+-- no permitted heat counts for more than the best, nor does none
+heat-up : (c : ℤ) (h : ℕ) → h ≤ 4095 → Up (c *ℤ pos h) (c *ℤ pos (cornerHeat c))
+heat-up (pos zero) h l = record { gap = 0; is = ap pos nought }
+  where
+    nought : 0 * h + 0 ≡ 0 * 0
+    nought = omega arith
+heat-up (pos (suc n)) h l =
+    rw (heat-hot (pos (suc n)) (lt-ltb 0 (suc n) (omega arith)))
+    (subst (λ u. Up (pos (suc n) *ℤ pos h) (pos (suc n) *ℤ pos u)) top (up-times (suc n) h (4095 - h)))
+  where
+    top : h + (4095 - h) ≡ 4095
+    top = omega arith
+heat-up (negsuc n) h l = subst (λ u. Up (negsuc n *ℤ pos u) (negsuc n *ℤ pos 0)) bottom (down-times n 0 h)
+  where
+    bottom : 0 + h ≡ h
+    bottom = omega arith
+
+-- a weight times a permitted value
+part-within : (most : ℕ) (a : ℤ) (v : ℕ) → natAbs a ≤ most → v ≤ 4095 → natAbs (a *ℤ pos v) ≤ most * 4095
+part-within most a v h g = rw (abs-times a v) (mul-le-mul h g)
+
+-- a weight of 16 bits
 part-small : (a : ℤ) (v : ℕ) → SFits w16 a → v ≤ 4095 → natAbs (a *ℤ pos v) ≤ 134184960
-part-small a v h g = rw (abs-times a v) (mul-le-mul (natAbs-le a (h .sfits)) g)
+part-small a v h g = part-within 32768 a v (natAbs-le a (h .sfits)) g
 
 pub part-fits : (a : ℤ) (v : ℕ) → SFits w16 a → v ≤ 4095 → SFits w32 (a *ℤ pos v)
 part-fits a v h g = record { sfits = omega (arith, mag-le (a *ℤ pos v), part-small a v h g) }
 
+-- and two of them
+pub two-fit : (a : ℤ) (u : ℕ) → SFits w16 a → u ≤ 4095 → (b : ℤ) (v : ℕ) → SFits w16 b → v ≤ 4095 → SFits w32 (a *ℤ pos u +ℤ b *ℤ pos v)
+two-fit a u f g b v h i =
+    record { sfits = omega (arith, mag-le (a *ℤ pos u +ℤ b *ℤ pos v), abs-sum (a *ℤ pos u) (b *ℤ pos v), part-small a u f g, part-small b v h i) }
+
+weight-most : (z : ℤ) → weightFits z ≡ true → natAbs z ≤ 1000
+weight-most (pos n) t = leb-true n 1000 (and-both true (leb n 1000) t .1)
+weight-most (negsuc n) t = omega (arith, leb-true n 999 (and-both (leb n 999) true t .0))
+
 weight-word : (z : ℤ) → weightFits z ≡ true → SFits w16 z
-weight-word (pos n) t = record { sfits = omega (arith, leb-true n 1000 (and-both true (leb n 1000) t .1)) }
-weight-word (negsuc n) t = record { sfits = omega (arith, leb-true n 999 (and-both (leb n 999) true t .0)) }
+weight-word z t = record { sfits = omega (arith, mag-le z, weight-most z t) }
 
 module _ (rule : Rule) where
   abbrev losses : Range
@@ -371,9 +432,12 @@ module _ (rule : Rule) where
   abbrev shakes : Range
   shakes = rule .ranges .shake
 
-  pub counts-facts : (v : Values) → counts rule v ≡ true → (inside losses (v .loss) ≡ true) × (inside shakes (v .shake) ≡ true)
+  pub counts-facts : (v : Values) → counts rule v ≡ true → (inside losses (v .loss) ≡ true) × (inside shakes (v .shake) ≡ true) × (heatCounts (rule .weights .heat) (v .edition) ≡ true)
   unfolding counts
-  counts-facts v h = and-both (inside losses (v .loss)) (inside shakes (v .shake)) h
+  counts-facts v h =
+      let both = and-both (inside losses (v .loss) && inside shakes (v .shake)) (heatCounts (rule .weights .heat) (v .edition)) h in
+      let pair = and-both (inside losses (v .loss)) (inside shakes (v .shake)) (both .0) in
+      (pair .0, pair .1, both .1)
 
   -- the cell of values that count has some
   pub counts-cell : (v : Values) → inRange v ≡ true → counts rule v ≡ true → cellCounts rule (cell v) ≡ true
@@ -393,7 +457,9 @@ module _ (rule : Rule) where
       let f = range-facts v h in
       let g = counts-facts v t in
       rw (cell-column v (f .loss-fits), cell-row v (f .loss-fits))
-      (up-le (up-sum (corner-up (rule .weights .loss) losses (v .loss) (g .0)) (corner-up (rule .weights .shake) shakes (v .shake) (g .1))))
+      (up-le
+      (up-sum (up-sum (corner-up (rule .weights .loss) losses (v .loss) (g .0)) (corner-up (rule .weights .shake) shakes (v .shake) (g .1)))
+      (heat-up (rule .weights .heat) (heatOf (v .edition)) (heat-fits (v .edition) (f .heat-fits)))))
 
   -- the best possible score is the score of the cell's corner, which is permitted
   pub corner-cell : (c : ℕ) → cell (cornerOf rule c) ≡ c
@@ -407,14 +473,14 @@ module _ (rule : Rule) where
   corner-shake c h = corner-small (rule .weights .shake) shakes (c / 16) (row c h)
 
   pub corner-in : (c : ℕ) → c < 256 → inRange (cornerOf rule c) ≡ true
-  corner-in c h = range-is (cornerOf rule c) (corner-loss c) (corner-shake c h)
+  corner-in c h = range-is (cornerOf rule c) (corner-loss c) (corner-shake c h) (le-leb (cornerHeat (rule .weights .heat)) 4095 (heat-small (rule .weights .heat)))
 
   -- and counts, where some values of the cell do
   pub corner-counts : (c : ℕ) → cellCounts rule c ≡ true → counts rule (cornerOf rule c) ≡ true
   unfolding counts cellCounts
   corner-counts c h =
       let both = and-both (meets losses (c % 16)) (meets shakes (c / 16)) h in
-      and-true (corner-inside (rule .weights .loss) losses (c % 16) (both .0)) (corner-inside (rule .weights .shake) shakes (c / 16) (both .1))
+      and-true (and-true (corner-inside (rule .weights .loss) losses (c % 16) (both .0)) (corner-inside (rule .weights .shake) shakes (c / 16) (both .1))) refl
 
   pub corner-best : (c : ℕ) → sum rule (cornerOf rule c) ≡ bestScore rule c
   unfolding bestScore
@@ -451,24 +517,100 @@ module _ (rule : Rule) where
       go (passed h) = ap (fromLeast least) (score-counted v h) ∙ if-so DoesNotCount (Scored (sum rule v)) e
       go (failed h) = from-out v least h
 
+  -- no heat makes more of a loss and a shake than the best, so what is below the least with that is below it
+  pub from-hottest : (v : Values) (least : ℤ) → inRange v ≡ true → ltZ (weighed (rule .weights) (hottest (rule .weights) v)) least ≡ true → fromLeast least (score rule v) ≡ DoesNotCount
+  unfolding sum
+  from-hottest v least h e =
+      let most = weighed (rule .weights) (hottest (rule .weights) v) in
+      let f = range-facts v h in
+      from-low v least
+      (ahead ltZ ltZ-strict (sum rule v) most least
+      (up-le (up-sum (up-same (pairPart (rule .weights) v)) (heat-up (rule .weights .heat) (heatOf (v .edition)) (heat-fits (v .edition) (f .heat-fits))))) e)
+
+  pub hottest-in : (v : Values) → inRange v ≡ true → inRange (hottest (rule .weights) v) ≡ true
+  hottest-in v h =
+      let f = range-facts v h in
+      range-is (hottest (rule .weights) v) (f .loss-fits) (f .shake-fits) (le-leb (cornerHeat (rule .weights .heat)) 4095 (heat-small (rule .weights .heat)))
+
   pub points-sum : (v : Values) → isScored (score rule v) ≡ true → points (score rule v) ≡ sum rule v
   points-sum v h = ap points (score-counted v (sym (scored-counts v) ∙ h))
 
-  -- no sum is large, whatever the weights of 16 bits, so every one fits 32
-  pub sum-small : (v : Values) → SFits w16 (rule .weights .loss) → SFits w16 (rule .weights .shake) → inRange v ≡ true → mag (sum rule v) ≤ 268369920
+  -- where heat has no weight no edition is looked at: what counts, and the sum, are those of loss and shake
+  module _ (none : rule .weights .heat ≡ pos 0) where
+    pub counts-pair : (v : Values) → counts rule v ≡ inside losses (v .loss) && inside shakes (v .shake)
+    unfolding counts
+    counts-pair v =
+        ap (λ b. inside losses (v .loss) && inside shakes (v .shake) && b) (heat-counts-cold (rule .weights .heat) (v .edition) (equal-same (rule .weights .heat) (pos 0) none))
+        ∙ and-so (inside losses (v .loss) && inside shakes (v .shake))
+
+    pub sum-pair : (v : Values) → sum rule v ≡ rule .weights .loss *ℤ pos (v .loss) +ℤ rule .weights .shake *ℤ pos (v .shake)
+    unfolding sum
+    sum-pair v =
+        let pair = rule .weights .loss *ℤ pos (v .loss) +ℤ rule .weights .shake *ℤ pos (v .shake) in
+        let heat = pos (heatOf (v .edition)) in
+        ap (λ z. pair +ℤ z) (ap (λ z. z *ℤ heat) none ∙ zero-*ℤ heat) ∙ +ℤ-idr pair
+
+    -- values of the same loss and shake have the same score, whatever their editions
+    pub score-pair : (v w : Values) → v .loss ≡ w .loss → v .shake ≡ w .shake → score rule v ≡ score rule w
+    unfolding score
+    score-pair v w p q =
+        ap₂ (λ t s. cond t (Scored s) DoesNotCount)
+        (counts-pair v ∙ ap₂ (λ l s. inside losses l && inside shakes s) p q ∙ sym (counts-pair w))
+        (sum-pair v ∙ ap₂ (λ l s. rule .weights .loss *ℤ pos l +ℤ rule .weights .shake *ℤ pos s) p q ∙ sym (sum-pair w))
+
+  -- so there the first edition will do for any
+  pub score-named : (loss shake name : ℕ) → score rule (low (record { loss = loss; shake = shake; edition = editionBy (rule .weights) name })) ≡ score rule (low (valuesNamed loss shake name))
+  score-named loss shake name = go (tested (whole.equal (rule .weights .heat) (pos 0)))
+    where
+      having : Edition → Values
+      having e = record { loss = loss; shake = shake; edition = e }
+
+      go : Tested (whole.equal (rule .weights .heat) (pos 0)) → score rule (low (having (editionBy (rule .weights) name))) ≡ score rule (low (valuesNamed loss shake name))
+      go (passed e) = score-pair (equal-is (rule .weights .heat) (pos 0) e) (low (having (editionBy (rule .weights) name))) (low (valuesNamed loss shake name)) refl refl
+      go (failed e) = ap (λ d. score rule (low (having d))) (if-not First (editionOf (name % 4097)) e)
+
+  -- a sum is at most three times what the largest value counts for by the largest weight
+  sum-within : (most : ℕ) (v : Values) → natAbs (rule .weights .loss) ≤ most → natAbs (rule .weights .shake) ≤ most → natAbs (rule .weights .heat) ≤ most → inRange v ≡ true
+      → natAbs (sum rule v) ≤ 3 * (most * 4095)
   unfolding sum
-  sum-small v a b h =
+  sum-within most v l s t h =
       let f = range-facts v h in
+      let x = rule .weights .loss *ℤ pos (v .loss) in
+      let y = rule .weights .shake *ℤ pos (v .shake) in
+      let z = rule .weights .heat *ℤ pos (heatOf (v .edition)) in
+      omega (
+        arith,
+        abs-sum (x +ℤ y) z,
+        abs-sum x y,
+        part-within most (rule .weights .loss) (v .loss) l (f .loss-fits),
+        part-within most (rule .weights .shake) (v .shake) s (f .shake-fits),
+        part-within most (rule .weights .heat) (heatOf (v .edition)) t (heat-fits (v .edition) (f .heat-fits)),
+      )
+
+  -- no sum is large, whatever the weights of 16 bits, so every one fits 32
+  pub sum-small : (v : Values) → Words (rule .weights) → inRange v ≡ true → mag (sum rule v) ≤ 402554880
+  sum-small v w h =
       omega (
         arith,
         mag-le (sum rule v),
-        abs-sum (rule .weights .loss *ℤ pos (v .loss)) (rule .weights .shake *ℤ pos (v .shake)),
-        part-small (rule .weights .loss) (v .loss) a (f .loss-fits),
-        part-small (rule .weights .shake) (v .shake) b (f .shake-fits),
+        sum-within 32768 v (natAbs-le (rule .weights .loss) (w .loss .sfits)) (natAbs-le (rule .weights .shake) (w .shake .sfits)) (natAbs-le (rule .weights .heat) (w .heat .sfits)) h,
       )
 
-  pub word-fits : (v : Values) → SFits w16 (rule .weights .loss) → SFits w16 (rule .weights .shake) → inRange v ≡ true → SFits w32 (sum rule v)
-  word-fits v a b h = record { sfits = omega (arith, sum-small v a b h) }
+  pub word-fits : (v : Values) → Words (rule .weights) → inRange v ≡ true → SFits w32 (sum rule v)
+  word-fits v w h = record { sfits = omega (arith, sum-small v w h) }
+
+  weights-facts : weightsFit rule ≡ true → (weightFits (rule .weights .loss) ≡ true) × (weightFits (rule .weights .shake) ≡ true) × (weightFits (rule .weights .heat) ≡ true)
+  unfolding weightsFit
+  weights-facts fit =
+      let all = and-both (weightFits (rule .weights .loss) && weightFits (rule .weights .shake)) (weightFits (rule .weights .heat)) fit in
+      let both = and-both (weightFits (rule .weights .loss)) (weightFits (rule .weights .shake)) (all .0) in
+      (both .0, both .1, all .1)
+
+  -- rules 6.1 and 17.3: by weights that fit, a sum is from -12,285,000 to 12,285,000
+  pub score-most : weightsFit rule ≡ true → (v : Values) → inRange v ≡ true → natAbs (sum rule v) ≤ 12285000
+  score-most fit v h =
+      let f = weights-facts fit in
+      sum-within 1000 v (weight-most (rule .weights .loss) (f .0)) (weight-most (rule .weights .shake) (f .1)) (weight-most (rule .weights .heat) (f .2)) h
 
   -- a score fits where the sum does
   pub points-fit : (v : Values) → SFits w32 (sum rule v) → ScoreFits rule v
@@ -485,13 +627,16 @@ module _ (rule : Rule) where
   fit-both a b = and-true a b
 
   -- the low ends of a fit rule's ranges are values that count
-  pub fit-counts : fitRule rule ≡ true → (inRange (record { loss = losses .low; shake = shakes .low }) ≡ true) × (counts rule (record { loss = losses .low; shake = shakes .low }) ≡ true)
+  abbrev pub lowEnds : Values
+  lowEnds = record { loss = losses .low; shake = shakes .low; edition = Second 0 }
+
+  pub fit-counts : fitRule rule ≡ true → (inRange lowEnds ≡ true) × (counts rule lowEnds ≡ true)
   unfolding fitRule rangesProper counts
   fit-counts fit =
       let both = and-both (isProper losses) (isProper shakes) (and-both (weightsFit rule) (rangesProper rule) fit .1) in
       let a = ends losses (both .0) in
       let b = ends shakes (both .1) in
-      (range-is (record { loss = losses .low; shake = shakes .low }) (a .0) (b .0), and-true (a .1) (b .1))
+      (range-is lowEnds (a .0) (b .0) refl, and-true (and-true (a .1) (b .1)) refl)
     where
       ends : (range : Range) → isProper range ≡ true → (range .low ≤ 4095) × (inside range (range .low) ≡ true)
       ends range h =
@@ -502,10 +647,17 @@ module _ (rule : Rule) where
 
   -- every score by a fit rule fits
   pub score-fits : fitRule rule ≡ true → (v : Values) → inRange v ≡ true → ScoreFits rule v
-  unfolding fitRule weightsFit
+  unfolding fitRule
   score-fits fit v h =
-      let both = and-both (weightFits (rule .weights .loss)) (weightFits (rule .weights .shake)) (and-both (weightsFit rule) (rangesProper rule) fit .0) in
-      points-fit v (word-fits v (weight-word (rule .weights .loss) (both .0)) (weight-word (rule .weights .shake) (both .1)) h)
+      let f = weights-facts (and-both (weightsFit rule) (rangesProper rule) fit .0) in
+      points-fit v
+      (word-fits v
+      (record {
+        loss = weight-word (rule .weights .loss) (f .0);
+        shake = weight-word (rule .weights .shake) (f .1);
+        heat = weight-word (rule .weights .heat) (f .2);
+      })
+      h)
 
 -- ---- scores from a least one on
 

@@ -9,20 +9,20 @@ use native.Mathlib.Numerals.{add-one}
 use native.Mathlib.Omega.{arith}
 use borrow.Author.Tests.{le-leb, leb-true, lt-ltb, le-ltb, ltb-true, ltb-false}
 use lib.Dec.{leb, ltb}
-use lib.IntN.{ℤ, pos, negsuc, _+ℤ_, _*ℤ_, +ℤ-idr}
+use lib.IntN.{ℤ, pos, negsuc, _+ℤ_, _*ℤ_, +ℤ-assoc}
 use lib.Signed.{ltZ}
 use lib.ListN.{length, getD}
 use mir.Syntax.{w32}
 use mir.Val.{SFits}
 use Rattle.laws.specs.Lists.{only}
-use Rattle.laws.proofs.Whole.{Up, up-le, up-lt, up-sum, up-times, down-times}
+use Rattle.laws.proofs.Whole.{up-le, up-lt, up-sum, up-times, down-times}
 use Rattle.laws.proofs.Tests.{Tested, passed, failed, tested, clash, and-both, and-true, and-stops, and-no, and-so, if-so, if-not}
-use Rattle.ranking.specs.Cells.{side, sum, meets, cellCounts, nearest, corner, bestScore, numbersBelow, mostSteps}
-use Rattle.ranking.specs.Inner.{stripesOf, edgeOf, FirstOf, lossPart, shakePart, Words, Across}
+use Rattle.ranking.specs.Cells.{side, sum, meets, cellCounts, nearest, corner, cornerHeat, bestScore, numbersBelow, mostSteps}
+use Rattle.ranking.specs.Inner.{stripesOf, edgeOf, FirstOf, lossPart, heatPart, rowPart, Words, Across}
 use Rattle.ranking.specs.declared.Range.{Range}
 use Rattle.ranking.specs.declared.Rule.{Rule}
 use Rattle.ranking.specs.declared.Stripes.{Stripes}
-use Rattle.ranking.proofs.Cells.{Meets, meets-facts, meets-is, corner-high, corner-low, corner-small, part-fits}
+use Rattle.ranking.proofs.Cells.{Meets, meets-facts, meets-is, corner-high, corner-low, corner-small, up-same, heat-small, part-fits, two-fit}
 use Rattle.ranking.proofs.Scan.{counted-yes, counted-no}
 
 -- what is known of the columns or rows of a range
@@ -154,11 +154,18 @@ module _ (rule : Rule) where
   cell-meets row column h =
       ap₂ (λ i j. meets (rule .ranges .loss) i && meets (rule .ranges .shake) j) (across row column h) (down row column h)
 
-  -- the best possible score of a cell by its column's part and its row's
-  pub best-parts : (row column : ℕ) → column < 16 → bestScore rule (16 * row + column) ≡ lossPart rule column +ℤ shakePart rule row
-  unfolding bestScore sum lossPart shakePart
+  -- the best possible score of a cell by its column's part and its row's, which has the heat's
+  pub best-parts : (row column : ℕ) → column < 16 → bestScore rule (16 * row + column) ≡ lossPart rule column +ℤ rowPart rule row
+  unfolding bestScore sum lossPart rowPart
   best-parts row column h =
-      ap₂ (λ i j. rule .weights .loss *ℤ pos (corner (rule .weights .loss) (rule .ranges .loss) i) +ℤ rule .weights .shake *ℤ pos (corner (rule .weights .shake) (rule .ranges .shake) j)) (across row column h) (down row column h)
+      ap₂ (λ i j. loss i +ℤ shake j +ℤ heatPart (rule .weights .heat)) (across row column h) (down row column h)
+      ∙ +ℤ-assoc (loss column) (shake row) (heatPart (rule .weights .heat))
+    where
+      loss : ℕ → ℤ
+      loss i = rule .weights .loss *ℤ pos (corner (rule .weights .loss) (rule .ranges .loss) i)
+
+      shake : ℕ → ℤ
+      shake j = rule .weights .shake *ℤ pos (corner (rule .weights .shake) (rule .ranges .shake) j)
 
   cellsBelow : ℕ → ℕ
   cellsBelow n = length (only (cellCounts rule) (numbersBelow n []))
@@ -240,17 +247,14 @@ nearest-rises v i j h = omega arith
 nearest-differs : (v i j : ℕ) → i < j → nearest v i < nearest v j
 nearest-differs v i j h = omega arith
 
-same : (x : ℤ) → Up x x
-same x = record { gap = 0; is = +ℤ-idr x }
-
 -- by a weight above 0 a greater value counts for more
 rises : (a : ℤ) (m n : ℕ) (x : ℤ) → ltZ (pos 0) a ≡ true → m < n → ltZ (a *ℤ pos m +ℤ x) (a *ℤ pos n +ℤ x) ≡ true
-unfolding up-sum up-times same
+unfolding up-sum up-times up-same
 rises (pos zero) m n x e h = clash e (le-ltb 0 0 (omega arith))
 rises (negsuc k) m n x e h = clash {b = false} e refl
 rises (pos (suc k)) m n x e h =
     subst (λ d. ltZ (pos (suc k) *ℤ pos m +ℤ x) (pos (suc k) *ℤ pos d +ℤ x) ≡ true) up
-    (up-lt (up-sum (up-times (suc k) m (n - m)) (same x)) (omega (arith, grows)))
+    (up-lt (up-sum (up-times (suc k) m (n - m)) (up-same x)) (omega (arith, grows)))
   where
     one : 1 ≤ suc k
     one = omega arith
@@ -266,13 +270,13 @@ rises (pos (suc k)) m n x e h =
 
 -- by any other it counts for no more
 falls : (a : ℤ) (m n : ℕ) (x : ℤ) → ltZ (pos 0) a ≡ false → m ≤ n → ltZ (a *ℤ pos m +ℤ x) (a *ℤ pos n +ℤ x) ≡ false
-falls (pos zero) m n x e h = up-le (up-sum {a = pos 0 *ℤ pos n} {b = pos 0 *ℤ pos m} (record { gap = 0; is = ap pos nought }) (same x))
+falls (pos zero) m n x e h = up-le (up-sum {a = pos 0 *ℤ pos n} {b = pos 0 *ℤ pos m} (record { gap = 0; is = ap pos nought }) (up-same x))
   where
     nought : 0 * n + 0 ≡ 0 * m
     nought = omega arith
 falls (pos (suc k)) m n x e h = clash (lt-ltb 0 (suc k) (omega arith)) e
 falls (negsuc k) m n x e h =
-    subst (λ d. ltZ (negsuc k *ℤ pos m +ℤ x) (negsuc k *ℤ pos d +ℤ x) ≡ false) up (up-le (up-sum (down-times k m (n - m)) (same x)))
+    subst (λ d. ltZ (negsuc k *ℤ pos m +ℤ x) (negsuc k *ℤ pos d +ℤ x) ≡ false) up (up-le (up-sum (down-times k m (n - m)) (up-same x)))
   where
     up : m + (n - m) ≡ n
     up = omega arith
@@ -293,7 +297,7 @@ module _ (rule : Rule) (row : ℕ) (met : meets (rule .ranges .shake) row ≡ tr
   out : {X : Type 0} (i : ℕ) → i < 16 → meets (rule .ranges .loss) i ≡ false → cellCounts rule (16 * row + i) ≡ true → X
   out i h e c = clash c (cell-meets rule row i h ∙ and-stops (meets (rule .ranges .shake) row) e)
 
-  parts : (i j : ℕ) (t : Bool) → i < 16 → j < 16 → ltZ (lossPart rule i +ℤ shakePart rule row) (lossPart rule j +ℤ shakePart rule row) ≡ t → ltZ (bestScore rule (16 * row + i)) (bestScore rule (16 * row + j)) ≡ t
+  parts : (i j : ℕ) (t : Bool) → i < 16 → j < 16 → ltZ (lossPart rule i +ℤ rowPart rule row) (lossPart rule j +ℤ rowPart rule row) ≡ t → ltZ (bestScore rule (16 * row + i)) (bestScore rule (16 * row + j)) ≡ t
   parts i j t h l e = ap₂ ltZ (best-parts rule row i h) (best-parts rule row j l) ∙ e
 
   pub edge-first : at .first < at .end → FirstOf rule row (16 * row + edgeOf a at)
@@ -310,9 +314,9 @@ module _ (rule : Rule) (row : ℕ) (met : meets (rule .ranges .shake) row ≡ tr
             counts = counts-in (at .end - 1) (omega arith) (omega arith);
             sooner = λ i l c.
                 parts i (at .end - 1) true (omega (arith, s .within)) (omega (arith, s .within))
-                (subst (λ m. ltZ (a *ℤ pos m +ℤ shakePart rule row) (a *ℤ pos (corner a (rule .ranges .loss) (at .end - 1)) +ℤ shakePart rule row) ≡ true) (sym (corner-high a (rule .ranges .loss) i e))
-                (subst (λ n. ltZ (a *ℤ pos (nearest (rule .ranges .loss .high) i) +ℤ shakePart rule row) (a *ℤ pos n +ℤ shakePart rule row) ≡ true) (sym (corner-high a (rule .ranges .loss) (at .end - 1) e))
-                (rises a _ _ (shakePart rule row) e (nearest-differs (rule .ranges .loss .high) i (at .end - 1) l))));
+                (subst (λ m. ltZ (a *ℤ pos m +ℤ rowPart rule row) (a *ℤ pos (corner a (rule .ranges .loss) (at .end - 1)) +ℤ rowPart rule row) ≡ true) (sym (corner-high a (rule .ranges .loss) i e))
+                (subst (λ n. ltZ (a *ℤ pos (nearest (rule .ranges .loss .high) i) +ℤ rowPart rule row) (a *ℤ pos n +ℤ rowPart rule row) ≡ true) (sym (corner-high a (rule .ranges .loss) (at .end - 1) e))
+                (rises a _ _ (rowPart rule row) e (nearest-differs (rule .ranges .loss .high) i (at .end - 1) l))));
             later = λ i l m c. out i m (s .behind i (omega arith) m) c;
           })
       go (failed e) =
@@ -325,9 +329,9 @@ module _ (rule : Rule) (row : ℕ) (met : meets (rule .ranges .shake) row ≡ tr
             sooner = λ i l c. out i (omega (arith, s .within)) (s .before i l) c;
             later = λ i l m c.
                 parts (at .first) i false (omega (arith, s .within)) m
-                (subst (λ m. ltZ (a *ℤ pos m +ℤ shakePart rule row) (a *ℤ pos (corner a (rule .ranges .loss) i) +ℤ shakePart rule row) ≡ false) (sym (corner-low a (rule .ranges .loss) (at .first) e))
-                (subst (λ n. ltZ (a *ℤ pos (nearest (rule .ranges .loss .low) (at .first)) +ℤ shakePart rule row) (a *ℤ pos n +ℤ shakePart rule row) ≡ false) (sym (corner-low a (rule .ranges .loss) i e))
-                (falls a _ _ (shakePart rule row) e (nearest-rises (rule .ranges .loss .low) (at .first) i (omega arith)))));
+                (subst (λ m. ltZ (a *ℤ pos m +ℤ rowPart rule row) (a *ℤ pos (corner a (rule .ranges .loss) i) +ℤ rowPart rule row) ≡ false) (sym (corner-low a (rule .ranges .loss) (at .first) e))
+                (subst (λ n. ltZ (a *ℤ pos (nearest (rule .ranges .loss .low) (at .first)) +ℤ rowPart rule row) (a *ℤ pos n +ℤ rowPart rule row) ≡ false) (sym (corner-low a (rule .ranges .loss) i e))
+                (falls a _ _ (rowPart rule row) e (nearest-rises (rule .ranges .loss .low) (at .first) i (omega arith)))));
           })
 
 -- what is read for a corner counts for what the corner does: it has 12 bits
@@ -338,7 +342,7 @@ part-read {a} range i h e f =
 -- what the cells of a row are looked at by, from its first column in the order to the end
 pub record Along (row : ℕ) (across : List ℤ) (part : ℤ) (first end : ℕ) (rule : Rule) : Type 0 where
   pub parts : Across rule across
-  pub down : part ≡ shakePart rule row
+  pub down : part ≡ rowPart rule row
   pub met : meets (rule .ranges .shake) row ≡ true
   pub stripes : stripesOf (rule .ranges .loss) ≡ record { first = first; end = end }
 
@@ -361,10 +365,16 @@ module _ (row : ℕ) (across : List ℤ) (part : ℤ) (first end : ℕ) (rule : 
   pub along-ends : (first ≤ end) × (end ≤ 16)
   along-ends = (stripe .rises, stripe .within)
 
-pub part-word : (rule : Rule) → Words rule → (i : ℕ) → i < 16 → SFits w32 (lossPart rule i)
+pub part-word : (rule : Rule) → Words (rule .weights) → (i : ℕ) → i < 16 → SFits w32 (lossPart rule i)
 unfolding lossPart
 part-word rule w i h =
     part-fits (rule .weights .loss) (corner (rule .weights .loss) (rule .ranges .loss) i) (w .loss) (corner-small (rule .weights .loss) (rule .ranges .loss) i h)
+
+pub row-word : (rule : Rule) → Words (rule .weights) → (i : ℕ) → i < 16 → SFits w32 (rowPart rule i)
+unfolding rowPart
+row-word rule w i h =
+    two-fit (rule .weights .shake) (corner (rule .weights .shake) (rule .ranges .shake) i) (w .shake) (corner-small (rule .weights .shake) (rule .ranges .shake) i h)
+    (rule .weights .heat) (cornerHeat (rule .weights .heat)) (w .heat) (heat-small (rule .weights .heat))
 
 -- a row that has no value inside the range is passed over whole
 pub row-out-all : (rule : Rule) (row : ℕ) → meets (rule .ranges .shake) row ≡ false → (i : ℕ) → i < 16 → cellCounts rule (16 * row + i) ≡ false

@@ -20,6 +20,7 @@ use Rattle.laws.proofs.Whole.{ltZ-strict, le-is, equal-refl}
 use Rattle.search.specs.Best.{placed, best}
 use Rattle.search.proofs.Best.{best-same, best-of, best-rule, best-cons, length-best}
 use Rattle.values.specs.declared.Values.{Values}
+use Rattle.values.proofs.Names.{name-rises, name-same}
 use Rattle.ranking.specs.Cells.{noRule, isNone, sum, greater}
 use Rattle.ranking.specs.Standing.{Held, Entry, goesFirst, above, isCounted, counted, entry, entries, top, passes, hasPlace, placeBy, mightPass}
 use Rattle.ranking.specs.declared.Rule.{Rule}
@@ -41,37 +42,37 @@ module _ (rule : Rule) where
   pub above-strict : StrictTotal (above rule)
   unfolding above
   above-strict =
-      greater-strict (λ (e : Entry). e .score) (λ e f. goesFirst rule (e .number) (f .number))
+      greater-strict (λ (e : Entry). e .score) (λ e f. goesFirst rule (e .name) (f .name))
       (record {
-        none = λ e. first-strict .irreflexive (e .number);
-        chain = λ d e f p q. first-strict .transitive (d .number) (e .number) (f .number) p q;
-        only-equal = λ e f p q r. both e f (first-strict .total (e .number) (f .number) q r) p;
+        none = λ e. first-strict .irreflexive (e .name);
+        chain = λ d e f p q. first-strict .transitive (d .name) (e .name) (f .name) p q;
+        only-equal = λ e f p q r. both e f (first-strict .total (e .name) (f .name) q r) p;
       })
     where
-      both : (e f : Entry) → e .number ≡ f .number → e .score ≡ f .score → e ≡ f
-      both e f p q i = record { number = p i; score = q i }
+      both : (e f : Entry) → e .name ≡ f .name → e .score ≡ f .score → e ≡ f
+      both e f p q i = record { name = p i; score = q i }
 
-  -- a greater score ranks above, whatever the numbers
+  -- a greater score ranks above, whatever the names
   pub score-above : (e f : Entry) → ltZ (f .score) (e .score) ≡ true → above rule e f ≡ true
   unfolding above
-  score-above e f h = greater-by (e .score) (f .score) (goesFirst rule (e .number) (f .number)) h
+  score-above e f h = greater-by (e .score) (f .score) (goesFirst rule (e .name) (f .name)) h
 
   -- a lower one never does
   pub score-below : (e f : Entry) → ltZ (e .score) (f .score) ≡ true → above rule e f ≡ false
   unfolding above
-  score-below e f h = less-by (e .score) (f .score) (goesFirst rule (e .number) (f .number)) h
+  score-below e f h = less-by (e .score) (f .score) (goesFirst rule (e .name) (f .name)) h
 
   -- of equal ones the tie decides
-  pub score-tie : (e f : Entry) → e .score ≡ f .score → above rule e f ≡ goesFirst rule (e .number) (f .number)
+  pub score-tie : (e f : Entry) → e .score ≡ f .score → above rule e f ≡ goesFirst rule (e .name) (f .name)
   unfolding above
-  score-tie e f h = greater-tie (e .score) (f .score) (goesFirst rule (e .number) (f .number)) h
+  score-tie e f h = greater-tie (e .score) (f .score) (goesFirst rule (e .name) (f .name)) h
 
   -- what ranks above another has no lower score
   pub above-score : (e f : Entry) → above rule e f ≡ true → (ltZ (f .score) (e .score) ≡ true) ⊎ (e .score ≡ f .score)
   unfolding above
-  above-score e f h = go (greater-of (e .score) (f .score) (goesFirst rule (e .number) (f .number)) h)
+  above-score e f h = go (greater-of (e .score) (f .score) (goesFirst rule (e .name) (f .name)) h)
     where
-      go : (ltZ (f .score) (e .score) ≡ true) ⊎ ((e .score ≡ f .score) × (goesFirst rule (e .number) (f .number) ≡ true)) → (ltZ (f .score) (e .score) ≡ true) ⊎ (e .score ≡ f .score)
+      go : (ltZ (f .score) (e .score) ≡ true) ⊎ ((e .score ≡ f .score) × (goesFirst rule (e .name) (f .name) ≡ true)) → (ltZ (f .score) (e .score) ≡ true) ⊎ (e .score ≡ f .score)
       go (inl p) = inl p
       go (inr p) = inr (p .0)
 
@@ -122,7 +123,7 @@ module _ (rule : Rule) where
       apart (g ∷ gs) w = (
         λ e m q.
             let r = Memᴰ·of-map (entry rule) gs m in
-            w .0 (r .0) (r .1) (ap (λ (z : Entry). z .number) (q ∙ sym (r .2))),
+            w .0 (r .0) (r .1) (name-same (g .number) (r .0 .number) (g .values .edition) (r .0 .values .edition) (ap (λ (z : Entry). z .name) (q ∙ sym (r .2)))),
         apart gs (w .1),
       )
 
@@ -146,35 +147,37 @@ module _ (rule : Rule) where
 
   -- ---- entering after all others
 
-  -- what passes, of a later number, ranks above
-  pub later-above : (e f : Entry) → f .number < e .number → passes rule (e .score) (f .score) ≡ above rule e f
+  -- what passes, of a later name, ranks above
+  pub later-above : (e f : Entry) → f .name < e .name → passes rule (e .score) (f .score) ≡ above rule e f
   unfolding above passes goesFirst
   later-above e f h = sym (le-is (e .score) (f .score)) ∙ sym (go (numbers (e .score) (f .score)))
     where
-      go : Numbers (e .score) (f .score) → greater (e .score) (f .score) (ltb (f .number) (e .number)) ≡ not (ltZ (e .score) (f .score))
-      go (more p) = greater-by (e .score) (f .score) (ltb (f .number) (e .number)) p ∙ sym (ap not (one-way ltZ ltZ-strict (f .score) (e .score) p))
-      go (less p) = less-by (e .score) (f .score) (ltb (f .number) (e .number)) p ∙ sym (ap not p)
+      go : Numbers (e .score) (f .score) → greater (e .score) (f .score) (ltb (f .name) (e .name)) ≡ not (ltZ (e .score) (f .score))
+      go (more p) = greater-by (e .score) (f .score) (ltb (f .name) (e .name)) p ∙ sym (ap not (one-way ltZ ltZ-strict (f .score) (e .score) p))
+      go (less p) = less-by (e .score) (f .score) (ltb (f .name) (e .name)) p ∙ sym (ap not p)
       go (equal p) =
-          greater-tie (e .score) (f .score) (ltb (f .number) (e .number)) p
-          ∙ lt-ltb (f .number) (e .number) h
+          greater-tie (e .score) (f .score) (ltb (f .name) (e .name)) p
+          ∙ lt-ltb (f .name) (e .name) h
           ∙ sym (ap not (subst (λ z. ltZ z (f .score) ≡ false) (sym p) (ltZ-strict .irreflexive (f .score))))
 
   -- so a place on the list is what the laws of best k ask
-  pub place-rule : (k : ℕ) (e : Entry) (l : List Entry) → ((f : Entry) → f ∈ l → f .number < e .number) → hasPlace rule k (length l) l (e .score) ≡ (ltb (length l) k || onLast (above rule e) l)
+  pub place-rule : (k : ℕ) (e : Entry) (l : List Entry) → ((f : Entry) → f ∈ l → f .name < e .name) → hasPlace rule k (length l) l (e .score) ≡ (ltb (length l) k || onLast (above rule e) l)
   unfolding hasPlace
   place-rule k e l newest =
       ap (λ b. ltb (length l) k || b) (last-same (λ f. passes rule (e .score) (f .score)) (above rule e) l (λ f m. later-above e f (newest f m)))
 
   module _ (k : ℕ) (h : Held) (hs : List Held) (newest : (g : Held) → g ∈ hs → g .number < h .number) where
-    older : (f : Entry) → f ∈ top rule k hs → f .number < h .number
+    older : (f : Entry) → f ∈ top rule k hs → f .name < entry rule h .name
     older f m =
         let r = top-of k hs m in
-        subst (λ (z : Entry). z .number < h .number) (r .2) (newest (r .0) (r .1))
+        subst (λ (z : Entry). z .name < entry rule h .name) (r .2) (name-rises (r .0 .number) (h .number) (r .0 .values .edition) (h .values .edition) (newest (r .0) (r .1)))
 
     new-one : entry rule h ∈ entries rule hs → ⊥
     new-one m =
         let r = entries-of hs m in
-        not-less (h .number) (subst (λ n. n < h .number) (ap (λ (z : Entry). z .number) (r .2)) (newest (r .0) (r .1)))
+        not-less (entry rule h .name)
+        (subst (λ n. n < entry rule h .name) (ap (λ (z : Entry). z .name) (r .2))
+        (name-rises (r .0 .number) (h .number) (r .0 .values .edition) (h .values .edition) (newest (r .0) (r .1))))
       where
         not-less : (n : ℕ) → n < n → ⊥
         not-less n l = omega arith
@@ -223,4 +226,4 @@ might-not rule v s e = e
 
 pub is-none : isNone noRule ≡ true
 unfolding isNone
-is-none = and-true (and-true (and-true (equal-refl (pos 0)) (equal-refl (pos 0))) refl) refl
+is-none = and-true (and-true (and-true (equal-refl (pos 0)) (equal-refl (pos 0))) (equal-refl (pos 0))) refl

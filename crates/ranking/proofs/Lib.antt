@@ -5,6 +5,7 @@ pub mod Standing
 pub mod Scan
 pub mod Columns
 pub mod Reaching
+pub mod Editions
 pub mod Whole
 pub mod Examples
 pub mod Outcomes

@@ -155,16 +155,16 @@ module _ (rule : Rule) (s : ℤ) (at : Sought) (row c : ℕ) (f : FirstOf rule r
 abbrev pub Modest : Rule → Type 0
 Modest rule = (c : ℕ) → c < 256 → ltZ noBest (bestScore rule c) ≡ true
 
-best-small : (rule : Rule) → Words rule → (c : ℕ) → c < 256 → mag (bestScore rule c) ≤ 268369920
-best-small rule w c h = subst (λ z. mag z ≤ 268369920) (corner-best rule c) (sum-small rule (cornerOf rule c) (w .loss) (w .shake) (corner-in rule c h))
+best-small : (rule : Rule) → Words (rule .weights) → (c : ℕ) → c < 256 → mag (bestScore rule c) ≤ 402554880
+best-small rule w c h = subst (λ z. mag z ≤ 402554880) (corner-best rule c) (sum-small rule (cornerOf rule c) w (corner-in rule c h))
 
-pub best-fits : (rule : Rule) → Words rule → (c : ℕ) → c < 256 → SFits w32 (bestScore rule c)
+pub best-fits : (rule : Rule) → Words (rule .weights) → (c : ℕ) → c < 256 → SFits w32 (bestScore rule c)
 best-fits rule w c h = record { sfits = omega (arith, best-small rule w c h) }
 
-pub modest : (rule : Rule) → Words rule → Modest rule
+pub modest : (rule : Rule) → Words (rule .weights) → Modest rule
 modest rule w c h = above-least (bestScore rule c) (best-small rule w c h)
   where
-    above-least : (z : ℤ) → mag z ≤ 268369920 → ltZ noBest z ≡ true
+    above-least : (z : ℤ) → mag z ≤ 402554880 → ltZ noBest z ≡ true
     above-least (pos n) l = refl
     above-least (negsuc n) l = lt-ltb n 2147483647 (omega arith)
 

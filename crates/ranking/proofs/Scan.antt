@@ -19,7 +19,7 @@ use Rattle.laws.proofs.Tests.{Tested, passed, failed, tested, clash, and-both, 
 use Rattle.laws.proofs.Lists.{Pairwise, here, drop-⊆, lt-or-eq, pairwise-at, pairwise-drop, index-of, getD-in, getD-left, getD-past, only-append}
 use Rattle.laws.proofs.Orders.{opposite, differs}
 use Rattle.search.proofs.Best.{falling-place}
-use Rattle.ranking.proofs.Cells.{before-strict, fit-counts, counts-order, in-order, order-in, visiting-in, visiting-of, visiting-falling, length-visiting, counted-order}
+use Rattle.ranking.proofs.Cells.{before-strict, fit-counts, lowEnds, counts-order, in-order, order-in, visiting-in, visiting-of, visiting-falling, length-visiting, counted-order}
 use Rattle.ranking.specs.Inner.{leads, follows, nearer, placeAfter}
 
 -- ---- counting
@@ -72,7 +72,7 @@ module _ (rule : Rule) where
   pub fit-some : fitRule rule ≡ true → 0 < mostSteps rule
   fit-some fit =
       let c = fit-counts rule fit in
-      first (at-place _ (counts-order rule (record { loss = rule .ranges .loss .low; shake = rule .ranges .shake .low }) (c .0) (c .1)) .0)
+      first (at-place _ (counts-order rule (lowEnds rule) (c .0) (c .1)) .0)
     where
       first : {m n : ℕ} → m < n → 0 < n
       first h = omega arith

@@ -21,6 +21,9 @@ use Rattle.search.specs.Search.{countedIn, steps, found, marks}
 use Rattle.search.proofs.Best.{length-same}
 use Rattle.search.proofs.Search.{All, Sound, Newest, found-is, steps-open, steps-count, steps-le, wanted, local-found, local-marks, local-steps, length-marks}
 use Rattle.search.specs.Inner.{matters}
+use Rattle.values.specs.Names.{named}
+use Rattle.values.specs.declared.Edition.{Edition}
+use Rattle.values.proofs.Names.{name-rises}
 use Rattle.ranking.specs.Cells.{counts, sum, cell, cellCounts, cornerOf, bestScore, before, cells, countedCells, mostSteps, visiting, inOrder, reaching}
 use Rattle.ranking.specs.Standing.{Held, Entry, goesFirst, above, isCounted, entry, entries, top, reaches, searchOf, Permitted, foremost, Wanted}
 use Rattle.ranking.specs.declared.Rule.{Rule}
@@ -67,26 +70,26 @@ module _ (rule : Rule) where
         bound = under;
       }
 
-  -- the report that is added goes before all others of its score
-  pub foremost-first : (entered n : ℕ) → 1 ≤ n → n ≤ entered → goesFirst rule (foremost rule entered) n ≡ true
+  -- the report that is added goes before all others of its score, whatever the editions
+  pub foremost-first : (entered n : ℕ) (d e : Edition) → 1 ≤ n → n ≤ entered → goesFirst rule (named (foremost rule entered) d) (named n e) ≡ true
   unfolding goesFirst foremost
-  foremost-first entered n positive h = lt-ltb n (entered + 1) (omega arith)
+  foremost-first entered n d e positive h = lt-ltb (named n e) (named (entered + 1) d) (name-rises n (entered + 1) e d (omega arith))
 
   module _ (hs : List Held) (entered : ℕ) (known : Numbered entered hs) where
-    -- the entry of a permitted pair of values of the cell c, added as that report
+    -- the entry of permitted values of the cell c that count, added as that report
     record New (c : ℕ) (e : Entry) : Type 0 where
-      pair : Held
-      numbered : pair .number ≡ foremost rule entered
-      permitted : Permitted pair
-      counted : isCounted rule pair ≡ true
-      in-cell : cell (pair .values) ≡ c
-      stands : entry rule pair ≡ e
+      added : Held
+      numbered : added .number ≡ foremost rule entered
+      permitted : Permitted added
+      counted : isCounted rule added ≡ true
+      in-cell : cell (added .values) ≡ c
+      stands : entry rule added ≡ e
 
-    first : (e : Entry) → e ∈ entries rule hs → goesFirst rule (foremost rule entered) (e .number) ≡ true
-    first e m =
+    first : (d : Edition) (e : Entry) → e ∈ entries rule hs → goesFirst rule (named (foremost rule entered) d) (e .name) ≡ true
+    first d e m =
         let r = entries-of rule hs m in
         let k = known (r .0) (r .1) in
-        subst (λ (z : Entry). goesFirst rule (foremost rule entered) (z .number) ≡ true) (r .2) (foremost-first entered (r .0 .number) (k .0) (k .1))
+        subst (λ (z : Entry). goesFirst rule (named (foremost rule entered) d) (z .name) ≡ true) (r .2) (foremost-first entered (r .0 .number) d (r .0 .values .edition) (k .0) (k .1))
 
     -- that report at the cell's corner
     at-corner : ℕ → Held
@@ -107,13 +110,13 @@ module _ (rule : Rule) where
         go : Numbers (bestScore rule c) (x .score) → above rule (entry rule (at-corner c)) x ≡ true
         go (more e) = score-above rule (entry rule (at-corner c)) x (ap (ltZ (x .score)) (corner-score c at) ∙ e)
         go (less e) = clash e (not-true (ltZ (bestScore rule c) (x .score)) h)
-        go (equal e) = score-tie rule (entry rule (at-corner c)) x (corner-score c at ∙ e) ∙ first x m
+        go (equal e) = score-tie rule (entry rule (at-corner c)) x (corner-score c at ∙ e) ∙ first (cornerOf rule c .edition) x m
 
     corner-new : (c : ℕ) → inOrder rule c ≡ true → New c (entry rule (at-corner c))
     unfolding at-corner
     corner-new c h =
         record {
-          pair = at-corner c;
+          added = at-corner c;
           numbered = refl;
           permitted = corner-in rule c (in-order rule c h .0);
           counted = corner-counted c h;
@@ -128,10 +131,11 @@ module _ (rule : Rule) where
           attains = λ c m. let h = visiting-of rule c m in (entry rule (at-corner c), corner-new c h, tops c h);
           bounded = λ c e f x h.
               subst (λ z. above rule x z ≡ true) (f .stands)
-              (under (f .pair) (f .permitted) (f .counted) x (subst (λ d. reaches rule d x ≡ false) (sym (f .in-cell)) h));
+              (under (f .added) (f .permitted) (f .counted) x (subst (λ d. reaches rule d x ≡ false) (sym (f .in-cell)) h));
           fresh = λ c e f m.
-              clash (first e m)
-              (subst (λ n. goesFirst rule (foremost rule entered) n ≡ false) (sym (f .numbered) ∙ ap (λ (z : Entry). z .number) (f .stands)) (first-strict rule .irreflexive (foremost rule entered)));
+              let edition = f .added .values .edition in
+              clash (first edition e m)
+              (subst (λ n. goesFirst rule (named (foremost rule entered) edition) n ≡ false) (ap (λ n. named n edition) (sym (f .numbered)) ∙ ap (λ (z : Entry). z .name) (f .stands)) (first-strict rule .irreflexive (named (foremost rule entered) edition)));
         }
 
     module _ (good : All Permitted hs) (k : ℕ) (positive : 1 ≤ k) where
@@ -142,33 +146,33 @@ module _ (rule : Rule) where
       unfolding Stands
       to c (e, f, m) =
           record {
-            pair = f .pair;
+            added = f .added;
             numbered = f .numbered;
             permitted = f .permitted;
             counted = f .counted;
             in-cell = f .in-cell;
-            listed = rw (entries-cons rule (f .pair) hs (f .counted)) (subst (λ z. z ∈ best (above rule) k (z ∷ entries rule hs)) (sym (f .stands)) m);
+            listed = rw (entries-cons rule (f .added) hs (f .counted)) (subst (λ z. z ∈ best (above rule) k (z ∷ entries rule hs)) (sym (f .stands)) m);
           }
 
       from : (c : ℕ) → Wanted rule k hs entered c → Stands c
       unfolding Stands
       from c v = (
-        entry rule (v .pair),
+        entry rule (v .added),
         record {
-          pair = v .pair;
+          added = v .added;
           numbered = v .numbered;
           permitted = v .permitted;
           counted = v .counted;
           in-cell = v .in-cell;
           stands = refl;
         },
-        subst (λ l. entry rule (v .pair) ∈ best (above rule) k l) (entries-cons rule (v .pair) hs (v .counted)) (v .listed),
+        subst (λ l. entry rule (v .added) ∈ best (above rule) k l) (entries-cons rule (v .added) hs (v .counted)) (v .listed),
       )
 
       -- a wanted cell has values that count
       wanted-order : (c : ℕ) → Wanted rule k hs entered c → inOrder rule c ≡ true
       wanted-order c v =
-          subst (λ d. inOrder rule d ≡ true) (v .in-cell) (counts-order rule (v .pair .values) (v .permitted) (held-counts (v .pair) (v .counted)))
+          subst (λ d. inOrder rule d ≡ true) (v .in-cell) (counts-order rule (v .added .values) (v .permitted) (held-counts (v .added) (v .counted)))
 
       -- Demand 3: the marked cells are the wanted ones.
       pub marks-wanted : (c : ℕ) → c ∈ marks (searchOf rule) k hs ↔ Wanted rule k hs entered c

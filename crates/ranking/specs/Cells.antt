@@ -12,7 +12,10 @@ use Rattle.laws.specs.Lists.{only}
 use Rattle.laws.specs.Whole.{equal}
 use Rattle.search.specs.Best.{rank}
 use Rattle.values.specs.declared.Values.{Values}
+use Rattle.values.specs.declared.Edition.{Edition}
+use Rattle.values.specs.declared.Edition.the-variants.{First, Second}
 use Rattle.values.specs.Range.{largestValue}
+use Rattle.values.specs.Names.{editions, editionOf}
 use Rattle.ranking.specs.declared.Weights.{Weights}
 use Rattle.ranking.specs.declared.Range.{Range}
 use Rattle.ranking.specs.declared.Ranges.{Ranges}
@@ -56,7 +59,7 @@ abbrev pub noRange : Range
 noRange = record { low = 0; high = 0 }
 
 abbrev pub noRule : Rule
-noRule = ruleWithin (record { loss = pos 0; shake = pos 0 }) (record { loss = noRange; shake = noRange })
+noRule = ruleWithin (record { loss = pos 0; shake = pos 0; heat = pos 0 }) (record { loss = noRange; shake = noRange })
 
 -- All of it is 0.
 abbrev pub isNoRange : Range → Bool
@@ -66,15 +69,15 @@ unfoldable pub isNone : Rule → Bool
 isNone rule =
     equal (rule .weights .loss) (pos 0)
     && equal (rule .weights .shake) (pos 0)
-    && isNoRange (rule .ranges .loss)
-    && isNoRange (rule .ranges .shake)
+    && equal (rule .weights .heat) (pos 0)
+    && (isNoRange (rule .ranges .loss) && isNoRange (rule .ranges .shake))
 
 -- Rule 6.1: a weight is from -1,000 to 1,000.
 abbrev pub weightFits : ℤ → Bool
 weightFits weight = leZ (negsuc 999) weight && leZ weight (pos 1000)
 
 unfoldable pub weightsFit : Rule → Bool
-weightsFit rule = weightFits (rule .weights .loss) && weightFits (rule .weights .shake)
+weightsFit rule = weightFits (rule .weights .loss) && weightFits (rule .weights .shake) && weightFits (rule .weights .heat)
 
 -- Rule 16.1: a range's low end isn't above its high end, and neither is over 4095.
 abbrev pub isProper : Range → Bool
@@ -89,18 +92,31 @@ fitRule rule = weightsFit rule && rangesProper rule
 
 -- ---- scores
 
--- Rule 16.2: the values count: each lies inside its range.
-unfoldable pub counts : Rule → Values → Bool
-counts rule v = inside (rule .ranges .loss) (v .loss) && inside (rule .ranges .shake) (v .shake)
+-- Rule 17.3: a report without heat counts only where heat has no weight.
+abbrev pub heatCounts : ℤ → Edition → Bool
+heatCounts weight First = equal weight (pos 0)
+heatCounts weight (Second heat) = true
 
--- Rule 6.2: the weighted sum of some values.
+-- Rules 16.2 and 17.3: the values count: loss and shake lie inside their ranges, and there is a heat where it has a weight.
+unfoldable pub counts : Rule → Values → Bool
+counts rule v =
+    inside (rule .ranges .loss) (v .loss)
+    && inside (rule .ranges .shake) (v .shake)
+    && heatCounts (rule .weights .heat) (v .edition)
+
+-- the heat, where there is one
+abbrev pub heatOf : Edition → ℕ
+heatOf First = 0
+heatOf (Second heat) = heat
+
+-- Rules 6.2 and 17.3: the weighted sum of some values.
 abbrev pub weighed : Weights → Values → ℤ
-weighed w v = w .loss *ℤ pos (v .loss) +ℤ w .shake *ℤ pos (v .shake)
+weighed w v = w .loss *ℤ pos (v .loss) +ℤ w .shake *ℤ pos (v .shake) +ℤ w .heat *ℤ pos (heatOf (v .edition))
 
 unfoldable pub sum : Rule → Values → ℤ
 sum rule v = weighed (rule .weights) v
 
--- Rules 6.2 and 16.2: a report's score, or that it doesn't count.
+-- Rules 6.2, 16.2 and 17.3: a report's score, or that it doesn't count.
 unfoldable pub score : Rule → Values → Score
 score rule v = cond (counts rule v) (Scored (sum rule v)) DoesNotCount
 
@@ -121,6 +137,10 @@ ScoreFits rule v = SFits w32 (points (score rule v))
 abbrev pub fromLeast : ℤ → Score → Score
 fromLeast least (Scored s) = cond (ltZ s least) DoesNotCount (Scored s)
 fromLeast least DoesNotCount = DoesNotCount
+
+-- Rule 17.6: the values of a report whose edition is in its name.
+abbrev pub valuesNamed : ℕ → ℕ → ℕ → Values
+valuesNamed loss shake name = record { loss = loss; shake = shake; edition = editionOf (name % editions) }
 
 -- ---- the grid
 
@@ -146,15 +166,20 @@ abbrev pub corner : ℤ → Range → ℕ → ℕ
 corner weight range index =
     elim (ltZ (pos 0) weight) [ true ↦ nearest (range .high) index | false ↦ nearest (range .low) index ]
 
+-- Rule 17.4: for a weight above 0 the largest heat, for any other the smallest.
+abbrev pub cornerHeat : ℤ → ℕ
+cornerHeat weight = elim (ltZ (pos 0) weight) [ true ↦ largestValue | false ↦ 0 ]
+
 -- the values of a cell that count for most
 abbrev pub cornerOf : Rule → ℕ → Values
 cornerOf rule c =
     record {
       loss = corner (rule .weights .loss) (rule .ranges .loss) (c % columns);
       shake = corner (rule .weights .shake) (rule .ranges .shake) (c / columns);
+      edition = Second (cornerHeat (rule .weights .heat));
     }
 
--- Rules 7.3 and 16.4: a cell's best possible score.
+-- Rules 7.3, 16.4 and 17.4: a cell's best possible score.
 unfoldable pub bestScore : Rule → ℕ → ℤ
 bestScore rule c = sum rule (cornerOf rule c)
 

@@ -2,15 +2,21 @@
 use mathlib.Core.Bool.{Bool, true, false, _&&_, cond}
 use mathlib.Core.Path.{_≡_}
 use mathlib.Core.List.{List}
-use Prim.Native.Nat.{ℕ, suc, _+_, _-_, zero, _*_, _/_, _<_, min}
+use Prim.Native.Nat.{ℕ, suc, _+_, _-_, zero, _*_, _/_, _%_, _<_, min}
 use lib.Dec.{ltb, leb}
 use lib.ListN.{length, getD}
-use lib.IntN.{ℤ, pos, negsuc, _*ℤ_}
+use lib.IntN.{ℤ, pos, negsuc, _+ℤ_, _*ℤ_}
 use lib.Signed.{ltZ}
 use mir.Syntax.{w16}
 use mir.Val.{SFits}
+use Rattle.laws.specs.Whole.{equal}
+use Rattle.values.specs.declared.Values.{Values}
+use Rattle.values.specs.declared.Edition.{Edition}
+use Rattle.values.specs.declared.Edition.the-variants.{First, Second}
 use Rattle.values.specs.Range.{largestValue}
-use Rattle.ranking.specs.Cells.{side, columns, cellCount, cellCounts, corner, bestScore, before, placeOf}
+use Rattle.values.specs.Names.{editions, editionOf}
+use Rattle.ranking.specs.Cells.{side, columns, cellCount, cellCounts, corner, cornerHeat, bestScore, before, placeOf}
+use Rattle.ranking.specs.declared.Weights.{Weights}
 use Rattle.ranking.specs.declared.Range.{Range}
 use Rattle.ranking.specs.declared.Stripes.{Stripes}
 use Rattle.ranking.specs.declared.Rule.{Rule}
@@ -43,21 +49,36 @@ met at c best s =
     (cond (ltZ (at .best) best) (record { cells = at .cells; next = c; best = best }) at)
     (record { cells = at .cells + 1; next = at .next; best = at .best })
 
--- what the best loss of a column, and the best shake of a row, count for
+-- what the best loss of a column, the best heat, and the best shake of a row with it, count for
 unfoldable pub lossPart : Rule → ℕ → ℤ
 lossPart rule column = rule .weights .loss *ℤ pos (corner (rule .weights .loss) (rule .ranges .loss) column)
 
-unfoldable pub shakePart : Rule → ℕ → ℤ
-shakePart rule row = rule .weights .shake *ℤ pos (corner (rule .weights .shake) (rule .ranges .shake) row)
+abbrev pub heatPart : ℤ → ℤ
+heatPart weight = weight *ℤ pos (cornerHeat weight)
 
--- both weights have 16 bits
-pub record Words (rule : Rule) : Type 0 where
-  pub loss : SFits w16 (rule .weights .loss)
-  pub shake : SFits w16 (rule .weights .shake)
+unfoldable pub rowPart : Rule → ℕ → ℤ
+rowPart rule row = rule .weights .shake *ℤ pos (corner (rule .weights .shake) (rule .ranges .shake) row) +ℤ heatPart (rule .weights .heat)
+
+-- what a loss and a shake count for, and the values with the heat that counts for most
+abbrev pub pairPart : Weights → Values → ℤ
+pairPart w v = w .loss *ℤ pos (v .loss) +ℤ w .shake *ℤ pos (v .shake)
+
+abbrev pub hottest : Weights → Values → Values
+hottest w v = record { loss = v .loss; shake = v .shake; edition = Second (cornerHeat (w .heat)) }
+
+-- the edition in a name; where heat has no weight it is all one, and the first
+abbrev pub editionBy : Weights → ℕ → Edition
+editionBy w name = cond (equal (w .heat) (pos 0)) First (editionOf (name % editions))
+
+-- the weights have 16 bits
+pub record Words (w : Weights) : Type 0 where
+  pub loss : SFits w16 (w .loss)
+  pub shake : SFits w16 (w .shake)
+  pub heat : SFits w16 (w .heat)
 
 -- an array of what the best loss of each column counts for
 pub record Across (rule : Rule) (parts : List ℤ) : Type 0 where
-  pub words : Words rule
+  pub words : Words (rule .weights)
   pub whole : length parts ≡ columns
   pub each : (column : ℕ) → column < columns → getD parts column (pos 0) ≡ lossPart rule column
 

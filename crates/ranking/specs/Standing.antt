@@ -11,6 +11,7 @@ use Rattle.search.specs.Best.{best}
 use Rattle.search.specs.Search.{Search}
 use Rattle.values.specs.declared.Values.{Values}
 use Rattle.values.specs.Range.{inRange}
+use Rattle.values.specs.Names.{named}
 use Rattle.ranking.specs.Cells.{weighed, score, isScored, points, cell, bestScore, greater, visiting}
 use Rattle.ranking.specs.declared.Weights.{Weights}
 use Rattle.ranking.specs.declared.Rule.{Rule}
@@ -20,22 +21,22 @@ pub record Held : Type 0 where
   pub number : ℕ
   pub values : Values
 
--- a line of a list
+-- a line of a list: a report by its number and its edition in one (rule 17.6), and its score
 pub record Entry : Type 0 where
-  pub number : ℕ
+  pub name : ℕ
   pub score : ℤ
 
 -- ---- the rank order
 
--- Rule 6.3: of two reports of equal scores the one of number m goes before the one of number n: the greater number does.
+-- Rule 6.3: of two reports of equal scores the one of the name m goes before the one of the name n: the greater number does, and has the greater name.
 unfoldable pub goesFirst : Rule → (m n : ℕ) → Bool
 goesFirst rule m n = ltb n m
 
 -- Rule 6.3: a greater score ranks above, and of equal ones the one that goes first.
 unfoldable pub above : Rule → Entry → Entry → Bool
-above rule e f = greater (e .score) (f .score) (goesFirst rule (e .number) (f .number))
+above rule e f = greater (e .score) (f .score) (goesFirst rule (e .name) (f .name))
 
--- Rule 16.2: the report counts for the question.
+-- Rules 16.2 and 17.3: the report counts for the question.
 abbrev pub isCounted : Rule → Held → Bool
 isCounted rule h = isScored (score rule (h .values))
 
@@ -45,7 +46,7 @@ counted rule hs = only (isCounted rule) hs
 
 -- how a report that counts stands on a list
 abbrev pub entry : Rule → Held → Entry
-entry rule h = record { number = h .number; score = points (score rule (h .values)) }
+entry rule h = record { name = named (h .number) (h .values .edition); score = points (score rule (h .values)) }
 
 -- what some reports bring to a list: each that counts its entry
 unfoldable pub entries : Rule → List Held → List Entry
@@ -92,7 +93,7 @@ searchOf rule =
 
 -- ---- demand 3
 
--- Rule 4.2: values that a report can have.
+-- Rules 4.2 and 17.1: values that a report can have.
 abbrev pub Permitted : Held → Type 0
 Permitted h = inRange (h .values) ≡ true
 
@@ -100,12 +101,12 @@ Permitted h = inRange (h .values) ≡ true
 unfoldable pub foremost : Rule → ℕ → ℕ
 foremost rule entered = entered + 1
 
--- Rules 12.3 and 16.5, demand 3: some permitted pair of values of the cell c that lies inside the ranges, added to the window as that report, stands on the best-k list of that larger
--- window.
+-- Rules 12.3, 16.5 and 17.5, demand 3: some permitted values of the cell c that count, a loss and a shake with a heat or without, added to the window as that report, stand on the best-k list of
+-- that larger window.
 pub record Wanted (rule : Rule) (k : ℕ) (hs : List Held) (entered c : ℕ) : Type 0 where
-  pub pair : Held
-  pub numbered : pair .number ≡ foremost rule entered
-  pub permitted : Permitted pair
-  pub counted : isCounted rule pair ≡ true
-  pub in-cell : cell (pair .values) ≡ c
-  pub listed : entry rule pair ∈ top rule k (pair ∷ hs)
+  pub added : Held
+  pub numbered : added .number ≡ foremost rule entered
+  pub permitted : Permitted added
+  pub counted : isCounted rule added ≡ true
+  pub in-cell : cell (added .values) ≡ c
+  pub listed : entry rule added ∈ top rule k (added ∷ hs)

@@ -5,16 +5,19 @@ ghost use mathlib.Core.Bool.{true, _&&_};
 ghost use Prim.Native.Nat.{_+_, _*_, _-_, _%_, _<_, _≤_, min};
 ghost use lib.IntN.{pos, _*ℤ_};
 ghost use Rattle.laws.specs.Whole.{equal};
-ghost use Rattle.values.specs.Range.{valueCount, low};
-ghost use Rattle.ranking.specs.Cells.{columns, cellCount, inside, wholeRanges, ruleWithin, ruleOf, noRule, isNoRange, isNone, weightFits, weightsFit, isProper, rangesProper, fitRule, counts, weighed, sum, score, ScoreFits, fromLeast, cell, meets, cellCounts, nearest, corner, bestScore, greater, before, inOrder, placeOf, cellAt, cellAfter, mostSteps, stepsTo, reachOf};
+ghost use Rattle.values.specs.Range.{valueCount, lowEdition, low};
+ghost use Rattle.ranking.specs.Cells.{columns, cellCount, inside, wholeRanges, ruleWithin, ruleOf, noRule, isNoRange, isNone, weightFits, weightsFit, isProper, rangesProper, fitRule, heatCounts, counts, heatOf, weighed, sum, score, ScoreFits, fromLeast, valuesNamed, cell, meets, cellCounts, nearest, corner, bestScore, greater, before, inOrder, placeOf, cellAt, cellAfter, mostSteps, stepsTo, reachOf};
 ghost use Rattle.ranking.specs.Standing.{above, passes, placeBy, mightPass};
-ghost use Rattle.ranking.specs.Inner.{leads, nearer, placeAfter, met, metRow, stripesOf, edgeOf, FirstOf, lossPart, shakePart, Words, Across};
+ghost use Rattle.ranking.specs.Inner.{leads, nearer, placeAfter, met, metRow, stripesOf, edgeOf, FirstOf, lossPart, heatPart, rowPart, hottest, pairPart, editionBy, Words, Across};
+use values::Edition;
+use values::Name;
 use values::Values;
 
-// What a score is made with: a for loss, b for shake.
+// What a score is made with: a for loss, b for shake, c for heat.
 pub struct Weights {
     pub loss: i16,
     pub shake: i16,
+    pub heat: i16,
 }
 
 impl Weights {
@@ -33,7 +36,32 @@ impl Weights {
     fn sum(self, values: Values) -> i32
         ensures { λ r. ⌜ r ≡ weighed self (low values) ⌝ }
     {
+        let edition = values.edition;
+        self.pair(values) + weighted_heat(self.heat, edition)
+    }
+
+    // The greatest sum of values with this loss and shake, whatever the heat.
+    fn most(self, values: Values) -> i32
+        ensures { λ r. ⌜ (r ≡ weighed self (hottest self (low values))) × Words self ⌝ }
+    {
+        self.pair(values) + best_heat(self.heat)
+    }
+
+    // What loss and shake count for.
+    fn pair(self, values: Values) -> i32
+        ensures { λ r. ⌜ (r ≡ pairPart self (low values)) × Words self ⌝ }
+    {
         weighted(self.loss, values.loss) + weighted(self.shake, values.shake)
+    }
+
+    // The edition in a name; where heat has no weight it is all one, and the first.
+    fn edition_in(self, name: u32) -> Edition
+        ensures { λ r. ⌜ r ≡ editionBy self name ⌝ }
+    {
+        if is_zero(self.heat) {
+            return Edition::First;
+        }
+        Name::edition(name)
     }
 }
 
@@ -92,6 +120,13 @@ impl Ranges {
         };
         let shake = loss;
         Ranges { loss, shake }
+    }
+
+    // All ends are 0.
+    fn is_none(self) -> bool
+        ensures { λ r. ⌜ r ≡ (isNoRange (self .loss) && isNoRange (self .shake)) ⌝ }
+    {
+        self.loss.is_none() && self.shake.is_none()
     }
 }
 
@@ -168,7 +203,12 @@ impl Rule {
     {
         let loss = Range { low: 0, high: 0 };
         let shake = loss;
-        Rule::within(Weights { loss: 0, shake: 0 }, Ranges { loss, shake })
+        let weights = Weights {
+            loss: 0,
+            shake: 0,
+            heat: 0,
+        };
+        Rule::within(weights, Ranges { loss, shake })
     }
 
     // All of it is 0.
@@ -179,8 +219,8 @@ impl Rule {
         let ranges = self.ranges;
         if is_zero(weights.loss) {
             if is_zero(weights.shake) {
-                if ranges.loss.is_none() {
-                    return ranges.shake.is_none();
+                if is_zero(weights.heat) {
+                    return ranges.is_none();
                 }
             }
         }
@@ -197,12 +237,17 @@ impl Rule {
         false
     }
 
-    // Both weights are in their range.
+    // Each weight is in its range.
     pub fn weights_fit(self) -> bool
         ensures { λ r. ⌜ r ≡ weightsFit self ⌝ }
     {
         let weights = self.weights;
-        weight_fits(weights.loss) && weight_fits(weights.shake)
+        if weight_fits(weights.loss) {
+            if weight_fits(weights.shake) {
+                return weight_fits(weights.heat);
+            }
+        }
+        false
     }
 
     // Both ranges are in order, with no end over the largest value.
@@ -223,10 +268,27 @@ impl Rule {
         Score::DoesNotCount
     }
 
-    // The same, and none also where the score is below `least`. Most values fail by that alone, so it is looked at first.
-    pub fn score_from(self, values: Values, least: i32) -> Score
-        ensures { λ r. ⌜ (r ≡ fromLeast least (score self (low values))) × ScoreFits self (low values) ⌝ }
+    // The same of a report as its row has it, and none also where the score is below `least`. Most reports fail by loss and shake alone, so the
+    // name isn't looked at before that.
+    pub fn score_from(self, loss: u16, shake: u16, name: u32, least: i32) -> Score
+        ensures { λ r. ⌜
+            (r ≡ fromLeast least (score self (low (valuesNamed loss shake name)))) × ScoreFits self (low (valuesNamed loss shake name))
+            ⌝ }
     {
+        let weights = self.weights;
+        let first = Values {
+            loss,
+            shake,
+            edition: Edition::First,
+        };
+        if weights.most(first) < least {
+            return Score::DoesNotCount;
+        }
+        let values = Values {
+            loss,
+            shake,
+            edition: weights.edition_in(name),
+        };
         let sum = self.sum(values);
         if sum < least {
             return Score::DoesNotCount;
@@ -237,13 +299,17 @@ impl Rule {
         Score::DoesNotCount
     }
 
-    // Each value lies inside its range.
+    // Loss and shake lie inside their ranges, and there is a heat where it has a weight.
     fn counts(self, values: Values) -> bool
         ensures { λ r. ⌜ r ≡ counts self (low values) ⌝ }
     {
         let ranges = self.ranges;
         if ranges.loss.has(values.loss % Values::COUNT) {
-            return ranges.shake.has(values.shake % Values::COUNT);
+            if ranges.shake.has(values.shake % Values::COUNT) {
+                let weights = self.weights;
+                let edition = values.edition;
+                return heat_counts(weights.heat, edition);
+            }
         }
         false
     }
@@ -255,13 +321,13 @@ impl Rule {
         self.weights.sum(values)
     }
 
-    // A report ranks above another (rule 6.3): by its score, and of equal ones by its number.
-    pub fn above(self, number: u32, score: i32, other_number: u32, other_score: i32) -> bool
+    // A report ranks above another (rule 6.3): by its score, and of equal ones by its number, which is in its name.
+    pub fn above(self, name: u32, score: i32, other_name: u32, other_score: i32) -> bool
         ensures { λ r. ⌜
-            r ≡ above self (record { number = number; score = score }) (record { number = «other_number»; score = «other_score» })
+            r ≡ above self (record { name = name; score = score }) (record { name = «other_name»; score = «other_score» })
             ⌝ }
     {
-        greater(score, other_score, other_number < number)
+        greater(score, other_score, other_name < name)
     }
 
     // A report that enters now with this score ranks above one of that other score.
@@ -290,11 +356,7 @@ impl Rule {
         ensures { λ r. ⌜ r ≡ bestScore self cell ⌝ }
     {
         let n = cell as u16;
-        let weights = self.weights;
-        let ranges = self.ranges;
-        let loss = corner(weights.loss, ranges.loss, n % Grid::COLUMNS);
-        let shake = corner(weights.shake, ranges.shake, n / Grid::COLUMNS);
-        self.sum(Values { loss, shake })
+        self.loss_part(n % Grid::COLUMNS) + self.row_part(n / Grid::COLUMNS)
     }
 
     // Some values of the cell count.
@@ -425,21 +487,21 @@ impl Rule {
     // What the best loss of a column counts for.
     fn loss_part(self, column: u16) -> i32
         requires { ⌜ column < columns ⌝ }
-        ensures { λ r. ⌜ (r ≡ lossPart self column) × Words self ⌝ }
+        ensures { λ r. ⌜ (r ≡ lossPart self column) × Words (self .weights) ⌝ }
     {
         let weights = self.weights;
         let ranges = self.ranges;
         weighted(weights.loss, corner(weights.loss, ranges.loss, column))
     }
 
-    // What the best shake of a row counts for.
-    fn shake_part(self, row: u16) -> i32
+    // What the best shake of a row and the best heat count for.
+    fn row_part(self, row: u16) -> i32
         requires { ⌜ row < columns ⌝ }
-        ensures { λ r. ⌜ r ≡ shakePart self row ⌝ }
+        ensures { λ r. ⌜ r ≡ rowPart self row ⌝ }
     {
         let weights = self.weights;
         let ranges = self.ranges;
-        weighted(weights.shake, corner(weights.shake, ranges.shake, row))
+        weighted(weights.shake, corner(weights.shake, ranges.shake, row)) + best_heat(weights.heat)
     }
 
     // The cells of one row more. Where the one that is taken first is below the score, all are, and it alone matters.
@@ -482,7 +544,7 @@ impl Rule {
         if !ranges.shake.meets(row) {
             return sought;
         }
-        let part = self.shake_part(row);
+        let part = self.row_part(row);
         let stripes = ranges.loss.stripes();
         let end = stripes.end;
         let mut found = sought;
@@ -605,6 +667,42 @@ fn weighted(weight: i16, value: u16) -> i32
     let a = weight as i32;
     let v = (value % Values::COUNT) as i32;
     a * v
+}
+
+// What the heat counts for: nothing, where it has no weight or there is none.
+fn weighted_heat(weight: i16, edition: Edition) -> i32
+    ensures { λ r. ⌜ r ≡ weight *ℤ pos (heatOf (lowEdition edition)) ⌝ }
+{
+    if is_zero(weight) {
+        return 0;
+    }
+    match edition {
+        Edition::First => 0,
+        Edition::Second(heat) => weighted(weight, heat),
+    }
+}
+
+// A report of that edition counts by the weight for heat.
+fn heat_counts(weight: i16, edition: Edition) -> bool
+    ensures { λ r. ⌜ r ≡ heatCounts weight (lowEdition edition) ⌝ }
+{
+    if is_zero(weight) {
+        return true;
+    }
+    match edition {
+        Edition::First => false,
+        Edition::Second(heat) => true,
+    }
+}
+
+// What the heat that counts for most by its weight does count for.
+fn best_heat(weight: i16) -> i32
+    ensures { λ r. ⌜ r ≡ heatPart weight ⌝ }
+{
+    if 0 < weight {
+        return weighted(weight, Values::LARGEST);
+    }
+    0
 }
 
 // The value of a column or a row that counts for most by its weight and lies inside the range, where one does.

@@ -1,5 +1,7 @@
 // The desk's answers, as bytes in a buffer that a caller lends. Every function stores its text from any place on and answers the place
 // behind it; what lies past the buffer's end is not stored.
+use values::Edition;
+
 // Stores a text.
 pub fn put(buf: &mut [u8], at: usize, text: &[u8]) -> usize {
     wire::put_all(buf, at, text);
@@ -28,6 +30,14 @@ pub fn put_scored(buf: &mut [u8], at: usize, n: u64, score: i32) -> usize {
     let number = put_number(buf, at, n);
     let end = put(buf, number, b":");
     text::put_signed(buf, end, score)
+}
+
+// Stores a mark and the heat, where there is one.
+pub fn put_heat(buf: &mut [u8], at: usize, mark: &[u8], edition: Edition) -> usize {
+    match edition {
+        Edition::First => at,
+        Edition::Second(heat) => put_mark(buf, at, mark, heat as u64),
+    }
 }
 
 // Stores bytes in capital digits, two a byte.

@@ -25,10 +25,10 @@ reader-fields p = go (isPayload p)
 
 -- The writer's number is that of `writeRefusal`, and where it refuses it has written 0 bytes.
 pub writer-fields : (room : ℕ) (r : Report) (note : Option (List ℕ))
-    → writtenFields (writeAnswer room r note) ≡ record { refusal = writeRefusal room r note; bytes = cond (eqb (writeRefusal room r note) 0) (size note) 0 }
+    → writtenFields (writeAnswer room r note) ≡ record { refusal = writeRefusal room r note; bytes = cond (eqb (writeRefusal room r note) 0) (size (r .values .edition) note) 0 }
 unfolding writeAnswer
 writer-fields room r note = go (writeRefusal room r note) (eqb (writeRefusal room r note) 0) refl
   where
-    go : (n : ℕ) (b : Bool) → eqb n 0 ≡ b → writtenFields (cond b (writing.Bytes (size note)) (writing.Refused n)) ≡ record { refusal = n; bytes = cond b (size note) 0 }
+    go : (n : ℕ) (b : Bool) → eqb n 0 ≡ b → writtenFields (cond b (writing.Bytes (size (r .values .edition) note)) (writing.Refused n)) ≡ record { refusal = n; bytes = cond b (size (r .values .edition) note) 0 }
     go n true e = rw (eqb-true n 0 e)
     go n false e = refl

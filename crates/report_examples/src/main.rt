@@ -1,13 +1,14 @@
 // The payload tried at its edges. Each line of `stdin` is a case: it is printed, and with it what is answered. `stdout`
 // has what the rules (docs/RULES.md) ask for, as tests/expected/report_examples works it out.
 //
-// write ROOM LOSS SHAKE OWN NOTED LENGTH   the writer, with a note of that length: its answer, and the room of 255s that it leaves
+// write ROOM LOSS SHAKE OWN NOTED LENGTH EDITION
+//                                          the writer, with a note of that length: its answer, and the room of 255s that it leaves
 // huge                                     the writer, with a note of 65,536 bytes, in a room of 96 zeros
 // read BYTES..                             the reader: its answer, and the note
 // long SIZE LENGTH                         the reader on P1's payload with zeros behind it, so many bytes, its note's length changed
 // count AT BYTES..                         how many of the 255 other bytes at a place the reader takes
 //
-// BYTES are hexadecimal, the other numbers decimal.
+// BYTES are hexadecimal, the other numbers decimal. EDITION is one more than the heat, and 0 or nothing without one.
 use printing::bytes;
 use printing::end;
 use printing::number;
@@ -17,6 +18,7 @@ use report::Payload;
 use report::Reading;
 use report::Report;
 use report::Written;
+use values::Edition;
 use values::Values;
 
 fn main() {
@@ -55,7 +57,7 @@ fn case(line: &[u8]) {
 }
 
 fn write(line: &[u8]) {
-    let mut space = [255u8; 85];
+    let mut space = [255u8; 90];
     let room: &mut [u8] = &mut space;
     let size = cases::byte(line, 1) as usize;
     let words: &[u8] = b"The left sieve lets more grain by than before, since the belt was";
@@ -70,6 +72,7 @@ fn written(room: &mut [u8], line: &[u8], noted: bool, note: &[u8]) {
     let values = Values {
         loss: cases::short(line, 2),
         shake: cases::short(line, 3),
+        edition: Edition::of(cases::short(line, 7)),
     };
     let report = Report {
         values,
@@ -100,6 +103,12 @@ fn accepted(r: Report) {
     number(r.values.loss as u64);
     number(r.values.shake as u64);
     number(r.own as u64);
+    let values = r.values;
+    let edition = values.edition;
+    if let Edition::Second(heat) = edition {
+        text(b" heat");
+        number(heat as u64);
+    }
 }
 
 fn long(line: &[u8]) {

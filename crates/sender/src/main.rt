@@ -60,17 +60,18 @@ fn send(found: Input, line: &[u8], time: Time) -> Sent {
         return Sent { fine: true, time };
     }
     let mut room = [0u8; Command::LARGEST];
-    let outcome = commands::write(wire::front(line, found.size), time, &mut room);
+    let text = wire::front(line, found.size);
+    let outcome = commands::write(text, time, &mut room);
     let answer = outcome.answer;
     let behind = outcome.time;
     Sent {
-        fine: answered(number, answer, &room),
+        fine: answered(number, answer, text, &room),
         time: behind,
     }
 }
 
 // Writes the items that stand in `room`, or what is wrong with the line. False where the items could not be written.
-fn answered(number: u64, answer: Answer, room: &[u8]) -> bool {
+fn answered(number: u64, answer: Answer, line: &[u8], room: &[u8]) -> bool {
     match answer {
         Answer::Items(n) => written(wire::front(room, n)),
         Answer::Wrong(fault) => {
@@ -80,7 +81,7 @@ fn answered(number: u64, answer: Answer, room: &[u8]) -> bool {
         }
         Answer::Refused(code) => {
             wrong(number);
-            refused(code);
+            refused(code, line);
             true
         }
     }
@@ -107,15 +108,24 @@ fn wrong(number: u64) {
 }
 
 // What the bench sender refuses: 3, 12 or 19.
-fn refused(code: u8) {
+fn refused(code: u8, line: &[u8]) {
     if code == 3 {
         say(b"SENDER is over 253\n");
     }
     if code == 12 {
-        say(b"LOSS or SHAKE is over 4095\n");
+        over(Kind::of(lines::word(line, 0)));
     }
     if code == 19 {
         say(b"the note is longer than 64 bytes\n");
+    }
+}
+
+// A value that is out of its range.
+fn over(kind: Kind) {
+    match kind {
+        Kind::Heated => say(b"LOSS, SHAKE or HEAT is over 4095\n"),
+        Kind::HeatedNoted => say(b"LOSS, SHAKE or HEAT is over 4095\n"),
+        _ => say(b"LOSS or SHAKE is over 4095\n"),
     }
 }
 
@@ -130,11 +140,13 @@ fn faulty(fault: Fault) {
         Kind::Show => slot(word, b"show SLOT\n"),
         Kind::Report => report(word, b"report"),
         Kind::Noted => report(word, b"noted"),
+        Kind::Heated => heated(word, b"heated"),
+        Kind::HeatedNoted => heated(word, b"heated-noted"),
         Kind::Time => time(word),
         Kind::Untimed => untimed(),
         Kind::Nothing => say(b"\n"),
         Kind::Unknown => say(
-            b"the first word is none of window, question, remove, show, report, noted, time, untimed\n",
+            b"the first word is none of window, question, remove, show, report, noted, heated, heated-noted, time, untimed\n",
         ),
     }
 }
@@ -159,10 +171,11 @@ fn question(word: u8) {
         2 => say(b"K is missing or no number from 0 to 255"),
         3 => say(b"A is missing or no number from -32768 to 32767"),
         4 => say(b"B is missing or no number from -32768 to 32767"),
-        _ => say(b"something stands behind B"),
+        5 => say(b"C is no number from -32768 to 32767"),
+        _ => say(b"something stands behind C"),
     }
     expected();
-    say(b"question SLOT K A B\n");
+    say(b"question SLOT K A B [C]\n");
 }
 
 fn slot(word: u8, form: &[u8]) {
@@ -184,6 +197,19 @@ fn report(word: u8, name: &[u8]) {
     expected();
     say(name);
     say(b" SENDER LOSS SHAKE NUMBER, and perhaps a note\n");
+}
+
+fn heated(word: u8, name: &[u8]) {
+    match word {
+        1 => say(b"SENDER is missing or no number from 0 to 253"),
+        2 => say(b"LOSS is missing or no number from 0 to 4095"),
+        3 => say(b"SHAKE is missing or no number from 0 to 4095"),
+        4 => say(b"HEAT is missing or no number from 0 to 4095"),
+        _ => say(b"NUMBER is missing or no number from 0 to 4294967295"),
+    }
+    expected();
+    say(name);
+    say(b" SENDER LOSS SHAKE HEAT NUMBER, and perhaps a note\n");
 }
 
 fn time(word: u8) {

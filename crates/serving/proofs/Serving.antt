@@ -18,6 +18,7 @@ use Rattle.question.specs.declared.Question.{Question}
 use Rattle.question.specs.Lines.{rowsOf}
 use Rattle.board.specs.declared.Board.{Board}
 use Rattle.board.specs.declared.Placed.{Placed}
+use Rattle.items.specs.Items.{settingIn}
 use Rattle.slot.specs.declared.Seated.{Seated}
 use Rattle.slot.specs.Asking.{setIn, emptied, readIn}
 use Rattle.slot.specs.Gauges.{noQuestion}
@@ -31,7 +32,7 @@ use Rattle.serving.specs.Serving.{Served, shownText, seatedText, served}
 
 -- The tag and the length of an item for a slot.
 abbrev pub Known : ℕ → List ℕ → Type 0
-Known tag v = ((tag ≡ 20) × (length v ≡ 1)) ⊎ (((tag ≡ 19) × (length v ≡ 1)) ⊎ ((tag ≡ 17) × (length v ≡ 6)))
+Known tag v = ((tag ≡ 20) × (length v ≡ 1)) ⊎ (((tag ≡ 19) × (length v ≡ 1)) ⊎ (((tag ≡ 17) × (length v ≡ 6)) ⊎ ((tag ≡ 22) × (length v ≡ 8))))
 
 -- ---- by the tag
 
@@ -66,7 +67,7 @@ module _ (log : Log) (window : sized (log .board .window .counts .size) ≡ true
   b = log .board
 
   abbrev rows : List Held
-  rows = standing (rowsOf (b .window .losses) (b .window .shakes) (b .window .numbers)) 1024
+  rows = standing (rowsOf (b .window .losses) (b .window .shakes) (b .window .names)) 1024
 
   abbrev n : ℕ
   n = nextItem (log .items)
@@ -94,14 +95,14 @@ module _ (log : Log) (window : sized (log .board .window .counts .size) ≡ true
       go (passed t) = rw (lt-ltb s 32 h, t) (λ i. record { text = rLine n 17; log = same-slot s i })
       go (failed t) = rw (lt-ltb s 32 h, t)
 
-  set-done : (v : List ℕ) → length v ≡ 6 → getD v 0 0 < 32 → {seated : Seated} → seated ≡ setIn (slotAt b (getD v 0 0)) (getD v 1 0) (ruleIn v) rows
-      → itemDone log 17 v ≡ record { text = seatedText n (getD v 0 0) (seated .refusal) (seated .steps); log = holding (getD v 0 0) (seated .question) }
+  set-done : (tag : ℕ) (v : List ℕ) → itemDone log tag v ≡ setItem (withItem log) (settingIn v) → getD v 0 0 < 32 → {seated : Seated} → seated ≡ setIn (slotAt b (getD v 0 0)) (getD v 1 0) (ruleIn v) rows
+      → itemDone log tag v ≡ record { text = seatedText n (getD v 0 0) (seated .refusal) (seated .steps); log = holding (getD v 0 0) (seated .question) }
   unfolding setItem unless seatedText
-  set-done v long few {seated} e =
+  set-done tag v is few {seated} e =
       let s = getD v 0 0 in
       let placed : setWork b s (getD v 1 0) (ruleIn v) ≡ record { refusal = seated .refusal; steps = seated .steps; board = withSlot b s (seated .question) } = set-seated b s (getD v 1 0) (ruleIn v) few e in
       let same : eqb (seated .refusal) 0 ≡ false → withSlot b s (seated .question) ≡ b = λ t. sym (ap (λ (p : Placed). p .board) placed) ∙ set-kept b s (getD v 1 0) (ruleIn v) (eqb-false _ 0 (ap (λ (p : Placed). eqb (p .refusal) 0) placed ∙ t)) in
-      items.set-done log some-rows v long ∙ ap (λ (p : Placed). unless (withItem log) (p .refusal) (record { text = sLine n s (p .steps); log = withBoard (withItem log) (p .board) })) placed
+      is ∙ ap (λ (p : Placed). unless (withItem log) (p .refusal) (record { text = sLine n s (p .steps); log = withBoard (withItem log) (p .board) })) placed
       ∙ go (tested (eqb (seated .refusal) 0)) same
     where
       go : Tested (eqb (seated .refusal) 0) → (eqb (seated .refusal) 0 ≡ false → withSlot b (getD v 0 0) (seated .question) ≡ b)
@@ -117,12 +118,16 @@ module _ (log : Log) (window : sized (log .board .window .counts .size) ≡ true
     abbrev left : Served → Outcome
     left d = record { text = d .text; log = holding (getD v 0 0) (d .question) }
 
+    slot-set : itemDone log tag v ≡ setItem (withItem log) (settingIn v) → (tag ≡ 20 → ⊥) → (tag ≡ 19 → ⊥) → itemDone log tag v ≡ left does
+    slot-set is shows removes = set-done tag v is few refl ∙ sym (ap left (served-set tag n v (slotAt b (getD v 0 0)) rows shows removes refl))
+
     slot-done : Known tag v → itemDone log tag v ≡ left does
     slot-done (inl (e, long)) =
         ap₂ (itemDone log) e (one-byte v long) ∙ show-done (getD v 0 0) few
         ∙ (λ i. record { text = shownText n (getD v 0 0) (slotAt b (getD v 0 0)); log = same-slot (getD v 0 0) i }) ∙ sym (ap left (served-show tag n v (slotAt b (getD v 0 0)) rows e))
     slot-done (inr (inl (e, long))) = ap₂ (itemDone log) e (one-byte v long) ∙ remove-done (getD v 0 0) few ∙ sym (ap left (served-remove tag n v (slotAt b (getD v 0 0)) rows (λ f. omega arith) e))
-    slot-done (inr (inr (e, long))) = ap (λ (t : ℕ). itemDone log t v) e ∙ set-done v long few refl ∙ sym (ap left (served-set tag n v (slotAt b (getD v 0 0)) rows (λ f. omega arith) (λ f. omega arith) refl))
+    slot-done (inr (inr (inl (e, long)))) = slot-set (ap (λ (t : ℕ). itemDone log t v) e ∙ items.set-done log some-rows v long) (λ f. omega arith) (λ f. omega arith)
+    slot-done (inr (inr (inr (e, long)))) = slot-set (ap (λ (t : ℕ). itemDone log t v) e ∙ items.set-heat-done log some-rows v long) (λ f. omega arith) (λ f. omega arith)
 
   -- The claim, said of what the code holds.
   pub slot-here : {tag tag₁ item s : ℕ} {v v₁ : List ℕ} {q : Question} → Known tag₁ v₁ → getD v₁ 0 0 < 32 → tag ≡ tag₁ → item ≡ n → v ≡ v₁ → s ≡ getD v 0 0 → q ≡ served tag item v (slotAt b s) rows .question

@@ -7,6 +7,7 @@ use lib.ListN.{getD, take}
 use lib.Seq.{sets}
 use lib.Dec.{eqb}
 use Rattle.ranking.specs.Standing.{Held}
+use Rattle.list.specs.Lines.{numbersIn}
 use Rattle.question.specs.declared.Question.{Question}
 use Rattle.slot.specs.Asking.{setIn, emptied}
 use Rattle.text.specs.Text as text
@@ -15,7 +16,7 @@ use Rattle.journal.specs.Log.{ruleIn}
 
 -- What showing a slot prints that has that question in it.
 unfoldable pub shownText : (item slot : ℕ) → Question → List ℕ
-shownText item slot q = cond (eqb (q .k) 0) (rLine item 17) (qLine slot (take (q .len) (text.entriesOf (q .numbers) (q .scores))))
+shownText item slot q = cond (eqb (q .k) 0) (rLine item 17) (qLine slot (take (q .len) (text.entriesOf (numbersIn (q .names)) (q .scores))))
 
 -- What setting a question prints: the S line of its search, or the refusal's line.
 unfoldable pub seatedText : (item slot refusal steps : ℕ) → List ℕ
@@ -26,7 +27,7 @@ pub record Served : Type 0 where
   pub text : List ℕ
   pub question : Question
 
--- Rule 11.1: a slot is shown (20), emptied (19) or set (17), over these reports.
+-- Rules 11.1 and 17.7: a slot is shown (20), emptied (19) or set (17 and 22), over these reports.
 unfoldable pub served : (tag item : ℕ) → List ℕ → Question → List Held → Served
 served tag item v q reports =
     cond (eqb tag 20) (record { text = shownText item (getD v 0 0) q; question = q })

@@ -26,11 +26,11 @@ pub fn serve<'a>(
     held: Question,
     losses: &'a [u16; Window::ROWS],
     shakes: &'a [u16; Window::ROWS],
-    numbers: &'a [u32; Window::ROWS],
+    names: &'a [u32; Window::ROWS],
     out: &mut [u8],
     at: usize,
 ) -> Slot
-    ensures { λ r. ⌜ Serves (served tag item (now (value .entry)) held (standing (rowsOf (now (losses .entry)) (now (shakes .entry)) (now (numbers .entry))) rowCount)) (now (out .entry)) at (r .question) (r .at) (now (out .exit)) ⌝ }
+    ensures { λ r. ⌜ Serves (served tag item (now (value .entry)) held (standing (rowsOf (now (losses .entry)) (now (shakes .entry)) (now (names .entry))) rowCount)) (now (out .entry)) at (r .question) (r .at) (now (out .exit)) ⌝ }
 {
     if tag == Item::SHOW {
         return Slot {
@@ -45,7 +45,7 @@ pub fn serve<'a>(
         };
     }
     let rule = journal::rule_in(value);
-    let seated = slot::set_in(held, wire::byte(value, 1), rule, losses, shakes, numbers);
+    let seated = slot::set_in(held, wire::byte(value, 1), rule, losses, shakes, names);
     let question = seated.question;
     Slot {
         question,
@@ -68,7 +68,8 @@ fn put_shown(out: &mut [u8], at: usize, item: u64, slot: u8, question: Question)
     if question.k == 0 {
         return text::put_r(out, at, item, Shown::EMPTY);
     }
-    let numbers = question.numbers;
+    let names = question.names;
+    let numbers = list::numbers_in(names);
     let scores = question.scores;
     text::put_q(out, at, slot, numbers, scores, question.len as usize)
 }

@@ -1,4 +1,4 @@
--- A report that passes no gauge touches no question: below the last line's score there is no place, and below the lowest number nothing is listed.
+-- A report that passes no gauge touches no question: below the last line's score there is no place, and no report of a number whose last name is below the lowest is listed.
 -- Assumes nothing.
 use mathlib.Core.Path.{_≡_, refl, sym, ap, _∙_}
 use mathlib.Core.Bool.{Bool, true, false, not, _||_}
@@ -27,8 +27,8 @@ use Rattle.question.specs.Inner.{lineCount}
 use Rattle.list.proofs.Stored.{Roomy, lineAt, take-line}
 use Rattle.question.proofs.Stored.{all-lines, last-line, no-lines}
 use Rattle.slot.specs.Turn.{placeOn, takes, lists}
-use Rattle.slot.specs.Gauges.{lastScore, leastOf, lowest, lowestOf, gaugeOf, isQuiet, isIdle, upToLast}
-use Rattle.slot.proofs.Listing.{takes-out, takes-no-place, front-numbers, later-numbers, line-left}
+use Rattle.slot.specs.Gauges.{lastScore, leastOf, lowest, lowestOf, gaugeOf, lastName, isQuiet, isIdle, upToLast}
+use Rattle.slot.proofs.Listing.{takes-out, takes-no-place, front-names, later-names, line-left}
 
 -- ---- what the gauge is read off
 
@@ -46,14 +46,14 @@ module _ (q : Question) where
   unfolding leastOf
   least-none e = ap lastScore (no-lines q e)
 
-  pub least-last : Roomy (q .numbers) (q .scores) → (i : ℕ) → i + 1 ≡ lineCount q → leastOf q ≡ getD (q .scores) i (pos 0)
+  pub least-last : Roomy (q .names) (q .scores) → (i : ℕ) → i + 1 ≡ lineCount q → leastOf q ≡ getD (q .scores) i (pos 0)
   unfolding leastOf
   least-last r i e =
-      ap lastScore (sym (all-lines q r (lineCount q) refl (i + 1) e) ∙ take-line (q .numbers) (q .scores) r (lineCount q) (omega arith) i (omega arith))
-      ∙ last-score (take i (take (lineCount q) (linesOf (q .numbers) (q .scores)))) (lineAt (q .numbers) (q .scores) i)
+      ap lastScore (sym (all-lines q r (lineCount q) refl (i + 1) e) ∙ take-line (q .names) (q .scores) r (lineCount q) (omega arith) i (omega arith))
+      ∙ last-score (take i (take (lineCount q) (linesOf (q .names) (q .scores)))) (lineAt (q .names) (q .scores) i)
 
   -- A place on the list, by its last score.
-  pub place-by : Roomy (q .numbers) (q .scores) → (s : ℤ) → placeBy (q .rule) (q .k) (q .len) (leastOf q) s ≡ placeOn q s
+  pub place-by : Roomy (q .names) (q .scores) → (s : ℤ) → placeBy (q .rule) (q .k) (q .len) (leastOf q) s ≡ placeOn q s
   place-by r s = go (tested (eqb (q .len) 0))
     where
       go : Tested (eqb (q .len) 0) → placeBy (q .rule) (q .k) (q .len) (leastOf q) s ≡ placeOn q s
@@ -65,18 +65,18 @@ module _ (q : Question) where
           let positive = eqb-false (q .len) 0 t in
           let last : lineCount q - 1 + 1 ≡ lineCount q = omega (arith, nonzero (q .len) positive) in
           sym
-          (place-last (q .rule) (q .k) (q .len) s (lines q) (lineAt (q .numbers) (q .scores) (lineCount q - 1)) (nonzero (q .len) positive) (last-line q r (lineCount q - 1) last)
+          (place-last (q .rule) (q .k) (q .len) s (lines q) (lineAt (q .names) (q .scores) (lineCount q - 1)) (nonzero (q .len) positive) (last-line q r (lineCount q - 1) last)
           ∙ ap (λ z. placeBy (q .rule) (q .k) (q .len) z s) (sym (least-last r (lineCount q - 1) last)))
 
   pub low-room : q .len < q .k → lowestOf q ≡ 0
   unfolding lowestOf
   low-room h = rw (lt-ltb (q .len) (q .k) h)
 
-  pub low-numbers : q .k ≤ q .len → Roomy (q .numbers) (q .scores) → (n : ℕ) → n ≡ lineCount q → lowestOf q ≡ lowest (take n (q .numbers))
+  pub low-names : q .k ≤ q .len → Roomy (q .names) (q .scores) → (n : ℕ) → n ≡ lineCount q → lowestOf q ≡ lowest (take n (q .names))
   unfolding lowestOf
-  low-numbers full r n e = rw (le-ltb (q .len) (q .k) full) (ap lowest (front-numbers q r n e))
+  low-names full r n e = rw (le-ltb (q .len) (q .k) full) (ap lowest (front-names q r n e))
 
--- one number more, from the end
+-- one name more, from the end
 pub low-more : (ns : List ℕ) (n i : ℕ) → n ≤ length ns → i < n → lowest (drop i (take n ns)) ≡ min (getD ns i 0) (lowest (drop (i + 1) (take n ns)))
 low-more ns n i fits below = ap lowest (line-left ns n i fits below)
 
@@ -91,11 +91,11 @@ below-all : (n : ℕ) (l : List ℕ) → n < lowest l → allOf (ltb n) l ≡ tr
 below-all n [] h = refl
 below-all n (x ∷ l) h = and-true (lt-ltb n x (omega arith)) (below-all n l (omega arith))
 
-full-there : (q : Question) (n : ℕ) → n < lowestOf q → (ltb (q .len) (q .k) ≡ false) × (n < lowest (map (λ e. e .number) (lines q)))
+full-there : (q : Question) (n : ℕ) → n < lowestOf q → (ltb (q .len) (q .k) ≡ false) × (n < lowest (map (λ e. e .name) (lines q)))
 unfolding lowestOf
 full-there q n h = go (tested (ltb (q .len) (q .k)))
   where
-    go : Tested (ltb (q .len) (q .k)) → (ltb (q .len) (q .k) ≡ false) × (n < lowest (map (λ e. e .number) (lines q)))
+    go : Tested (ltb (q .len) (q .k)) → (ltb (q .len) (q .k) ≡ false) × (n < lowest (map (λ e. e .name) (lines q)))
     go (passed t) = absurd (not-suc-le-zero (rw t at h))
     go (failed t) = (t, rw t at h)
 
@@ -104,10 +104,10 @@ pub quiet-untouched : (q : Question) (gone : ℕ) (v : Values) → isQuiet (gaug
 unfolding isQuiet leastOf lists
 quiet-untouched q gone v e =
     let s = sum (q .rule) v in
-    let both = and-both (not (mightPass (q .rule .weights) v (leastOf q))) (ltb gone (lowestOf q)) e in
-    let there = full-there q gone (ltb-true gone (lowestOf q) (both .1)) in
+    let both = and-both (not (mightPass (q .rule .weights) v (leastOf q))) (ltb (lastName gone) (lowestOf q)) e in
+    let there = full-there q (lastName gone) (ltb-true (lastName gone) (lowestOf q) (both .1)) in
     let none = no-place (q .rule) (q .k) (q .len) s (lines q) (there .0) (no-last (q .rule) (lines q) s (might-not (q .rule) v (leastOf q) (not-true _ (both .0)))) in
-    rw (untaken (tested (isScored (score (q .rule) v))) none, later-numbers gone (lines q) ∙ below-all gone (map (λ x. x .number) (lines q)) (there .1))
+    rw (untaken (tested (isScored (score (q .rule) v))) none, later-names gone (lines q) ∙ below-all (lastName gone) (map (λ x. x .name) (lines q)) (there .1))
   where
     untaken : Tested (isScored (score (q .rule) v)) → placeOn q (sum (q .rule) v) ≡ false → takes q v ≡ false
     untaken (failed c) none = takes-out q v c

@@ -257,7 +257,7 @@ empty-k q e =
     let b = isNone (q .rule) in
     let c = eqb (q .len) 0 in
     let d = eqb (q .next) 0 in
-    let r = and-both (a && b && c && d) (allOf blank (linesOf (q .numbers) (q .scores))) e .0 in
+    let r = and-both (a && b && c && d) (allOf blank (linesOf (q .names) (q .scores))) e .0 in
     eqb-true (q .k) 0 (and-both a b (and-both (a && b) c (and-both (a && b && c) d r .0) .0) .0)
 
 module _ (w : Window) (fit : fitWindow w ≡ true) (q : Question) where

@@ -9,8 +9,9 @@ use Prim.Native.Nat.{ℕ, zero, suc, _≤_, _<_}
 use native.Mathlib.Omega.{arith}
 use borrow.Author.Tests.{ltb-true, ltb-false, le-ltb, not-true, not-false}
 use lib.Dec.{eqb, leb}
-use lib.ListN.{getD, take}
+use lib.ListN.{take}
 use Rattle.laws.specs.Lists.{_∈_}
+use Rattle.values.proofs.Names.{name-number}
 use Rattle.ranking.specs.Cells.{cell, visiting, stepsTo}
 use Rattle.ranking.specs.Standing.{Held, Entry, Permitted, above, entries, top, searchOf}
 use Rattle.ranking.specs.declared.Rule.{Rule}
@@ -22,7 +23,7 @@ use Rattle.ranking.proofs.Entries.{above-strict, entries-in, entries-of, top-of
 use Rattle.ranking.proofs.Standing.{steps-bounded}
 use Rattle.search.proofs.Guard.{Guarded}
 use Rattle.window.specs.declared.Window.{Window}
-use Rattle.window.specs.Rows.{heldReports, fitWindow, reportIn, standing}
+use Rattle.window.specs.Rows.{numberIn, heldReports, fitWindow, reportIn, standing}
 use Rattle.question.specs.declared.Question.{Question}
 use Rattle.question.specs.declared.Searched.{Searched}
 use Rattle.list.specs.Rows.{rowsOf}
@@ -32,7 +33,7 @@ use Rattle.question.proofs.Stored.{lines-asked}
 use Rattle.list.proofs.Blank.{all-in}
 use Rattle.question.proofs.Searches.{searched-held}
 use Rattle.slot.specs.Asking.{searchedAmong}
-use Rattle.slot.specs.Turn.{takes, listed, later, lists, turn}
+use Rattle.slot.specs.Turn.{takes, listed, numberNamed, later, lists, turn}
 use Rattle.slot.specs.declared.Turned.{Turned}
 use Rattle.slot.proofs.Listing.{listed-not, takes-unmarked}
 use Rattle.slot.proofs.Gauges.{idle-untouched}
@@ -45,9 +46,9 @@ unfolding searchedFirst
 first-among q w n = refl
 
 -- The arrays are all that a search reads of a window.
-pub rows-alone : (w : Window) (n : ℕ) → standing (rowsOf (w .losses) (w .shakes) (w .numbers)) n ≡ standing w n
+pub rows-alone : (w : Window) (n : ℕ) → standing (rowsOf (w .losses) (w .shakes) (w .names)) n ≡ standing w n
 rows-alone w zero = refl
-rows-alone w (suc n) = ap (λ l. cond (eqb (getD (w .numbers) n 0) 0) l (reportIn w n ∷ l)) (rows-alone w n)
+rows-alone w (suc n) = ap (λ l. cond (eqb (numberIn w n) 0) l (reportIn w n ∷ l)) (rows-alone w n)
 
 pub among-held : (w : Window) → fitWindow w ≡ true → (q : Question) → q .k ≤ 16 → searchedAmong q (inRows w) ≡ searchedIn q (heldReports w)
 unfolding searchedOn
@@ -71,25 +72,25 @@ some-fails {A} p (x ∷ l) e = go (tested (p x)) (some-fails p l)
     go (passed t) rest = let r = rest (sym (ap (λ b. b && allOf p l) t) ∙ e) in (r .0, there (r .1), r .2)
 
 -- The list names a report of a number up to that.
-pub lists-when : (q : Question) (gone : ℕ) → lists q gone ≡ true ↔ ((e : Entry) × (e ∈ lines q) × (e .number ≤ gone))
+pub lists-when : (q : Question) (gone : ℕ) → lists q gone ≡ true ↔ ((e : Entry) × (e ∈ lines q) × (numberNamed e ≤ gone))
 unfolding lists
 lists-when q gone = (to, from)
   where
-    to : not (allOf (later gone) (lines q)) ≡ true → (e : Entry) × (e ∈ lines q) × (e .number ≤ gone)
+    to : not (allOf (later gone) (lines q)) ≡ true → (e : Entry) × (e ∈ lines q) × (numberNamed e ≤ gone)
     to t =
         let r = some-fails (later gone) (lines q) (not-true _ t) in
-        (r .0, r .1, ltb-false gone (r .0 .number) (r .2))
+        (r .0, r .1, ltb-false gone (numberNamed (r .0)) (r .2))
 
-    from : (e : Entry) × (e ∈ lines q) × (e .number ≤ gone) → not (allOf (later gone) (lines q)) ≡ true
+    from : (e : Entry) × (e ∈ lines q) × (numberNamed e ≤ gone) → not (allOf (later gone) (lines q)) ≡ true
     from r = go (tested (allOf (later gone) (lines q)))
       where
         go : Tested (allOf (later gone) (lines q)) → not (allOf (later gone) (lines q)) ≡ true
-        go (passed t) = clash (all-in (later gone) (lines q) t (r .0) (r .1)) (le-ltb gone (r .0 .number) (r .2))
+        go (passed t) = clash (all-in (later gone) (lines q) t (r .0) (r .1)) (le-ltb gone (numberNamed (r .0)) (r .2))
         go (failed t) = ap not t
 
-pub none-gone : (q : Question) (gone : ℕ) → lists q gone ≡ false → (e : Entry) → e ∈ lines q → gone < e .number
+pub none-gone : (q : Question) (gone : ℕ) → lists q gone ≡ false → (e : Entry) → e ∈ lines q → gone < numberNamed e
 unfolding lists
-none-gone q gone t e m = ltb-true gone (e .number) (all-in (later gone) (lines q) (not-false _ t) e m)
+none-gone q gone t e m = ltb-true gone (numberNamed e) (all-in (later gone) (lines q) (not-false _ t) e m)
 
 -- ---- an added report changes the list only
 
@@ -194,8 +195,8 @@ module _ (hs : List Held) (h : Held) (permitted : Permitted h) (newest : (r : He
         (best-part (above (s .rule)) (above-strict (s .rule)) (s .k) (entries (s .rule) left) (entries (s .rule) (h ∷ hs)) (entries-⊆ (s .rule) left (h ∷ hs) (leaves .among))
         (λ e m.
         let r = top-of (s .rule) (s .k) (h ∷ hs) m in
-        let after : gone < e .number = none-gone (listed q h) gone none e (subst (λ l. e ∈ l) (sym added-lines) m) in
-        let stays = leaves .stays (r .0) (r .1) (subst (λ (x : Entry). gone < x .number) (sym (r .2)) after) in
+        let after : gone < numberNamed e = none-gone (listed q h) gone none e (subst (λ l. e ∈ l) (sym added-lines) m) in
+        let stays = leaves .stays (r .0) (r .1) (subst (λ n. gone < n) (ap numberNamed (sym (r .2)) ∙ name-number (r .0 .number) (r .0 .values .edition)) after) in
         moved (r .2) (entries-in (s .rule) stays (r .3))))
 
   module _ (w : Window) (fit : fitWindow w ≡ true) (gone : ℕ) (leaves : Leaves hs h gone (heldReports w)) where

@@ -8,7 +8,7 @@ use lib.IntN.{pos}
 use Rattle.ranking.specs.declared.Rule.{Rule}
 use Rattle.ranking.specs.Cells.{weightsFit, rangesProper}
 use Rattle.ranking.specs.Standing.{Held}
-use Rattle.list.specs.Lines.{mostLines}
+use Rattle.list.specs.Lines.{mostLines, numbersIn, editionsIn}
 use Rattle.question.specs.declared.Question.{Question}
 use Rattle.question.specs.declared.Searched.{Searched}
 use Rattle.question.specs.Lines.{asked, emptySlot, searchedIn}
@@ -42,9 +42,10 @@ emptied q = cond (eqb (q .k) 0) q emptySlot
 
 -- Rule 9.1: the refusal's number, and 0 for all else.
 abbrev pub notShown : ℕ → Shown
-notShown refusal = record { refusal = refusal; len = 0; numbers = replicate mostLines 0; scores = replicate mostLines (pos 0) }
+notShown refusal = record { refusal = refusal; len = 0; numbers = replicate mostLines 0; scores = replicate mostLines (pos 0); editions = replicate mostLines 0 }
 
--- The list as it is stored.
+-- Rule 17.6: the list, each report by its number and its edition.
 unfoldable pub readIn : Question → Shown
 readIn q =
-    cond (eqb (q .k) 0) (notShown 17) (record { refusal = 0; len = q .len; numbers = q .numbers; scores = q .scores })
+    cond (eqb (q .k) 0) (notShown 17)
+    (record { refusal = 0; len = q .len; numbers = numbersIn (q .names); scores = q .scores; editions = editionsIn (q .names) })

@@ -15,7 +15,7 @@ isEmpty q =
     && isNone (q .rule)
     && eqb (q .len) 0
     && eqb (q .next) 0
-    && allOf blank (linesOf (q .numbers) (q .scores))
+    && allOf blank (linesOf (q .names) (q .scores))
 
 -- A slot is empty, or holds a fit question whose search has ended (rule 7.9).
 unfoldable pub slotFit : Window → Question → Bool

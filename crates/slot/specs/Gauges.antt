@@ -1,11 +1,12 @@
 -- What a report must pass to touch a question, read off its list.
-use Prim.Native.Nat.{ℕ, zero, suc, min}
+use Prim.Native.Nat.{ℕ, zero, suc, _+_, _*_, min}
 use mathlib.Core.Bool.{Bool, not, cond, _&&_}
 use mathlib.Core.List.{List, [], _∷_, map}
 use lib.ListN.{getD}
 use lib.Dec.{ltb, eqb}
 use lib.IntN.{ℤ, pos}
 use Rattle.values.specs.declared.Values.{Values}
+use Rattle.values.specs.Names.{editions}
 use Rattle.ranking.specs.Cells.{noRule}
 use Rattle.ranking.specs.Standing.{Entry, mightPass}
 use Rattle.question.specs.declared.Question.{Question}
@@ -26,20 +27,24 @@ abbrev pub lowest : List ℕ → ℕ
 lowest [] = 4294967295
 lowest (n ∷ ns) = min n (lowest ns)
 
--- The lowest number on the list; 0 while the list has room, as no number is below that.
+-- The lowest name on the list; 0 while the list has room, as no name is below that.
 unfoldable pub lowestOf : Question → ℕ
-lowestOf q = cond (ltb (q .len) (q .k)) 0 (lowest (map (λ e. e .number) (lines q)))
+lowestOf q = cond (ltb (q .len) (q .k)) 0 (lowest (map (λ e. e .name) (lines q)))
 
 abbrev pub gaugeOf : Question → Gauge
 gaugeOf q = record { weights = q .rule .weights; least = leastOf q; low = lowestOf q }
 
+-- The greatest name of a report of that number: names up to it are those of numbers up to that one.
+abbrev pub lastName : ℕ → ℕ
+lastName number = editions * number + 4096
+
 -- The list is full, a report of these values would have no place on it even if it counts, and none of a number up to `gone` is on it.
 unfoldable pub isQuiet : Gauge → ℕ → Values → Bool
-isQuiet g gone v = not (mightPass (g .weights) v (g .least)) && ltb gone (g .low)
+isQuiet g gone v = not (mightPass (g .weights) v (g .least)) && ltb (lastName gone) (g .low)
 
 -- What stands past the last slot.
 abbrev pub noQuestion : Question
-noQuestion = record { k = 0; rule = noRule; numbers = []; scores = []; len = 0; next = 0 }
+noQuestion = record { k = 0; rule = noRule; names = []; scores = []; len = 0; next = 0 }
 
 -- Rule 6.1: there are so many slots.
 abbrev pub slotCount : ℕ

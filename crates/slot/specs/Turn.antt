@@ -1,10 +1,11 @@
 -- What a report's entry does to one question (docs/RULES.md, section 8).
-use Prim.Native.Nat.{ℕ}
+use Prim.Native.Nat.{ℕ, _/_}
 use mathlib.Core.Bool.{Bool, true, false, not, cond, _&&_}
 use mathlib.Core.List.{List}
 use lib.Dec.{ltb}
 use lib.IntN.{ℤ}
 use Rattle.values.specs.declared.Values.{Values}
+use Rattle.values.specs.Names.{editions}
 use Rattle.ranking.specs.Cells.{cell, score, isScored, points}
 use Rattle.ranking.specs.Standing.{Held, Entry, entry, hasPlace}
 use Rattle.question.specs.declared.Question.{Question}
@@ -17,7 +18,7 @@ use Rattle.slot.specs.Asking.{searchedAmong}
 abbrev pub placeOn : Question → ℤ → Bool
 placeOn q s = hasPlace (q .rule) (q .k) (q .len) (lines q) s
 
--- Rules 8.1 and 16.2: these values count, the question has a mark on their cell, and its list has a place for them.
+-- Rules 8.1, 16.2 and 17.3: these values count, the question has a mark on their cell, and its list has a place for them.
 unfoldable pub takes : Question → Values → Bool
 takes q v =
     isScored (score (q .rule) v) && isMarked q (cell v) && placeOn q (points (score (q .rule) v))
@@ -26,9 +27,13 @@ takes q v =
 unfoldable pub listed : Question → Held → Question
 listed q h = cond (takes q (h .values)) (cutToK (withEntry q (entry (q .rule) h))) q
 
+-- The number of a line's report, which is in its name (rule 17.6).
+abbrev pub numberNamed : Entry → ℕ
+numberNamed e = e .name / editions
+
 -- A line's report came after that number.
 abbrev pub later : ℕ → Entry → Bool
-later gone e = ltb gone (e .number)
+later gone e = ltb gone (numberNamed e)
 
 -- The question lists a report that has gone: one of a number up to that.
 unfoldable pub lists : Question → ℕ → Bool

@@ -7,14 +7,16 @@ ghost use Prim.Native.Nat.{min};
 ghost use lib.Dec.{eqb};
 ghost use Rattle.values.specs.Range.{low};
 ghost use Rattle.slot.specs.Gauges.{lowestOf, gaugeOf, isQuiet, slotCount, inUse};
+use crate::last_name;
 use crate::least;
 use crate::lines_in;
 use question::Question;
+use ranking::Rule;
 use ranking::Weights;
 use values::Values;
 
-// The weights, the last score of the list, and the lowest number on it; 0 for that while the list has room, which no number
-// is below.
+// The weights, the last score of the list, and the lowest name on it; 0 for that while the list has room, which no name is
+// below.
 pub struct Gauge {
     pub weights: Weights,
     pub least: i32,
@@ -45,14 +47,15 @@ impl Gauge {
         if weights.might_pass(values, self.least) {
             return false;
         }
-        gone < self.low
+        last_name(gone) < (self.low as u64)
     }
 
     // The gauge of each slot.
     pub fn of_slots(slots: [Question; Gauge::SLOTS]) -> [Gauge; Gauge::SLOTS]
         ensures { λ r. ⌜ r ≡ map gaugeOf slots ⌝ }
     {
-        let weights = Weights { loss: 0, shake: 0 };
+        let rule = Rule::none();
+        let weights = rule.weights;
         let none = Gauge {
             weights,
             least: 0,
@@ -84,7 +87,7 @@ impl Gauge {
     }
 }
 
-// The lowest number on the list, or 0 while it has room.
+// The lowest name on the list, or 0 while it has room.
 fn lowest(question: Question) -> u32
     ensures { λ r. ⌜ r ≡ lowestOf question ⌝ }
 {
@@ -92,12 +95,12 @@ fn lowest(question: Question) -> u32
     if len < question.k {
         return 0;
     }
-    let numbers = question.numbers;
+    let names = question.names;
     let mut low: u32 = 4294967295;
     let mut i = lines_in(len);
     while 0 < i {
         let here = i - 1;
-        low = lower(numbers[here], low);
+        low = lower(names[here], low);
         i = here;
     }
     low

@@ -2,25 +2,27 @@
 ghost use mathlib.Core.Path.{_≡_};
 ghost use mathlib.Core.Bool.{_&&_};
 ghost use Prim.Native.Nat.{min};
-ghost use Rattle.values.specs.Range.{low};
-ghost use Rattle.window.specs.Rows.{rowCount, standing};
+ghost use Rattle.window.specs.Rows.{rowCount, reportAt, standing};
 ghost use Rattle.list.specs.Lines.{mostLines};
 ghost use Rattle.question.specs.Lines.{isPast};
 ghost use Rattle.list.specs.Rows.{rowsOf};
 ghost use Rattle.slot.specs.Asking.{askRefusal, setIn, emptyRefusal, emptied, notShown, readIn};
 ghost use Rattle.slot.specs.Turn.{placeOn, listed, lists, turn};
-ghost use Rattle.slot.specs.Gauges.{leastOf};
+ghost use Rattle.slot.specs.Gauges.{leastOf, lastName};
 ghost use Rattle.slot.specs.Fitness.{isEmpty, slotFit};
 
 mod gauge;
 
 pub use gauge::Gauge;
 use list::Lines;
+use list::editions_in;
+use list::numbers_in;
 use question::Question;
 use ranking::Grid;
 use ranking::Rule;
 use ranking::Score;
-use values::Values;
+use values::Name;
+use window::Row;
 use window::Window;
 
 // What setting a question answers: the steps of its search, and what the slot holds then.
@@ -30,12 +32,14 @@ pub struct Seated {
     pub question: Question,
 }
 
-// A list: its first `len` lines, and 0 past them.
+// A list: its first `len` lines, and 0 past them. Of each its report's number and score, and the heat: 0 for a report of the
+// first edition, one more than its heat for one of the second.
 pub struct Shown {
     pub refusal: u8,
     pub len: u8,
     pub numbers: [u32; Lines::MOST],
     pub scores: [i32; Lines::MOST],
+    pub editions: [u16; Lines::MOST],
 }
 
 // What a report's entry leaves of a question: whether it was searched, the steps of that, and what the slot holds then.
@@ -64,11 +68,13 @@ impl Shown {
     {
         let numbers = [0u32; Lines::MOST];
         let scores = [0i32; Lines::MOST];
+        let editions = [0u16; Lines::MOST];
         Shown {
             refusal,
             len: 0,
             numbers,
             scores,
+            editions,
         }
     }
 }
@@ -80,9 +86,9 @@ pub fn set_in<'a>(
     rule: Rule,
     losses: &'a [u16; Window::ROWS],
     shakes: &'a [u16; Window::ROWS],
-    numbers: &'a [u32; Window::ROWS],
+    names: &'a [u32; Window::ROWS],
 ) -> Seated
-    ensures { λ r. ⌜ r ≡ setIn question k rule (standing (rowsOf (now (losses .entry)) (now (shakes .entry)) (now (numbers .entry))) rowCount) ⌝ }
+    ensures { λ r. ⌜ r ≡ setIn question k rule (standing (rowsOf (now (losses .entry)) (now (shakes .entry)) (now (names .entry))) rowCount) ⌝ }
 {
     let refusal = ask_refusal(question.k, k, rule);
     if refusal != 0 {
@@ -95,7 +101,7 @@ pub fn set_in<'a>(
     let mut fresh = Question::fresh();
     fresh.k = k;
     fresh.rule = rule;
-    let found = fresh.searched_in(losses, shakes, numbers, Window::ROWS);
+    let found = fresh.searched_in(losses, shakes, names, Window::ROWS);
     let placed = found.question;
     Seated {
         refusal: 0,
@@ -147,35 +153,37 @@ pub fn read_in(question: Question) -> Shown
     if question.k == 0 {
         return Shown::refused(Shown::EMPTY);
     }
-    let numbers = question.numbers;
+    let names = question.names;
+    let numbers = numbers_in(names);
     let scores = question.scores;
+    let editions = editions_in(names);
     Shown {
         refusal: 0,
         len: question.len,
         numbers,
         scores,
+        editions,
     }
 }
 
 // A report enters: the question lists it if its list takes it, and is searched afresh if it lists one that has gone, over the
-// first `rows` of the rows that are lent. The numbers up to `gone` have gone. Of the values the low 12 bits
+// first `rows` of the rows that are lent. The numbers up to `gone` have gone. Of the loss and the shake the low 12 bits
 // are looked at.
 pub fn turn<'a>(
     question: Question,
-    number: u32,
-    values: Values,
+    row: Row,
     gone: u32,
     losses: &'a [u16; Window::ROWS],
     shakes: &'a [u16; Window::ROWS],
-    numbers: &'a [u32; Window::ROWS],
+    names: &'a [u32; Window::ROWS],
     rows: usize,
 ) -> Turned
     ensures { λ r. ⌜
-        r ≡ turn question (record { number = number; values = low values }) gone
-        (standing (rowsOf (now (losses .entry)) (now (shakes .entry)) (now (numbers .entry))) (min rows rowCount))
+        r ≡ turn question (reportAt row) gone
+        (standing (rowsOf (now (losses .entry)) (now (shakes .entry)) (now (names .entry))) (min rows rowCount))
         ⌝ }
 {
-    let with = listed(question, number, values);
+    let with = listed(question, row);
     if !lists(with, gone) {
         return Turned {
             searched: false,
@@ -183,7 +191,7 @@ pub fn turn<'a>(
             question: with,
         };
     }
-    let found = with.searched_in(losses, shakes, numbers, rows);
+    let found = with.searched_in(losses, shakes, names, rows);
     let left = found.question;
     Turned {
         searched: true,
@@ -192,14 +200,15 @@ pub fn turn<'a>(
     }
 }
 
-// The question with a report more, if its list takes it. Of the values the low 12 bits are looked at.
-fn listed(question: Question, number: u32, values: Values) -> Question
-    ensures { λ r. ⌜ r ≡ listed question (record { number = number; values = low values }) ⌝ }
+// The question with a report more, if its list takes it.
+fn listed(question: Question, row: Row) -> Question
+    ensures { λ r. ⌜ r ≡ listed question (reportAt row) ⌝ }
 {
+    let values = row.values();
     match question.rule.score(values) {
         Score::Scored(score) => {
             if joins(question, score, Grid::cell(values)) {
-                question.cut_with(number, score)
+                question.cut_with(row.name, score)
             } else {
                 question
             }
@@ -250,14 +259,22 @@ fn lines_in(len: u8) -> usize
     }
 }
 
+// The greatest name of a report of that number: names up to it are those of numbers up to that one.
+fn last_name(number: u32) -> u64
+    ensures { λ r. ⌜ r ≡ lastName number ⌝ }
+{
+    (Name::EDITIONS as u64) * (number as u64) + 4096
+}
+
 // The question lists a report of a number up to that one.
 fn lists(question: Question, gone: u32) -> bool
     ensures { λ r. ⌜ r ≡ lists question gone ⌝ }
 {
+    let limit = last_name(gone);
     let n = lines_in(question.len);
     let mut i: usize = 0;
     while i < n {
-        if question.numbers[i] <= gone {
+        if (question.names[i] as u64) <= limit {
             return true;
         }
         i += 1;

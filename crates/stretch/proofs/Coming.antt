@@ -1,21 +1,21 @@
 -- What the tests of the next item tell: it is whole, there is a window, and it is a frame or an item for a slot.
 -- Assumes nothing.
 use mathlib.Core.Path.{_≡_, refl, sym, ap, subst, _∙_}
-use mathlib.Core.Bool.{true, false, _&&_, _||_, false≢true}
+use mathlib.Core.Bool.{true, false, cond, _&&_, _||_, and-false, or-false, false≢true}
 use mathlib.Core.Logic.{_⊎_, inl, inr, ⊎-elim}
 use mathlib.Core.List.{List}
 use Prim.Native.Nat.{ℕ, _+_, _≤_, _<_}
 use native.Mathlib.Omega.{arith}
-use borrow.Author.Tests.{eqb-true, leb-true, ltb-true}
+use borrow.Author.Tests.{eqb-true, eqb-false, ne-eqb, leb-true, ltb-true}
 use lib.Dec.{eqb, leb, ltb}
 use lib.ListN.{length, getD, drop}
 use lib.Seq.{getD-take, getD-drop}
 use Rattle.wire.specs.Bytes.{part}
 use Rattle.wire.proofs.Fields.{length-part}
-use Rattle.laws.proofs.Tests.{and-both, or-either, either}
+use Rattle.laws.proofs.Tests.{Tested, passed, failed, tested, and-both, or-either, either}
 use Rattle.window.specs.Rows.{sized}
 use Rattle.stretch.specs.Coming.{sizeAt, itemComes, frameComes, slotComes, comes}
-use Rattle.stretch.specs.Inner.{isFrame, frameSize}
+use Rattle.stretch.specs.Inner.{isFrame, frameSize, slotSize}
 use Rattle.serving.proofs.Serving.{Known}
 
 -- A whole item of that tag and length stands there.
@@ -34,6 +34,61 @@ item {bytes} {i} {tag} {size} e =
       starts = eqb-true (getD bytes i 0) tag (two .1);
       long = eqb-true (sizeAt bytes i) size (one .1);
     }
+
+-- An item for a slot has the length of its tag.
+module _ (bytes : List ℕ) (i : ℕ) where
+  other : (tag size : ℕ) → (getD bytes i 0 ≡ tag → ⊥) → itemComes bytes i tag size ≡ false
+  unfolding itemComes
+  other tag size h = rw (ne-eqb (getD bytes i 0) tag h, and-false)
+
+  -- where the tag is this one, and its length that
+  alone : (tag size : ℕ) → getD bytes i 0 ≡ tag → slotSize (getD bytes i 0) ≡ size → (size ≡ 0 → ⊥) → cond (eqb (slotSize (getD bytes i 0)) 0) false (itemComes bytes i (getD bytes i 0) (slotSize (getD bytes i 0))) ≡ itemComes bytes i tag size
+  alone tag size e is used = rw (is, ne-eqb size 0 used) (ap (λ t. itemComes bytes i t size) e)
+
+  by-tag : itemComes bytes i 20 1 || itemComes bytes i 19 1 || itemComes bytes i 17 6 || itemComes bytes i 22 8
+      ≡ cond (eqb (slotSize (getD bytes i 0)) 0) false (itemComes bytes i (getD bytes i 0) (slotSize (getD bytes i 0)))
+  unfolding slotSize
+  by-tag = go (tested (eqb t 20)) (tested (eqb t 19)) (tested (eqb t 17)) (tested (eqb t 22))
+    where
+      t : ℕ
+      t = getD bytes i 0
+
+      apart : (m n : ℕ) → (m ≡ n → ⊥) → t ≡ m → t ≡ n → ⊥
+      apart m n h e f = h (sym e ∙ f)
+
+      go : Tested (eqb t 20) → Tested (eqb t 19) → Tested (eqb t 17) → Tested (eqb t 22)
+          → itemComes bytes i 20 1 || itemComes bytes i 19 1 || itemComes bytes i 17 6 || itemComes bytes i 22 8
+          ≡ cond (eqb (slotSize t) 0) false (itemComes bytes i t (slotSize t))
+      go (passed a) b c d =
+          let e = eqb-true t 20 a in
+          rw (other 19 1 (apart 20 19 (λ q. omega arith) e), other 17 6 (apart 20 17 (λ q. omega arith) e), other 22 8 (apart 20 22 (λ q. omega arith) e), or-false, or-false, or-false)
+          (sym (alone 20 1 e (rw a) (λ q. omega arith)))
+      go (failed a) (passed b) c d =
+          let e = eqb-true t 19 b in
+          rw (other 20 1 (eqb-false t 20 a), other 17 6 (apart 19 17 (λ q. omega arith) e), other 22 8 (apart 19 22 (λ q. omega arith) e), or-false, or-false)
+          (sym (alone 19 1 e (rw (a, b)) (λ q. omega arith)))
+      go (failed a) (failed b) (passed c) d =
+          let e = eqb-true t 17 c in
+          rw (other 20 1 (eqb-false t 20 a), other 19 1 (eqb-false t 19 b), other 22 8 (apart 17 22 (λ q. omega arith) e), or-false)
+          (sym (alone 17 6 e (rw (a, b, c)) (λ q. omega arith)))
+      go (failed a) (failed b) (failed c) (passed d) =
+          let e = eqb-true t 22 d in
+          rw (other 20 1 (eqb-false t 20 a), other 19 1 (eqb-false t 19 b), other 17 6 (eqb-false t 17 c))
+          (sym (alone 22 8 e (rw (a, b, c, d)) (λ q. omega arith)))
+      go (failed a) (failed b) (failed c) (failed d) =
+          rw (other 20 1 (eqb-false t 20 a), other 19 1 (eqb-false t 19 b), other 17 6 (eqb-false t 17 c), other 22 8 (eqb-false t 22 d), a, b, c, d)
+
+  pub slot-tag : slotComes bytes i ≡ cond (eqb (slotSize (getD bytes i 0)) 0) false (itemComes bytes i (getD bytes i 0) (slotSize (getD bytes i 0))) && ltb (getD bytes (i + 3) 0) 32
+  unfolding slotComes
+  slot-tag = ap (λ b. b && ltb (getD bytes (i + 3) 0) 32) by-tag
+
+pub slot-small : (tag : ℕ) → slotSize tag ≤ 16
+unfolding slotSize
+slot-small tag =
+    either (λ (n : ℕ). n ≤ 16) (eqb tag 20) (λ e. omega arith)
+    (λ e. either (λ (n : ℕ). n ≤ 16) (eqb tag 19) (λ f. omega arith)
+    (λ f. either (λ (n : ℕ). n ≤ 16) (eqb tag 17) (λ g. omega arith)
+    (λ g. either (λ (n : ℕ). n ≤ 16) (eqb tag 22) (λ h. omega arith) (λ h. omega arith))))
 
 -- A frame stands there, without a time or with one.
 pub record Framed (bytes : List ℕ) (i tag : ℕ) : Type 0 where
@@ -95,15 +150,19 @@ module _ (bytes : List ℕ) (i : ℕ) where
   slot : slotComes bytes i ≡ true → Slot bytes i
   unfolding slotComes isFrame
   slot e =
-      let both = and-both (itemComes bytes i 20 1 || itemComes bytes i 19 1 || itemComes bytes i 17 6) (ltb (getD bytes (i + 3) 0) 32) e in
+      let both = and-both (itemComes bytes i 20 1 || itemComes bytes i 19 1 || itemComes bytes i 17 6 || itemComes bytes i 22 8) (ltb (getD bytes (i + 3) 0) 32) e in
       let few = ltb-true (getD bytes (i + 3) 0) 32 (both .1) in
+      ⊎-elim
+      (λ s.
       ⊎-elim
       (λ t.
       ⊎-elim (λ u. let c = item u in slot-item few c (omega arith) refl (λ l. inl (c .starts, l)))
       (λ u. let c = item u in slot-item few c (omega arith) refl (λ l. inr (inl (c .starts, l))))
       (or-either (itemComes bytes i 20 1) (itemComes bytes i 19 1) t))
-      (λ t. let c = item t in slot-item few c (omega arith) refl (λ l. inr (inr (c .starts, l))))
-      (or-either (itemComes bytes i 20 1 || itemComes bytes i 19 1) (itemComes bytes i 17 6) (both .0))
+      (λ t. let c = item t in slot-item few c (omega arith) refl (λ l. inr (inr (inl (c .starts, l)))))
+      (or-either (itemComes bytes i 20 1 || itemComes bytes i 19 1) (itemComes bytes i 17 6) s))
+      (λ s. let c = item s in slot-item few c (omega arith) refl (λ l. inr (inr (inr (c .starts, l)))))
+      (or-either (itemComes bytes i 20 1 || itemComes bytes i 19 1 || itemComes bytes i 17 6) (itemComes bytes i 22 8) (both .0))
 
   module _ (rows : ℕ) {tag : ℕ} (e : comes rows bytes i ≡ true) (is : tag ≡ getD bytes i 0) where
     split : (sized rows ≡ true) × (Framed bytes i tag ⊎ (slotComes bytes i ≡ true))
@@ -136,4 +195,5 @@ module _ (bytes : List ℕ) (i : ℕ) where
       short : length (part (i + 3) (sizeAt bytes i) bytes) ≡ sizeAt bytes i → Known (getD bytes i 0) (part (i + 3) (sizeAt bytes i) bytes) → sizeAt bytes i ≤ 16
       short l (inl (e, n)) = omega arith
       short l (inr (inl (e, n))) = omega arith
-      short l (inr (inr (e, n))) = omega arith
+      short l (inr (inr (inl (e, n)))) = omega arith
+      short l (inr (inr (inr (e, n)))) = omega arith

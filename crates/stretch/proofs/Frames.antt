@@ -12,13 +12,14 @@ use lib.Dec.{eqb}
 use lib.ListN.{length, set, length-map}
 use lib.Seq.{take-all}
 use Rattle.values.specs.declared.Values.{Values}
-use Rattle.values.specs.Range.{low}
-use Rattle.values.proofs.Facts.{low-same}
+use Rattle.values.specs.Range.{inRange, low}
+use Rattle.values.proofs.Facts.{range-facts, low-edition-same}
+use Rattle.values.proofs.Names.{name-edition}
 use Rattle.ranking.specs.Standing.{Held}
 use Rattle.laws.proofs.Tests.{Tested, passed, failed, tested, clash, if-so}
 use Rattle.window.specs.declared.Window.{Window}
 use Rattle.window.specs.declared.Place.{Place}
-use Rattle.window.specs.Rows.{sized, standing, added, placeFor}
+use Rattle.window.specs.Rows.{sized, valuesAt, reportAt, standing, added, placeFor}
 use Rattle.window.proofs.Fitness.{size-range, added-taken}
 use Rattle.question.specs.declared.Question.{Question}
 use Rattle.question.specs.Lines.{inRows, rowsOf}
@@ -31,6 +32,7 @@ use Rattle.slot.proofs.Gauges.{idle-untouched}
 use Rattle.slot.proofs.Turns.{turn-still, rows-alone}
 use Rattle.board.specs.Work.{outgoing, turned, enterRefusal, enterWork, arrival}
 use Rattle.board.proofs.Refusals.{enterable}
+use Rattle.board.proofs.Filling.{asRow, row-report}
 use Rattle.times.specs.Run.{Timed, Stations, stationsAfter, timedAnswer}
 use Rattle.joining.specs.declared.Answer.{Answer}
 use Rattle.joining.specs.declared.Answer.the-variants.{Refused, Kept, Complete}
@@ -45,8 +47,12 @@ use Rattle.stretch.proofs.Turns.{Turning, searchLines}
 
 -- ---- a question's turn
 
+-- The report that was brought, and its values as its row has them.
 abbrev pub report : Brought → Held
-report b = record { number = b .number; values = low (b .values) }
+report b = reportAt (b .row)
+
+abbrev pub values : Brought → Values
+values b = valuesAt (b .row)
 
 -- What its entry leaves of a question.
 abbrev pub turn : Brought → Window → Question → Turned
@@ -54,20 +60,26 @@ turn b w q = one.turn q (report b) (b .gone) (inRows w)
 
 module _ (b : Brought) (w : Window) (q : Question) where
   -- A turn over the rows in use is one over all rows.
-  pub turned-is : (rows : ℕ) → standing (rowsOf (w .losses) (w .shakes) (w .numbers)) rows ≡ standing (rowsOf (w .losses) (w .shakes) (w .numbers)) 1024
-      → one.turn q (report b) (b .gone) (standing (rowsOf (w .losses) (w .shakes) (w .numbers)) rows) ≡ turn b w q
+  pub turned-is : (rows : ℕ) → standing (rowsOf (w .losses) (w .shakes) (w .names)) rows ≡ standing (rowsOf (w .losses) (w .shakes) (w .names)) 1024
+      → one.turn q (report b) (b .gone) (standing (rowsOf (w .losses) (w .shakes) (w .names)) rows) ≡ turn b w q
   unfolding inRows
   turned-is rows all = ap (one.turn q (report b) (b .gone)) (all ∙ rows-alone w 1024)
 
   -- A question that takes no report and loses none stays.
-  pub turn-stays : takes q (low (b .values)) || lists q (b .gone) ≡ false → record { searched = false; steps = 0; question = q } ≡ turn b w q
+  pub turn-stays : takes q (low (values b)) || lists q (b .gone) ≡ false → record { searched = false; steps = 0; question = q } ≡ turn b w q
   turn-stays e = sym (turn-still q (report b) (b .gone) (inRows w) e)
 
   -- A slot with no k and no lines takes no report, and lists none.
   pub turn-idle : isIdle q ≡ true → record { searched = false; steps = 0; question = q } ≡ turn b w q
-  turn-idle e = turn-stays (idle-untouched q (b .gone) (low (b .values)) e)
+  turn-idle e = turn-stays (idle-untouched q (b .gone) (low (values b)) e)
 
 -- ---- what a frame's answer brings
+
+-- The row of a report has its values, where they are permitted.
+row-values : (m : ℕ) (v : Values) → inRange v ≡ true → valuesAt (asRow m v) ≡ v
+row-values m v may =
+    let edition = name-edition m (v .edition) ∙ low-edition-same (v .edition) (range-facts v may .heat-fits) in
+    λ j. record { loss = v .loss; shake = v .shake; edition = edition j }
 
 module _ (log : Log) where
   abbrev w : Window
@@ -98,9 +110,10 @@ module _ (log : Log) where
   pub record Enters (a : Answer) : Type 0 where
     pub silent : gives a .refused ≡ false
     pub next : gives a .number ≡ w .counts .entered + 1
+    pub so : gives a .row ≡ asRow (w .counts .entered + 1) (values (gives a))
     pub oldest : gives a .gone ≡ outgoing w
-    pub free : enterRefusal (w .counts) (gives a .values) ≡ 0
-    pub is : answerItem log a ≡ enterItem log (gives a .values)
+    pub free : enterRefusal (w .counts) (values (gives a)) ≡ 0
+    pub is : answerItem log a ≡ enterItem log (values (gives a))
 
   pub brought-some : (a : Answer) → (gives a .number ≡ 0 → ⊥) → Enters a
   unfolding arrival
@@ -109,7 +122,18 @@ module _ (log : Log) where
   brought-some (Complete r) e = go (tested (eqb (enterRefusal (w .counts) (r .values)) 0)) e
     where
       go : Tested (eqb (enterRefusal (w .counts) (r .values)) 0) → (gives (Complete r) .number ≡ 0 → ⊥) → Enters (Complete r)
-      go (passed t) z = record { silent = rw t; next = rw t; oldest = rw t; free = eqb-true (enterRefusal (w .counts) (r .values)) 0 t; is = refl }
+      go (passed t) z =
+          let free = eqb-true (enterRefusal (w .counts) (r .values)) 0 t in
+          let row : gives (Complete r) .row ≡ asRow (w .counts .entered + 1) (r .values) = rw t in
+          let whole : values (gives (Complete r)) ≡ r .values = ap valuesAt row ∙ row-values (w .counts .entered + 1) (r .values) (enterable (w .counts) (r .values) free .permitted) in
+          record {
+            silent = rw t;
+            next = rw t;
+            so = row ∙ ap (asRow (w .counts .entered + 1)) (sym whole);
+            oldest = rw t;
+            free = ap (enterRefusal (w .counts)) whole ∙ free;
+            is = ap (enterItem log) (sym whole);
+          }
       go (failed t) z = absurd (z (rw t))
 
   pub enter-so : (v : Values) → enterRefusal (w .counts) v ≡ 0
@@ -118,20 +142,20 @@ module _ (log : Log) where
   enter-so v e = rw (eq-eqb (enterRefusal (w .counts) v) 0 e)
 
   -- When all slots have had their turn, the report has entered.
-  entered-done : (a : Answer) → (gives a .number ≡ 0 → ⊥) → {window : Window} {slots : List Question} {n at₀ at : ℕ} {out₀ out : List ℕ} → window ≡ added w (gives a .values)
+  entered-done : (a : Answer) → (gives a .number ≡ 0 → ⊥) → {window : Window} {slots : List Question} {n at₀ at : ℕ} {out₀ out : List ℕ} → window ≡ added w (values (gives a))
       → length (log .board .slots) ≤ n → Turning (turn (gives a) window) (log .items) (log .board .slots) out₀ at₀ n slots at out
       → answerItem log a ≡ record { text = cond (gives a .refused) (rLine (log .items) (gives a .code)) [] ++ searchLines (turn (gives a) window) (log .items) (log .board .slots) out₀ at₀ n; log = withBoard log (record { window = window; slots = slots }) }
   entered-done a positive {window} {slots} {n} {at₀} {at} {out₀} {out} grown all t =
       let old = log .board .slots in
       let b = gives a in
       let e = brought-some a positive in
-      let may = enterable (w .counts) (b .values) (e .free) in
-      let same = low-same (b .values) (may .permitted) in
+      let may = enterable (w .counts) (values b) (e .free) in
+      let new = ap reportAt (e .so) ∙ row-report (w .counts .entered + 1) (values b) (may .permitted) in
       let f = turn b window in
-      let slots-are = filled-all (λ q. f q .question) old n slots all (t .first) ∙ (λ i. map (λ q. one.turn q (record { number = e .next i; values = same i }) (e .oldest i) (inRows (grown i)) .question) old) in
-      let again-are = take-all n (map (λ q. f q .searched) old) (omega (arith, length-map old (λ q. f q .searched))) ∙ (λ i. map (λ q. one.turn q (record { number = e .next i; values = same i }) (e .oldest i) (inRows (grown i)) .searched) old) in
-      let steps-are = take-all n (map (λ q. f q .steps) old) (omega (arith, length-map old (λ q. f q .steps))) ∙ (λ i. map (λ q. one.turn q (record { number = e .next i; values = same i }) (e .oldest i) (inRows (grown i)) .steps) old) in
-      e .is ∙ enter-so (b .values) (e .free)
+      let slots-are = filled-all (λ q. f q .question) old n slots all (t .first) ∙ (λ i. map (λ q. one.turn q (new i) (e .oldest i) (inRows (grown i)) .question) old) in
+      let again-are = take-all n (map (λ q. f q .searched) old) (omega (arith, length-map old (λ q. f q .searched))) ∙ (λ i. map (λ q. one.turn q (new i) (e .oldest i) (inRows (grown i)) .searched) old) in
+      let steps-are = take-all n (map (λ q. f q .steps) old) (omega (arith, length-map old (λ q. f q .steps))) ∙ (λ i. map (λ q. one.turn q (new i) (e .oldest i) (inRows (grown i)) .steps) old) in
+      e .is ∙ enter-so (values b) (e .free)
       ∙ sym (λ i. record { text = cond (e .silent i) (rLine (log .items) (b .code)) [] ++ sLines (log .items) 0 (again-are i) (steps-are i); log = withBoard log (record { window = grown i; slots = slots-are i }) })
 
 -- ---- a whole frame
@@ -180,21 +204,22 @@ module _ (log : Log) (window : sized (log .board .window .counts .size) ≡ true
 
     -- The report's row takes it.
     pub row-takes : {p : Place} → p ≡ placeFor (log .board .window .counts)
-        → record { losses = set (log .board .window .losses) (p .row) (b .values .loss); shakes = set (log .board .window .shakes) (p .row) (b .values .shake); numbers = set (log .board .window .numbers) (p .row) (b .number); counts = record { size = log .board .window .counts .size; entered = b .number; held = p .held } } ≡ added (log .board .window) (b .values)
+        → record { losses = set (log .board .window .losses) (p .row) (b .row .loss); shakes = set (log .board .window .shakes) (p .row) (b .row .shake); names = set (log .board .window .names) (p .row) (b .row .name); counts = record { size = log .board .window .counts .size; entered = b .number; held = p .held } } ≡ added (log .board .window) (values b)
     unfolding placeFor
     row-takes placed =
         let w = log .board .window in
-        let may = enterable (w .counts) (gives log answer .values) (enters .free) in
+        let may = enterable (w .counts) (values (gives log answer)) (enters .free) in
         let number = ap (λ (h : Brought). h .number) e ∙ enters .next in
+        let row = subst (λ (h : Brought). h .row ≡ asRow (w .counts .entered + 1) (values h)) (sym e) (enters .so) in
         let place = placed ∙ if-so _ _ window in
-        (λ j. record { losses = set (w .losses) (place j .row) (b .values .loss); shakes = set (w .shakes) (place j .row) (b .values .shake); numbers = set (w .numbers) (place j .row) (number j); counts = record { size = w .counts .size; entered = number j; held = place j .held } })
-        ∙ sym (added-taken w (b .values) window (may .room))
+        (λ j. record { losses = set (w .losses) (place j .row) (b .row .loss); shakes = set (w .shakes) (place j .row) (b .row .shake); names = set (w .names) (place j .row) (row j .name); counts = record { size = w .counts .size; entered = number j; held = place j .held } })
+        ∙ sym (added-taken w (values b) window (may .room))
 
-    pub frame-enters : {new : Window} {slots : List Question} {n at₀ at : ℕ} {out₀ out : List ℕ} → new ≡ added (log .board .window) (b .values)
+    pub frame-enters : {new : Window} {slots : List Question} {n at₀ at : ℕ} {out₀ out : List ℕ} → new ≡ added (log .board .window) (values b)
         → length (log .board .slots) ≤ n → Turning (turn b new) item (log .board .slots) out₀ at₀ n slots at out
         → itemDone log tag v ≡ record { text = cond (b .refused) (rLine item (b .code)) [] ++ searchLines (turn b new) item (log .board .slots) out₀ at₀ n; log = record { items = item; board = record { window = new; slots = slots }; sessions = left .sessions; times = left .times } }
     frame-enters {new} {slots} {n} {at₀} {at} {out₀} {out} grown all t =
         frame-done
-        ∙ subst (λ (g : Brought). (g .number ≡ 0 → ⊥) → new ≡ added (log .board .window) (g .values) → Turning (turn g new) item (log .board .slots) out₀ at₀ n slots at out
+        ∙ subst (λ (g : Brought). (g .number ≡ 0 → ⊥) → new ≡ added (log .board .window) (values g) → Turning (turn g new) item (log .board .slots) out₀ at₀ n slots at out
         → answerItem after answer ≡ record { text = cond (g .refused) (rLine item (g .code)) [] ++ searchLines (turn g new) item (log .board .slots) out₀ at₀ n; log = record { items = item; board = record { window = new; slots = slots }; sessions = left .sessions; times = left .times } })
         (sym e) (λ m g u. entered-done after answer m g all u) positive grown t

@@ -10,6 +10,7 @@ use lib.Seq.{sets, length-sets}
 use Rattle.wire.specs.Bytes.{part}
 use Rattle.wire.proofs.Fields.{length-part}
 use Rattle.laws.proofs.Tests.{and-both}
+use Rattle.values.specs.declared.Values.{Values}
 use Rattle.values.specs.Range.{low}
 use Rattle.window.specs.declared.Window.{Window}
 use Rattle.window.specs.declared.Place.{Place}
@@ -20,7 +21,7 @@ use Rattle.slot.specs.declared.gauge.Gauge.{Gauge}
 use Rattle.slot.specs.Gauges.{noQuestion, gaugeOf, isQuiet, isIdle, inUse}
 use Rattle.slot.specs.Turn as one
 use Rattle.slot.proofs.Gauges.{quiet-untouched}
-use Rattle.bus.specs.Room.{sessionsIn}
+use Rattle.bus.specs.Room.{roomBytes, sessionsIn}
 use Rattle.joining.specs.declared.Answer.{Answer}
 use Rattle.times.specs.Run.{Stations, stationsIn, stationsAfter, timedAnswer}
 use Rattle.times.proofs.Lent.{next-room}
@@ -37,7 +38,7 @@ use Rattle.stretch.specs.Inner.{brought, Stored, windowOf, isFrame, fram
 use Rattle.stretch.specs.Doing.{Did, itemAt}
 use Rattle.stretch.proofs.Coming.{Framed, Slot, has-window, a-frame, for-slot, whole-there}
 use Rattle.serving.proofs.Serving.{slot-here}
-use Rattle.stretch.proofs.Frames.{report, turn, turned-is, turn-stays, turn-idle, frame-is, frame-none, row-fits, row-takes, frame-enters}
+use Rattle.stretch.proofs.Frames.{report, values, turn, turned-is, turn-stays, turn-idle, frame-is, frame-none, row-fits, row-takes, frame-enters}
 use Rattle.stretch.proofs.Turns.{Turning, turning-none, turning-more, turning-still, turning-rest, still-old}
 use Rattle.stretch.proofs.Gauging.{Gauged, gauged-of, gauge-at, gauges-set}
 use Rattle.stretch.proofs.Rowing.{Rowed, rowed-with, rowed-all}
@@ -65,10 +66,10 @@ pub record Turns (b : Brought) (w : Window) (items rows : ℕ) (slots₀ : List 
   pub same : length out ≡ length out₀
   pub turning : Turning (turn b w) items slots₀ out₀ at₀ n slots at out
   pub each : gauges ≡ map gaugeOf slots
-  pub rowed : Rowed (w .numbers) rows
+  pub rowed : Rowed (w .names) rows
 
 module _ {b : Brought} {w : Window} {items rows : ℕ} {slots₀ : List Question} {used : ℕ} {out₀ : List ℕ} {at₀ : ℕ} where
-  pub turns-none : {gauges₀ : List Gauge} → Gauged slots₀ gauges₀ used → length slots₀ ≡ 32 → length out₀ < 2 ^ 64 → at₀ < 2 ^ 64 → Rowed (w .numbers) rows → Turns b w items rows slots₀ used out₀ at₀ 0 slots₀ gauges₀ at₀ out₀
+  pub turns-none : {gauges₀ : List Gauge} → Gauged slots₀ gauges₀ used → length slots₀ ≡ 32 → length out₀ < 2 ^ 64 → at₀ < 2 ^ 64 → Rowed (w .names) rows → Turns b w items rows slots₀ used out₀ at₀ 0 slots₀ gauges₀ at₀ out₀
   turns-none g many small fits rowed =
       record { within = omega arith; few = g .few; small = small; all-slots = many; same = refl; turning = turning-none (turn b w) items slots₀ out₀ at₀ fits; each = g .each; rowed = rowed }
 
@@ -77,27 +78,27 @@ module _ {b : Brought} {w : Window} {items rows : ℕ} {slots₀ : List Question
     below = omega (arith, t .few, t .all-slots)
 
     -- A slot that the report leaves alone.
-    pub turns-quiet : (d : Gauge) {r : Bool} → r ≡ isQuiet (getD gauges n d) (b .gone) (low (b .values)) → r ≡ true → Turns b w items rows slots₀ used out₀ at₀ (n + 1) slots gauges at out
-    turns-quiet d e q =
+    pub turns-quiet : (d : Gauge) {v : Values} {r : Bool} → v ≡ values b → r ≡ isQuiet (getD gauges n d) (b .gone) (low v) → r ≡ true → Turns b w items rows slots₀ used out₀ at₀ (n + 1) slots gauges at out
+    turns-quiet d {v} e-v e q =
         let is = gauge-at slots n d (t .each) (omega (arith, t .turning .first .whole, below)) in
-        let quiet = ap (λ g. isQuiet g (b .gone) (low (b .values))) (sym is) ∙ sym e ∙ q in
+        let quiet = (λ j. isQuiet (sym is j) (b .gone) (low (sym e-v j))) ∙ sym e ∙ q in
         record {
           within = omega arith;
           few = t .few;
           small = t .small;
           all-slots = t .all-slots;
           same = t .same;
-          turning = turning-still (turn b w) items slots₀ out₀ at₀ (t .turning) below (t .small) (place-fits (t .turning .printed)) (turn-stays b w (getD slots n noQuestion) (quiet-untouched (getD slots n noQuestion) (b .gone) (low (b .values)) quiet));
+          turning = turning-still (turn b w) items slots₀ out₀ at₀ (t .turning) below (t .small) (place-fits (t .turning .printed)) (turn-stays b w (getD slots n noQuestion) (quiet-untouched (getD slots n noQuestion) (b .gone) (low (values b)) quiet));
           each = t .each;
           rowed = t .rowed;
         }
 
     -- A slot that has its turn.
-    pub turns-more : {r : Turned} {g : Gauge} {at₁ : ℕ} {out₁ : List ℕ} → r ≡ one.turn (getD slots n noQuestion) (report b) (b .gone) (standing (rowsOf (w .losses) (w .shakes) (w .numbers)) (min rows 1024))
+    pub turns-more : {r : Turned} {g : Gauge} {at₁ : ℕ} {out₁ : List ℕ} → r ≡ one.turn (getD slots n noQuestion) (report b) (b .gone) (standing (rowsOf (w .losses) (w .shakes) (w .names)) (min rows 1024))
         → (at₁ ≡ behind at (cond (r .searched) (sLine items n (r .steps)) [])) × (out₁ ≡ sets out at (cond (r .searched) (sLine items n (r .steps)) [])) → g ≡ gaugeOf (r .question)
         → Turns b w items rows slots₀ used out₀ at₀ (n + 1) (set slots n (r .question)) (set gauges n g) at₁ out₁
     turns-more {r} e p f =
-        let is = e ∙ turned-is b w (getD slots n noQuestion) (min rows 1024) (rowed-all (rowsOf (w .losses) (w .shakes) (w .numbers)) (t .rowed)) in
+        let is = e ∙ turned-is b w (getD slots n noQuestion) (min rows 1024) (rowed-all (rowsOf (w .losses) (w .shakes) (w .names)) (t .rowed)) in
         record {
           within = omega arith;
           few = t .few;
@@ -116,11 +117,11 @@ module _ (log₀ : Log) (bytes out₀ : List ℕ) (at₀ : ℕ) where
   pub record Stands (items : ℕ) (w : Window) (rows : ℕ) (slots : List Question) (gauges : List Gauge) (used : ℕ) (bus : List ℕ) (known : List Bool) (lasts : List ℕ) (i at : ℕ) (out : List ℕ) : Type 0 where
     pub inside : i ≤ length bytes
     pub same : length out ≡ length out₀
-    pub room : length bus ≡ 22098
+    pub room : length bus ≡ roomBytes
     pub all-slots : length slots ≡ 32
     pub went : Went log₀ bytes out₀ at₀ i (logOf items w slots (stationsIn bus known lasts)) at out
     pub gauged : Gauged slots gauges used
-    pub rowed : Rowed (w .numbers) rows
+    pub rowed : Rowed (w .names) rows
 
   module _ (small : length out₀ < 2 ^ 64) {items : ℕ} {w : Window} {rows : ℕ} {slots : List Question} {gauges : List Gauge} {used : ℕ} {bus : List ℕ} {known : List Bool} {lasts : List ℕ} {i at : ℕ} {out : List ℕ}
       (l : Stands items w rows slots gauges used bus known lasts i at out) {go : Bool} (e-go : go ≡ (comes (w .counts .size) bytes i && hasRoom (length out) at)) (goes : go ≡ true)
@@ -142,7 +143,7 @@ module _ (log₀ : Log) (bytes out₀ : List ℕ) (at₀ : ℕ) where
 
     -- An item for a slot.
     pub stands-slot : isFrame tag ≡ false → {v : List ℕ} {s : ℕ} {q : Question} {g : Gauge} {used₁ at₁ i₁ : ℕ} {out₁ : List ℕ} → v ≡ part (i + 3) (sizeAt bytes i) bytes → s ≡ getD v 0 0
-        → Serves (served tag items₁ v (getD slots s noQuestion) (standing (rowsOf (w .losses) (w .shakes) (w .numbers)) 1024)) out at q at₁ out₁ → g ≡ gaugeOf q → used₁ ≡ inUse 32 (set slots s q) → i₁ ≡ i + (3 + length v)
+        → Serves (served tag items₁ v (getD slots s noQuestion) (standing (rowsOf (w .losses) (w .shakes) (w .names)) 1024)) out at q at₁ out₁ → g ≡ gaugeOf q → used₁ ≡ inUse 32 (set slots s q) → i₁ ≡ i + (3 + length v)
         → Stands items₁ w rows (set slots s q) (set gauges s g) used₁ bus known lasts i₁ at₁ out₁
     stands-slot other {v} {s} {q} {g} {used₁} {at₁} {i₁} e-v e-s d e-g e-used e-i =
         let c = slot-there other in
@@ -171,7 +172,7 @@ module _ (log₀ : Log) (bytes out₀ : List ℕ) (at₀ : ℕ) where
       brings : b ≡ brought (timedAnswer (stationsIn bus known lasts) (frameOf tag v)) (w .counts)
       brings = heard .brings ∙ ap (λ (a : Answer). brought a (w .counts)) (heard .takes .answers)
 
-      left-room : length bus₁ ≡ 22098
+      left-room : length bus₁ ≡ roomBytes
       left-room = ap (λ (x : List ℕ). length x) (heard .takes .sessions) ∙ next-room bus (record { known = known; at = lasts }) (frameOf tag v) (l .room) .0
 
       left : stationsIn bus₁ known₁ lasts₁ ≡ stationsAfter (stationsIn bus known lasts) (frameOf tag v)
@@ -201,12 +202,12 @@ module _ (log₀ : Log) (bytes out₀ : List ℕ) (at₀ : ℕ) where
       row-there e = row-fits w window e
 
       -- A report enters: the slots have their turns.
-      pub turns-begin : {r : Place} → r ≡ placeFor (w .counts) → {losses shakes numbers : List ℕ} {rows₁ : ℕ} → Stored (w .losses) (w .shakes) (w .numbers) rows (r .row) b rows₁ losses shakes numbers
+      pub turns-begin : {r : Place} → r ≡ placeFor (w .counts) → {losses shakes names : List ℕ} {rows₁ : ℕ} → Stored (w .losses) (w .shakes) (w .names) rows (r .row) (b .row) rows₁ losses shakes names
           → {at₁ : ℕ} {out₁ : List ℕ} → (at₁ ≡ behind at (cond (b .refused) (rLine items₁ (b .code)) [])) × (out₁ ≡ sets out at (cond (b .refused) (rLine items₁ (b .code)) []))
-          → Turns b (windowOf (record { size = w .counts .size; entered = b .number; held = r .held }) losses shakes numbers) items₁ rows₁ slots used out₁ at₁ 0 slots gauges at₁ out₁
+          → Turns b (windowOf (record { size = w .counts .size; entered = b .number; held = r .held }) losses shakes names) items₁ rows₁ slots used out₁ at₁ 0 slots gauges at₁ out₁
       turns-begin {r} e-r {rows₁ = rows₁} st p =
           turns-none (l .gauged) (l .all-slots) (omega (arith, kept (put p), l .same, small)) (place-fits (put p))
-          (subst (λ (ns : List ℕ). Rowed ns rows₁) (sym (st .numbers)) (rowed-with (l .rowed) (r .row) (b .number) (row-there e-r) (st .used)))
+          (subst (λ (ns : List ℕ). Rowed ns rows₁) (sym (st .names)) (rowed-with (l .rowed) (r .row) (b .row .name) (row-there e-r) (st .used)))
 
       -- It brings no report.
       pub stands-none : b .number ≡ 0 → {at₁ i₁ : ℕ} {out₁ : List ℕ} → (at₁ ≡ behind at (cond (b .refused) (rLine items₁ (b .code)) [])) × (out₁ ≡ sets out at (cond (b .refused) (rLine items₁ (b .code)) [])) → i₁ ≡ i + (3 + frameSize tag)
@@ -223,14 +224,14 @@ module _ (log₀ : Log) (bytes out₀ : List ℕ) (at₀ : ℕ) where
           }
 
       -- A report enters, and the slots in use have had their turns.
-      pub stands-enters : (b .number ≡ 0 → ⊥) → {r : Place} → r ≡ placeFor (w .counts) → {losses shakes numbers : List ℕ} {rows₁ : ℕ} → Stored (w .losses) (w .shakes) (w .numbers) rows (r .row) b rows₁ losses shakes numbers
+      pub stands-enters : (b .number ≡ 0 → ⊥) → {r : Place} → r ≡ placeFor (w .counts) → {losses shakes names : List ℕ} {rows₁ : ℕ} → Stored (w .losses) (w .shakes) (w .names) rows (r .row) (b .row) rows₁ losses shakes names
           → {at₁ i₁ : ℕ} {out₁ : List ℕ} → (at₁ ≡ behind at (cond (b .refused) (rLine items₁ (b .code)) [])) × (out₁ ≡ sets out at (cond (b .refused) (rLine items₁ (b .code)) [])) → i₁ ≡ i + (3 + frameSize tag)
-          → {n at₂ : ℕ} {slots₂ : List Question} {gauges₂ : List Gauge} {out₂ : List ℕ} → Turns b (windowOf (record { size = w .counts .size; entered = b .number; held = r .held }) losses shakes numbers) items₁ rows₁ slots used out₁ at₁ n slots₂ gauges₂ at₂ out₂ → used ≤ n
-          → Stands items₁ (windowOf (record { size = w .counts .size; entered = b .number; held = r .held }) losses shakes numbers) rows₁ slots₂ gauges₂ used bus₁ known₁ lasts₁ i₁ at₂ out₂
-      stands-enters positive {r} e-r {losses} {shakes} {numbers} {rows₁} st {at₁} {i₁} {out₁} p e-i {n} {at₂} {slots₂} {gauges₂} {out₂} m end-of =
-          let new : Window = windowOf (record { size = w .counts .size; entered = b .number; held = r .held }) losses shakes numbers in
-          let grown : new ≡ added w (b .values) =
-          (λ j. record { losses = st .losses j; shakes = st .shakes j; numbers = st .numbers j; counts = record { size = w .counts .size; entered = b .number; held = r .held } })
+          → {n at₂ : ℕ} {slots₂ : List Question} {gauges₂ : List Gauge} {out₂ : List ℕ} → Turns b (windowOf (record { size = w .counts .size; entered = b .number; held = r .held }) losses shakes names) items₁ rows₁ slots used out₁ at₁ n slots₂ gauges₂ at₂ out₂ → used ≤ n
+          → Stands items₁ (windowOf (record { size = w .counts .size; entered = b .number; held = r .held }) losses shakes names) rows₁ slots₂ gauges₂ used bus₁ known₁ lasts₁ i₁ at₂ out₂
+      stands-enters positive {r} e-r {losses} {shakes} {names} {rows₁} st {at₁} {i₁} {out₁} p e-i {n} {at₂} {slots₂} {gauges₂} {out₂} m end-of =
+          let new : Window = windowOf (record { size = w .counts .size; entered = b .number; held = r .held }) losses shakes names in
+          let grown : new ≡ added w (values b) =
+          (λ j. record { losses = st .losses j; shakes = st .shakes j; names = st .names j; counts = record { size = w .counts .size; entered = b .number; held = r .held } })
           ∙ row-takes log window tag v (frameOf tag v) done e-items left brings positive e-r in
           let idle : (k : ℕ) → n ≤ k → k < length slots → record { searched = false; steps = 0; question = getD slots k noQuestion } ≡ turn b new (getD slots k noQuestion) =
           λ k h f. turn-idle b new (getD slots k noQuestion) (l .gauged .idle k (omega (arith, m .within)) (omega (arith, l .all-slots))) in

@@ -15,6 +15,7 @@ use Rattle.window.specs.declared.Counts.{Counts}
 use Rattle.joining.specs.declared.Answer.{Answer}
 use Rattle.joining.specs.declared.Answer.the-variants.{Refused}
 use Rattle.joining.specs.Frame.{Frame, senderOf}
+use Rattle.bus.specs.Room.{roomBytes}
 use Rattle.times.specs.declared.Met.{Met}
 use Rattle.times.specs.declared.Times.{Times}
 use Rattle.times.specs.Timed.{isKept, putLast}
@@ -24,7 +25,7 @@ use Rattle.journal.specs.Log.{frameIn, timedIn}
 use Rattle.stretch.specs.declared.Brought.{Brought}
 use Rattle.stretch.specs.declared.Begun.{Begun}
 use Rattle.stretch.proofs.Parts.{drop-take}
-use Rattle.stretch.specs.Inner.{frameSize, frameOf, timesBy, Hears, Begins, HearsAt}
+use Rattle.stretch.specs.Inner.{notBrought, frameSize, frameOf, timesBy, Hears, Begins, HearsAt}
 
 pub sixteen : {tag : ℕ} → tag ≡ 21 → frameSize tag ≡ 16
 unfolding frameSize
@@ -78,7 +79,7 @@ module _ (room : List ℕ) (known : List Bool) (at : List ℕ) (i : ℕ) (bytes 
   met-as m = record { place = i + 4; refusal = m .refusal; timed = i + 4; known = m .last .known; at = m .last .at }
 
   module _ {m : Met} {q : List ℕ} {ks : List Bool} {ts : List ℕ} where
-    pub timed-begins : {tag : ℕ} → tag ≡ 21 → length room ≡ 22098 → (v : List ℕ) → v ≡ part (i + 3) 16 bytes → Meets lent (number (part 0 4 v)) (number (part 4 4 v)) (part 8 8 v) m q ks ts
+    pub timed-begins : {tag : ℕ} → tag ≡ 21 → length room ≡ roomBytes → (v : List ℕ) → v ≡ part (i + 3) 16 bytes → Meets lent (number (part 0 4 v)) (number (part 4 4 v)) (part 8 8 v) m q ks ts
         → Begins lent (frameOf tag (part (i + 3) (frameSize tag) bytes)) (i + (3 + frameSize tag)) last (met-as m) q ks ts
     timed-begins {tag} e long v e-v met =
         subst (λ (f : Timed). Begins lent f (i + (3 + frameSize tag)) last (met-as m) q ks ts) (ap timedIn e-v ∙ timed-there e i bytes)
@@ -99,7 +100,7 @@ module _ (room : List ℕ) (known : List Bool) (at : List ℕ) (i : ℕ) (bytes 
 -- ---- and then
 
 module _ {b : Stations} {f : Timed} {end : ℕ} {last g : Begun} {room : List ℕ} {known : List Bool} {at : List ℕ} (begins : Begins b f end last g room known at) {c : Counts} where
-  pub hears-stopped : (g .refusal ≡ 0 → ⊥) → Hears b f c (record { refused = true; code = g .refusal; number = 0; gone = 0; values = record { loss = 0; shake = 0 } }) room known at
+  pub hears-stopped : (g .refusal ≡ 0 → ⊥) → Hears b f c (notBrought true (g .refusal)) room known at
   hears-stopped n = record { answer = Refused (g .refusal); takes = begins .stops n; brings = refl }
 
   pub hears-then : g .refusal ≡ 0 → {h : Frame} {r : Brought} {room₁ : List ℕ} {known₁ : List Bool} {at₁ : List ℕ} → h ≡ f .frame → HearsAt (stationsIn room known at) g h c r room₁ known₁ at₁ → Hears b f c r room₁ known₁ at₁

@@ -8,6 +8,7 @@ use lib.ListN.{set, length}
 use lib.Seq.{sets}
 use lib.Dec.{leb, eqb}
 use Rattle.window.specs.declared.Counts.{Counts}
+use Rattle.window.specs.declared.Row.{Row}
 use Rattle.window.specs.declared.Window.{Window}
 use Rattle.slot.specs.Gauges.{upToLast}
 use Rattle.board.specs.Work.{arrival}
@@ -27,32 +28,42 @@ use Rattle.stretch.specs.declared.Begun.{Begun}
 use Rattle.stretch.specs.declared.Standing.{Standing}
 use Rattle.stretch.specs.Doing.{didAll}
 
--- How many of the first n rows there are up to the last one that holds a report.
+-- How many of the first n rows there are up to the last one with a name.
 abbrev pub rowsUsed : ℕ → List ℕ → ℕ
-rowsUsed n numbers = upToLast (λ k. eqb k 0) 0 n numbers
+rowsUsed n names = upToLast (λ k. eqb k 0) 0 n names
 
 -- The rows, and that one.
 abbrev pub withRow : (rows row : ℕ) → ℕ
 withRow rows row = cond (leb rows row) (row + 1) rows
 
 -- A report is stored in its row, and so many rows are in use then.
-pub record Stored (losses₀ shakes₀ numbers₀ : List ℕ) (rows row : ℕ) (b : Brought) (n : ℕ) (losses₁ shakes₁ numbers₁ : List ℕ) : Type 0 where
+pub record Stored (losses₀ shakes₀ names₀ : List ℕ) (rows row : ℕ) (report : Row) (n : ℕ) (losses₁ shakes₁ names₁ : List ℕ) : Type 0 where
   pub used : n ≡ withRow rows row
-  pub losses : losses₁ ≡ set losses₀ row (b .values .loss)
-  pub shakes : shakes₁ ≡ set shakes₀ row (b .values .shake)
-  pub numbers : numbers₁ ≡ set numbers₀ row (b .number)
+  pub losses : losses₁ ≡ set losses₀ row (report .loss)
+  pub shakes : shakes₁ ≡ set shakes₀ row (report .shake)
+  pub names : names₁ ≡ set names₀ row (report .name)
+
+-- No report, and the line of a refusal or none.
+abbrev pub notBrought : Bool → ℕ → Brought
+notBrought refused code = record { refused = refused; code = code; number = 0; gone = 0; row = record { loss = 0; shake = 0; name = 0 } }
 
 -- What a frame's answer brings to a window: the line of a refusal, or a report that enters.
 abbrev pub brought : Answer → Counts → Brought
-brought (Refused n) c = record { refused = true; code = n; number = 0; gone = 0; values = record { loss = 0; shake = 0 } }
-brought Kept c = record { refused = false; code = 0; number = 0; gone = 0; values = record { loss = 0; shake = 0 } }
+brought (Refused n) c = notBrought true n
+brought Kept c = notBrought false 0
 brought (Complete r) c =
     let a = arrival c (r .values) in
-    record { refused = not (eqb (a .refusal) 0); code = a .refusal; number = a .number; gone = a .oldest; values = r .values }
+    record {
+      refused = not (eqb (a .refusal) 0);
+      code = a .refusal;
+      number = a .number;
+      gone = a .oldest;
+      row = record { loss = r .values .loss; shake = r .values .shake; name = a .name };
+    }
 
 -- The window of these counts and rows.
-abbrev pub windowOf : Counts → (losses shakes numbers : List ℕ) → Window
-windowOf c losses shakes numbers = record { losses = losses; shakes = shakes; numbers = numbers; counts = c }
+abbrev pub windowOf : Counts → (losses shakes names : List ℕ) → Window
+windowOf c losses shakes names = record { losses = losses; shakes = shakes; names = names; counts = c }
 
 -- A tag is a frame's; the length of such an item's value, and the frame in it.
 unfoldable pub isFrame : ℕ → Bool
@@ -60,6 +71,10 @@ isFrame tag = eqb tag 18 || eqb tag 21
 
 unfoldable pub frameSize : ℕ → ℕ
 frameSize tag = cond (eqb tag 21) 16 12
+
+-- The length of an item for a slot; 0 where a tag is no such item's.
+unfoldable pub slotSize : ℕ → ℕ
+slotSize tag = cond (eqb tag 20) 1 (cond (eqb tag 19) 1 (cond (eqb tag 17) 6 (cond (eqb tag 22) 8 0)))
 
 unfoldable pub frameOf : ℕ → List ℕ → Timed
 frameOf tag v = cond (eqb tag 21) (timedIn v) (frameIn v)

@@ -3,20 +3,17 @@
 ghost use mathlib.Core.Path.{_≡_};
 ghost use mathlib.Core.Bool.{true, cond, _&&_};
 ghost use mathlib.Core.List.{[]};
-ghost use Prim.Native.Nat.{_+_, _≤_, _<_, min};
+ghost use Prim.Native.Nat.{_+_, _≤_, _<_};
 ghost use lib.ListN.{length};
 ghost use lib.Seq.{sets};
 ghost use Rattle.wire.specs.Bytes.{number, part};
 ghost use Rattle.text.specs.Text.{behind, rLine};
 ghost use Rattle.bus.specs.Room.{roomBytes};
 ghost use Rattle.times.specs.Run.{stationsIn, Meets};
-ghost use Rattle.values.specs.Range.{low};
-ghost use Rattle.slot.specs.Turn.{turn};
-ghost use Rattle.window.specs.Rows.{rowCount, standing};
-ghost use Rattle.question.specs.Lines.{rowsOf};
+ghost use Rattle.window.specs.Rows.{rowCount};
 ghost use Rattle.journal.specs.Log.{frameIn};
 ghost use Rattle.stretch.specs.Coming.{sizeAt, itemComes, frameComes, slotComes, comes, hasRoom};
-ghost use Rattle.stretch.specs.Inner.{rowsUsed, Stored, brought, windowOf, isFrame, frameSize, frameOf, putBack, timesBy, Begins, HearsAt, logIn, Runs};
+ghost use Rattle.stretch.specs.Inner.{rowsUsed, Stored, notBrought, brought, windowOf, isFrame, frameSize, slotSize, frameOf, putBack, timesBy, Begins, HearsAt, logIn, Runs};
 ghost use Rattle.stretch.specs.Doing.{Does};
 use board::Arrival;
 use board::Board;
@@ -26,13 +23,12 @@ use joining::Answer;
 use journal::Log;
 use question::Question;
 use slot::Gauge;
-use slot::Turned;
 use times::Last;
 use times::Met;
 use times::Times;
-use values::Values;
 use window::Counts;
 use window::Place;
+use window::Row;
 use window::Window;
 use wire::Field;
 
@@ -43,14 +39,14 @@ pub struct Stretch {
     pub at: usize,
 }
 
-// What a frame brought: the line of a refusal, or a report with its number, and the number of the report that is gone then, 0 for
-// none.
+// What a frame brought: the line of a refusal, or a report with its number and as its row has it, and the number of the report that
+// is gone then, 0 for none.
 struct Brought {
     refused: bool,
     code: u8,
     number: u32,
     gone: u32,
-    values: Values,
+    row: Row,
 }
 
 // The place of a frame, 3 bytes before its identifier, and what its time refuses before it is taken, 0 for nothing. Beside it, of the last
@@ -146,8 +142,8 @@ fn run(
     let mut counts = window.counts;
     let mut losses = window.losses;
     let mut shakes = window.shakes;
-    let mut numbers = window.numbers;
-    let mut rows = rows_in(&numbers);
+    let mut names = window.names;
+    let mut rows = rows_in(&names);
     let mut slots = board.slots;
     let mut gauges = Gauge::of_slots(slots);
     let mut used = Gauge::in_use(slots);
@@ -166,7 +162,7 @@ fn run(
             let value = value_at(bytes, i);
             let s = wire::byte(value, 0) as usize;
             let held = slots[s];
-            let slot = serving::serve(tag, items, value, held, &losses, &shakes, &numbers, out, at);
+            let slot = serving::serve(tag, items, value, held, &losses, &shakes, &names, out, at);
             let left = slot.question;
             slots[s] = left;
             gauges[s] = Gauge::of(left);
@@ -191,21 +187,37 @@ fn run(
         let place = Window::place(counts);
         counts.entered = brought.number;
         counts.held = place.held;
-        rows = put_row(&mut losses, &mut shakes, &mut numbers, rows, place, brought);
+        rows = put_row(
+            &mut losses,
+            &mut shakes,
+            &mut names,
+            rows,
+            place,
+            brought.row,
+        );
+        let values = brought.row.values();
         for slot in 0..used {
             let gauge = gauges[slot];
-            if gauge.quiet(brought.gone, brought.values) {
+            if gauge.quiet(brought.gone, values) {
                 continue;
             }
             let held = slots[slot];
-            let turned = turn_of(held, brought, &losses, &shakes, &numbers, rows);
+            let turned = slot::turn(
+                held,
+                brought.row,
+                brought.gone,
+                &losses,
+                &shakes,
+                &names,
+                rows,
+            );
             at = journal::put_search(out, at, items, slot as u8, turned.searched, turned.steps);
             let left = turned.question;
             slots[slot] = left;
             gauges[slot] = Gauge::of(left);
         }
     }
-    end_of_run(items, counts, losses, shakes, numbers, slots, i, at)
+    end_of_run(items, counts, losses, shakes, names, slots, i, at)
 }
 
 // Where the items end: the window with these counts and rows, and the slots.
@@ -214,12 +226,12 @@ fn end_of_run(
     counts: Counts,
     losses: [u16; Window::ROWS],
     shakes: [u16; Window::ROWS],
-    numbers: [u32; Window::ROWS],
+    names: [u32; Window::ROWS],
     slots: [Question; Gauge::SLOTS],
     taken: usize,
     at: usize,
 ) -> Standing
-    ensures { λ r. ⌜ r ≡ record { items = items; board = record { window = windowOf counts losses shakes numbers; slots = slots }; taken = taken; at = at } ⌝ }
+    ensures { λ r. ⌜ r ≡ record { items = items; board = record { window = windowOf counts losses shakes names; slots = slots }; taken = taken; at = at } ⌝ }
 {
     Standing {
         items,
@@ -227,7 +239,7 @@ fn end_of_run(
             window: Window {
                 losses,
                 shakes,
-                numbers,
+                names,
                 counts,
             },
             slots,
@@ -298,13 +310,32 @@ fn slot_comes(bytes: &[u8], i: usize) -> bool
     if Board::SLOTS <= wire::byte(bytes, i + Field::HEAD) {
         return false;
     }
-    if item_comes(bytes, i, Item::SHOW, Item::SHOW_SIZE) {
-        return true;
+    let tag = wire::byte(bytes, i);
+    let size = slot_size(tag);
+    if size == 0 {
+        return false;
     }
-    if item_comes(bytes, i, Item::REMOVE, Item::REMOVE_SIZE) {
-        return true;
+    item_comes(bytes, i, tag, size)
+}
+
+// The length of an item of that tag, if it is for a slot; 0, where it isn't.
+fn slot_size(tag: u8) -> usize
+    ensures { λ r. ⌜ r ≡ slotSize tag ⌝ }
+{
+    if tag == Item::SHOW {
+        return Item::SHOW_SIZE;
     }
-    item_comes(bytes, i, Item::SET, Item::SET_SIZE)
+    if tag == Item::REMOVE {
+        return Item::REMOVE_SIZE;
+    }
+    if tag == Item::SET {
+        return Item::SET_SIZE;
+    }
+    if tag == Item::SET_HEAT {
+        Item::SET_HEAT_SIZE
+    } else {
+        0
+    }
 }
 
 // The value of the whole item at a place.
@@ -317,14 +348,14 @@ fn value_at(bytes: &[u8], i: usize) -> &[u8]
     &bytes[start..end]
 }
 
-// How many rows there are up to the last one that holds a report.
-fn rows_in<'a>(numbers: &'a [u32; Window::ROWS]) -> usize
-    ensures { λ r. ⌜ r ≡ rowsUsed rowCount (now (numbers .entry)) ⌝ }
+// How many rows there are up to the last one with a name.
+fn rows_in<'a>(names: &'a [u32; Window::ROWS]) -> usize
+    ensures { λ r. ⌜ r ≡ rowsUsed rowCount (now (names .entry)) ⌝ }
 {
     let mut rows = Window::ROWS;
     while 0 < rows {
         let last = rows - 1;
-        if numbers[last] != 0 {
+        if names[last] != 0 {
             return rows;
         }
         rows = last;
@@ -332,44 +363,23 @@ fn rows_in<'a>(numbers: &'a [u32; Window::ROWS]) -> usize
     0
 }
 
-// Stores a report in its row: how many rows there are then up to the last one that holds a report.
+// Stores a report in its row: how many rows there are then up to the last one with a name.
 fn put_row(
     losses: &mut [u16; Window::ROWS],
     shakes: &mut [u16; Window::ROWS],
-    numbers: &mut [u32; Window::ROWS],
+    names: &mut [u32; Window::ROWS],
     rows: usize,
     place: Place,
-    brought: Brought,
+    report: Row,
 ) -> usize
     requires { ⌜ place .row < rowCount ⌝ }
-    ensures { λ r. ⌜ Stored (now (losses .entry)) (now (shakes .entry)) (now (numbers .entry)) rows (place .row) brought r (now (losses .exit)) (now (shakes .exit)) (now (numbers .exit)) ⌝ }
+    ensures { λ r. ⌜ Stored (now (losses .entry)) (now (shakes .entry)) (now (names .entry)) rows (place .row) report r (now (losses .exit)) (now (shakes .exit)) (now (names .exit)) ⌝ }
 {
     let row = place.row as usize;
-    let values = brought.values;
-    losses[row] = values.loss;
-    shakes[row] = values.shake;
-    numbers[row] = brought.number;
+    losses[row] = report.loss;
+    shakes[row] = report.shake;
+    names[row] = report.name;
     if rows <= row { row + 1 } else { rows }
-}
-
-// The turn of a slot that holds this question, where that report has entered; the rows are lent.
-fn turn_of<'a>(
-    held: Question,
-    brought: Brought,
-    losses: &'a [u16; Window::ROWS],
-    shakes: &'a [u16; Window::ROWS],
-    numbers: &'a [u32; Window::ROWS],
-    rows: usize,
-) -> Turned
-    ensures { λ r. ⌜
-        r ≡ turn held (record { number = brought .number; values = low (brought .values) }) (brought .gone)
-        (standing (rowsOf (now (losses .entry)) (now (shakes .entry)) (now (numbers .entry))) (min rows rowCount))
-        ⌝ }
-{
-    let number = brought.number;
-    let values = brought.values;
-    let gone = brought.gone;
-    slot::turn(held, number, values, gone, losses, shakes, numbers, rows)
 }
 
 // Whether a tag is a frame's.
@@ -486,7 +496,11 @@ fn brings(
                 code: arrival.refusal,
                 number: arrival.number,
                 gone: arrival.oldest,
-                values,
+                row: Row {
+                    loss: values.loss,
+                    shake: values.shake,
+                    name: arrival.name,
+                },
             }
         }
     }
@@ -512,13 +526,17 @@ fn put_back(
 }
 
 fn not_brought(refused: bool, code: u8) -> Brought
-    ensures { λ r. ⌜ r ≡ record { refused = refused; code = code; number = 0; gone = 0; values = record { loss = 0; shake = 0 } } ⌝ }
+    ensures { λ r. ⌜ r ≡ notBrought refused code ⌝ }
 {
     Brought {
         refused,
         code,
         number: 0,
         gone: 0,
-        values: Values { loss: 0, shake: 0 },
+        row: Row {
+            loss: 0,
+            shake: 0,
+            name: 0,
+        },
     }
 }

@@ -50,8 +50,8 @@ fn scores() {
     score(-1);
     score(-9);
     score(-10);
-    score(8190000);
-    score(-8190000);
+    score(12285000);
+    score(-12285000);
     score(2147483647);
     score(-2147483648);
 }
@@ -109,7 +109,7 @@ fn lists() {
     list(
         7,
         [1000000u32; Text::ENTRIES],
-        [-8190000i32; Text::ENTRIES],
+        [-12285000i32; Text::ENTRIES],
         16,
     );
     list(

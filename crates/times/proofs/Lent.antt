@@ -29,14 +29,14 @@ use Rattle.times.proofs.Steps.{stops-turned, stops-so, meets-settled}
 use Rattle.times.proofs.Mixing.{plain-after, plain-answer}
 
 -- Bytes that are a room are those of the sessions in them, also where one is put in its own place.
-pub unchanged : (room : List ℕ) (k : ℕ) → length room ≡ 22098 → {x : Session} → x ≡ sessionOf k (sessionsIn room) → room ≡ roomOf (set (sessionsIn room) k x)
+pub unchanged : (room : List ℕ) (k : ℕ) → length room ≡ 23368 → {x : Session} → x ≡ sessionOf k (sessionsIn room) → room ≡ roomOf (set (sessionsIn room) k x)
 unchanged room k long e = sym (ap (λ (y : Session). roomOf (set (sessionsIn room) k y)) e ∙ ap roomOf (set-getD (sessionsIn room) k nobody) ∙ room-of-sessions 254 room long)
 
 -- A closing keeps the payload's bytes.
-met-long : (s : Station) (t id : ℕ) (d : List ℕ) → length (s .session .bytes) ≡ 84 → length (meets s t id d .session .bytes) ≡ 84
+met-long : (s : Station) (t id : ℕ) (d : List ℕ) → length (s .session .bytes) ≡ 89 → length (meets s t id d .session .bytes) ≡ 89
 met-long s t id d long =
-    either (λ (o : Station). length (o .session .bytes) ≡ 84) (passes (s .last) t)
-    (λ e. either (λ (x : Session). length (x .bytes) ≡ 84) (isLate (s .last) t) (λ e. either (λ (x : Session). length (x .bytes) ≡ 84) (eqb (frameRefusal id d) 0 && fit (s .session)) (λ e. long) (λ e. long)) (λ e. long))
+    either (λ (o : Station). length (o .session .bytes) ≡ 89) (passes (s .last) t)
+    (λ e. either (λ (x : Session). length (x .bytes) ≡ 89) (isLate (s .last) t) (λ e. either (λ (x : Session). length (x .bytes) ≡ 89) (eqb (frameRefusal id d) 0 && fit (s .session)) (λ e. long) (λ e. long)) (λ e. long))
     (λ e. long)
 
 module _ (room : List ℕ) (known : List Bool) (at : List ℕ) (t id : ℕ) (d : List ℕ) where
@@ -109,7 +109,7 @@ module _ (room : List ℕ) (known : List Bool) (at : List ℕ) (t id : ℕ) (d :
         }
 
   -- What `Times::meet` found and left, in bytes that are a room.
-  module _ (long : length room ≡ 22098) {n : ℕ} {l : Last} {q : List ℕ} {ks : List Bool} {ts : List ℕ} (m : Meets lent t id d (record { refusal = n; last = l }) q ks ts) where
+  module _ (long : length room ≡ 23368) {n : ℕ} {l : Last} {q : List ℕ} {ks : List Bool} {ts : List ℕ} (m : Meets lent t id d (record { refusal = n; last = l }) q ks ts) where
     -- The last time refuses the frame.
     pub met-refused : (n ≡ 0 → ⊥) → Takes lent timed (Refused n) q ks ts
     met-refused given = go (ltb (senderOf id) 254) (passes (own .last) t) refl refl
@@ -168,23 +168,23 @@ module _ (room : List ℕ) (known : List Bool) (at : List ℕ) (t id : ℕ) (d :
             a b (c ∙ known-so e (m .found ∙ rw e) (isKept r) refl (m .knows ∙ rw (e, g))) (f ∙ time-so e (m .found ∙ rw e) (isKept r) refl (m .times ∙ rw (e, g)))
 
 -- A frame keeps the payload's length, whatever the session and the last time are.
-station-long : (s : Station) (f : Timed) → length (s .session .bytes) ≡ 84 → length (stationStep s f .station .session .bytes) ≡ 84
+station-long : (s : Station) (f : Timed) → length (s .session .bytes) ≡ 89 → length (stationStep s f .station .session .bytes) ≡ 89
 unfolding timed-frame
 station-long s f long = go (f .time)
   where
-    met : (l : Last) (t : ℕ) → length (metAt (s .session) l t .bytes) ≡ 84
-    met l t = either (λ (x : Session). length (x .bytes) ≡ 84) (isLate l t) (λ e. long) (λ e. long)
+    met : (l : Last) (t : ℕ) → length (metAt (s .session) l t .bytes) ≡ 89
+    met l t = either (λ (x : Session). length (x .bytes) ≡ 89) (isLate l t) (λ e. long) (λ e. long)
 
-    go : (o : Option ℕ) → length (frameAt o s (f .frame) .station .session .bytes) ≡ 84
+    go : (o : Option ℕ) → length (frameAt o s (f .frame) .station .session .bytes) ≡ 89
     go none = step-long (s .session) (f .frame) long
     go (some t) =
-        either (λ (o : Heard). length (o .station .session .bytes) ≡ 84) (not (eqb (frameRefusal (f .frame .identifier) (f .frame .data-bytes)) 0)) (λ e. long)
-        (λ e. either (λ (o : Heard). length (o .station .session .bytes) ≡ 84) (not (fit (s .session) && fitLast (s .last))) (λ e. long)
-        (λ e. either (λ (o : Heard). length (o .station .session .bytes) ≡ 84) (isBefore (s .last) t) (λ e. long) (λ e. step-long (metAt (s .session) (s .last) t) (f .frame) (met (s .last) t))))
+        either (λ (o : Heard). length (o .station .session .bytes) ≡ 89) (not (eqb (frameRefusal (f .frame .identifier) (f .frame .data-bytes)) 0)) (λ e. long)
+        (λ e. either (λ (o : Heard). length (o .station .session .bytes) ≡ 89) (not (fit (s .session) && fitLast (s .last))) (λ e. long)
+        (λ e. either (λ (o : Heard). length (o .station .session .bytes) ≡ 89) (isBefore (s .last) t) (λ e. long) (λ e. step-long (metAt (s .session) (s .last) t) (f .frame) (met (s .last) t))))
 
 -- What `Times::take` leaves is a room again, and it holds those sessions.
-pub next-room : (room : List ℕ) (ts : Times) (f : Timed) → length room ≡ 22098
-    → (length (roomOf (stationsAfter (record { sessions = sessionsIn room; times = ts }) f .sessions)) ≡ 22098)
+pub next-room : (room : List ℕ) (ts : Times) (f : Timed) → length room ≡ 23368
+    → (length (roomOf (stationsAfter (record { sessions = sessionsIn room; times = ts }) f .sessions)) ≡ 23368)
     × (sessionsIn (roomOf (stationsAfter (record { sessions = sessionsIn room; times = ts }) f .sessions)) ≡ stationsAfter (record { sessions = sessionsIn room; times = ts }) f .sessions)
 next-room room ts f long = go (ltb (sender f) 254) refl
   where
@@ -192,7 +192,7 @@ next-room room ts f long = go (ltb (sender f) 254) refl
     b = record { sessions = sessionsIn room; times = ts }
 
     Holds : Stations → Type 0
-    Holds c = (length (roomOf (c .sessions)) ≡ 22098) × (sessionsIn (roomOf (c .sessions)) ≡ c .sessions)
+    Holds c = (length (roomOf (c .sessions)) ≡ 23368) × (sessionsIn (roomOf (c .sessions)) ≡ c .sessions)
 
     s : Station
     s = stationStep (stationOf (sender f) b) f .station

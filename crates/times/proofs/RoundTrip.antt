@@ -127,17 +127,17 @@ module _ (sender : ℕ) (known : sender ≤ 253) (r : Report) (note : Option (Li
       record { by = s .session; ready = ready .session; answers = refl; session = refl }
   taken-as (f ∷ fs) these timely =
       opened-at s ready (f .frame) fs
-      (λ x fits. subst AllKept (sym (ap (soloAnswers x) these ∙ bench.same-report sender known r note may x fits)) (kept-all (packets (size note)) r))
+      (λ x fits. subst AllKept (sym (ap (soloAnswers x) these ∙ bench.same-report sender known r note may x fits)) (kept-all (packets (size (r .values .edition) note)) r))
       (f .time) timely
 
   module _ (fs : List Timed) (these : framesOf fs ≡ frames sender (payload r note)) (timely : Timely (s .last) fs) where
-    pub same-report : stationAnswers s fs ≡ replicate (packets (size note)) Kept ++ (Complete r ∷ [])
+    pub same-report : stationAnswers s fs ≡ replicate (packets (size (r .values .edition) note)) Kept ++ (Complete r ∷ [])
     same-report =
         let t = taken-as fs these timely in
         t .answers ∙ ap (soloAnswers (t .by)) these ∙ bench.same-report sender known r note may (t .by) (t .ready)
 
     -- The session is closed, and its bytes are the payload and 255 behind it, ...
-    pub left-closed : stationAfterAll s fs .session ≡ record { bytes = payload r note ++ replicate (84 - size note) 255; size = 0; count = 0; next = 0 }
+    pub left-closed : stationAfterAll s fs .session ≡ record { bytes = payload r note ++ replicate (89 - size (r .values .edition) note) 255; size = 0; count = 0; next = 0 }
     left-closed =
         let t = taken-as fs these timely in
         t .session ∙ ap (soloSession (t .by)) these ∙ bench.left-closed sender known r note may (t .by) (t .ready)
@@ -152,7 +152,7 @@ module _ (sender : ℕ) (known : sender ≤ 253) (r : Report) (note : Option (Li
 module _ (sender : ℕ) (known : sender ≤ 253) (r : Report) (note : Option (List ℕ)) (may : Permitted r note)
     (b : Stations) (all : Whole b) (ready : Fit (stationOf sender b))
     (fs : List Timed) (own : framesOf (ownTimed sender fs) ≡ frames sender (payload r note)) (timely : Timely (stationOf sender b .last) (ownTimed sender fs)) where
-  pub mixed-report : ownAnswers sender (framesOf fs) (timedAnswers b fs) ≡ replicate (packets (size note)) Kept ++ (Complete r ∷ [])
+  pub mixed-report : ownAnswers sender (framesOf fs) (timedAnswers b fs) ≡ replicate (packets (size (r .values .edition) note)) Kept ++ (Complete r ∷ [])
   mixed-report =
       mixing sender (omega arith) b fs all .1 ∙ same-report sender known r note may (stationOf sender b) ready (ownTimed sender fs) own timely
 

@@ -1,9 +1,9 @@
 -- What a fit window is known to have, row by row, and that a report more keeps it: only the new report's row changes, and only that row had to.
 -- Assumes nothing.
-use mathlib.Core.Path.{_≡_, refl, sym, _∙_, subst}
+use mathlib.Core.Path.{_≡_, refl, sym, ap, ap₂, _∙_, subst}
 use mathlib.Core.Logic.{⊎-elim}
 use mathlib.Core.Bool.{Bool, true, false, cond, _&&_}
-use Prim.Native.Nat.{ℕ, zero, suc, _+_, _-_, _≤_, _<_, zero-le}
+use Prim.Native.Nat.{ℕ, zero, suc, _+_, _-_, _/_, _%_, _≤_, _<_, zero-le}
 use native.Mathlib.Nat.{not-suc-le-zero, le-of-suc-le-suc, mod-lt}
 use native.Mathlib.Omega.{arith}
 use borrow.Author.Tests.{leb-true, eqb-true, le-leb, lt-ltb, le-ltb, eq-eqb, ne-eqb, eqb-false}
@@ -13,9 +13,13 @@ use lib.Seq.{getD-set-same, getD-set-other}
 use Rattle.laws.proofs.Tests.{Tested, passed, failed, tested, clash, and-both, and-true}
 use Rattle.laws.proofs.Lists.{lt-or-eq}
 use Rattle.values.specs.declared.Values.{Values}
-use Rattle.values.specs.Range.{inRange}
-use Rattle.values.proofs.Facts.{range-is}
-use Rattle.window.specs.Rows.{sized, empty, rowOf, age, due, noValues, holds, rowFit, rowsFit, countsFit, fitWindow, grown, added}
+use Rattle.values.specs.declared.Edition.{Edition}
+use Rattle.values.specs.declared.Edition.the-variants.{First, Second}
+use Rattle.values.specs.Range.{heatInRange, inRange}
+use Rattle.values.specs.Names.{editionOf, named}
+use Rattle.values.proofs.Facts.{range-facts, range-is, low-edition-same}
+use Rattle.values.proofs.Names.{name-number, name-edition}
+use Rattle.window.specs.Rows.{sized, empty, rowOf, numberIn, valuesIn, age, due, withoutHeat, noValues, holds, rowFit, rowsFit, countsFit, fitWindow, grown, added}
 use Rattle.window.specs.declared.Counts.{Counts}
 use Rattle.window.specs.declared.Window.{Window}
 use Rattle.window.proofs.Ring.{Ring, counting, next-ring, due-new, due-later}
@@ -55,6 +59,10 @@ in-ranges c k =
     (and-true (and-true (is-sized (c .size) (k .ring .positive) (k .within)) (le-leb (c .entered) 1000000 (k .at-most))) (le-leb (c .held) (c .size) (k .ring .has-rows)))
     (le-leb (c .held) (c .entered) (k .ring .were-entered))
 
+first-in : (e : Edition) → withoutHeat e ≡ true → heatInRange e ≡ true
+first-in First h = refl
+first-in (Second heat) h = clash h refl
+
 -- What a row holds that passes its test.
 pub record Held-in (due number : ℕ) (v : Values) : Type 0 where
   pub as-due : number ≡ due
@@ -68,8 +76,9 @@ row-holds due number v h = record { as-due = eqb-true number due (both .0); perm
 
     go : Tested (eqb due 0) → inRange v ≡ true
     go (passed t) =
-        let none = and-both (eqb (v .loss) 0) (eqb (v .shake) 0) (rw t at (both .1)) in
-        range-is v (omega (arith, eqb-true (v .loss) 0 (none .0))) (omega (arith, eqb-true (v .shake) 0 (none .1)))
+        let none = and-both (eqb (v .loss) 0 && eqb (v .shake) 0) (withoutHeat (v .edition)) (rw t at (both .1)) in
+        let pair = and-both (eqb (v .loss) 0) (eqb (v .shake) 0) (none .0) in
+        range-is v (omega (arith, eqb-true (v .loss) 0 (pair .0))) (omega (arith, eqb-true (v .shake) 0 (pair .1))) (first-in (v .edition) (none .1))
     go (failed f) = rw f at (both .1)
 
 module _ (w : Window) where
@@ -111,14 +120,14 @@ module _ (w : Window) where
   pub record Whole : Type 0 where
     pub losses-whole : length (w .losses) ≡ 1024
     pub shakes-whole : length (w .shakes) ≡ 1024
-    pub numbers-whole : length (w .numbers) ≡ 1024
+    pub names-whole : length (w .names) ≡ 1024
 
 -- ---- a fresh window
 
 pub empty-whole : (n : ℕ) → Whole (empty n)
 empty-whole n =
     let zeros = length-replicate {A = ℕ} 1024 0 in
-    record { losses-whole = zeros; shakes-whole = zeros; numbers-whole = zeros }
+    record { losses-whole = zeros; shakes-whole = zeros; names-whole = zeros }
 
 pub empty-fit : (n : ℕ) → sized n ≡ true → fitWindow (empty n) ≡ true
 empty-fit n h =
@@ -154,7 +163,7 @@ module _ (w : Window) (v : Values) where
       record {
         losses-whole = length-set (w .losses) _ (v .loss) ∙ k .losses-whole;
         shakes-whole = length-set (w .shakes) _ (v .shake) ∙ k .shakes-whole;
-        numbers-whole = length-set (w .numbers) _ (w .counts .entered + 1) ∙ k .numbers-whole;
+        names-whole = length-set (w .names) _ (named (w .counts .entered + 1) (v .edition)) ∙ k .names-whole;
       }
 
   pub added-whole : Whole w → Whole (added w v)
@@ -179,21 +188,31 @@ module _ (w : Window) (v : Values) where
     pub shake-there : getD (set (w .shakes) place (v .shake)) place 0 ≡ v .shake
     shake-there = getD-set-same (w .shakes) place (v .shake) 0 (rw (whole .shakes-whole) placed)
 
-    number-there : getD (set (w .numbers) place (w .counts .entered + 1)) place 0 ≡ w .counts .entered + 1
-    number-there = getD-set-same (w .numbers) place (w .counts .entered + 1) 0 (rw (whole .numbers-whole) placed)
+    pub name-there : getD (set (w .names) place (named (w .counts .entered + 1) (v .edition))) place 0 ≡ named (w .counts .entered + 1) (v .edition)
+    name-there = getD-set-same (w .names) place (named (w .counts .entered + 1) (v .edition)) 0 (rw (whole .names-whole) placed)
+
+    -- the new report's row has its number and, of a heat in its range, its edition
+    pub number-there : numberIn (grown w v) place ≡ w .counts .entered + 1
+    number-there = ap (λ n. n / 4097) name-there ∙ name-number (w .counts .entered + 1) (v .edition)
+
+    pub values-there : inRange v ≡ true → valuesIn (grown w v) place ≡ v
+    values-there may =
+        let edition = ap (λ n. editionOf (n % 4097)) name-there ∙ name-edition (w .counts .entered + 1) (v .edition) ∙ low-edition-same (v .edition) (range-facts v may .heat-fits) in
+        ap₂ (λ l s. record { loss = l; shake = s; edition = valuesIn (grown w v) place .edition }) loss-there shake-there
+        ∙ ap (λ e. record { loss = v .loss; shake = v .shake; edition = e }) edition
 
     new-row : inRange v ≡ true → rowFit (grown w v) place ≡ true
     new-row may =
         let now-due = due-new (ranges .ring) in
         let positive : w .counts .entered + 1 ≡ 0 → ⊥ = λ e. omega arith in
-        rw (now-due, number-there, loss-there, shake-there, eq-eqb (w .counts .entered + 1) (w .counts .entered + 1) refl, ne-eqb (w .counts .entered + 1) 0 positive) may
+        rw (now-due, number-there, values-there may, eq-eqb (w .counts .entered + 1) (w .counts .entered + 1) refl, ne-eqb (w .counts .entered + 1) 0 positive) may
 
     old-row : (r : ℕ) → (r ≡ place → ⊥) → rowFit (grown w v) r ≡ rowFit w r
     old-row r other =
         let still = due-later (ranges .ring) r other in
         rw (
           still,
-          getD-set-other (w .numbers) place r (w .counts .entered + 1) 0 other,
+          getD-set-other (w .names) place r (named (w .counts .entered + 1) (v .edition)) 0 other,
           getD-set-other (w .losses) place r (v .loss) 0 other,
           getD-set-other (w .shakes) place r (v .shake) 0 other,
         )

@@ -72,7 +72,7 @@ module _ (n : ℕ) (past : List Values) (w : Window) (v : Values) (since : Since
         of-size = ap (λ (z : Window). z .counts .size) is-grown ∙ since .of-size;
         all-entered = ap (λ (z : Window). z .counts .entered) is-grown ∙ omega (arith, since .all-entered, more);
         as-many-held = ap (λ (z : Window). z .counts .held) is-grown ∙ omega (arith, since .as-many-held, since .of-size, more);
-        holds-latest = held-added w v ranges (since .whole) free ∙ joined;
+        holds-latest = held-added w v ranges (since .whole) may free ∙ joined;
         fit = added-fit w v (since .fit) (since .whole) free may;
         whole = added-whole w v (since .whole);
       }

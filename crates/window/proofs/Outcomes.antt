@@ -10,6 +10,8 @@ use Rattle.window.proofs.Window.place.Kinds as place-kinds
 use Rattle.window.proofs.Window.place.Reads as place-reads
 use Rattle.window.proofs.Window.added.Kinds as added-kinds
 use Rattle.window.proofs.Window.added.Reads as added-reads
+use Rattle.window.proofs.Row.values.Kinds as values-kinds
+use Rattle.window.proofs.Row.values.Reads as values-reads
 
 fresh-once : OneAnswer 0 fresh-kinds.ps fresh-kinds.r fresh-reads.Post
 fresh-once κs a x y s t p q = p ∙ sym q
@@ -22,3 +24,6 @@ place-once κs a x y s t p q = p ∙ sym q
 
 added-once : OneAnswer 0 added-kinds.ps added-kinds.r added-reads.Post
 added-once κs a x y s t p q = p ∙ sym q
+
+values-once : OneAnswer 0 values-kinds.ps values-kinds.r values-reads.Post
+values-once κs a x y s t p q = p ∙ sym q

@@ -2,6 +2,7 @@
 -- Assumes nothing.
 use mathlib.Core.Path.{_≡_, refl, sym, ap, _∙_}
 use mathlib.Core.Logic.{_⊎_, inl, inr, ⊎-elim}
+use mathlib.Core.Bool.{true}
 use mathlib.Core.List.{[], _∷_, _++_, List·Memᴰ·head, List·Memᴰ·not-nil, List·Memᴰ·cases-cons}
 use Prim.Native.Nat.{ℕ, zero, suc, min, _+_, _-_, _≤_, _<_}
 use native.Mathlib.Nat.{add-zero, eq-or-lt-of-le, not-suc-le-zero}
@@ -10,12 +11,14 @@ use lib.ListN.{length, drop}
 use lib.Seq.{getD-set-other}
 use Rattle.laws.specs.Lists.{_∈_}
 use Rattle.values.specs.declared.Values.{Values}
+use Rattle.values.specs.Range.{inRange}
+use Rattle.values.specs.Names.{named}
 use Rattle.ranking.specs.Standing.{Held}
 use Rattle.laws.proofs.Lists.{Pairwise, pairwise-map, there}
 use Rattle.window.specs.Rows.{empty, rowOf, reportOf, reportsFrom, oldest, heldReports, grown, added}
 use Rattle.window.specs.declared.Window.{Window}
 use Rattle.window.proofs.Ring.{rows-differ}
-use Rattle.window.proofs.Fitness.{Ranges, Whole, added-taken, is-sized, place, loss-there, shake-there}
+use Rattle.window.proofs.Fitness.{Ranges, Whole, added-taken, is-sized, place, values-there}
 
 -- of a smaller number
 abbrev pub Older : Held → Held → Type 0
@@ -147,9 +150,9 @@ reports-same u w m (suc n) h =
 abbrev pub newReport : Window → Values → Held
 newReport w v = record { number = w .counts .entered + 1; values = v }
 
-module _ (w : Window) (v : Values) (ranges : Ranges (w .counts)) (whole : Whole w) where
+module _ (w : Window) (v : Values) (ranges : Ranges (w .counts)) (whole : Whole w) (may : inRange v ≡ true) where
   new-report : reportOf (grown w v) (w .counts .entered + 1) ≡ newReport w v
-  new-report = rw (loss-there w v ranges whole, shake-there w v ranges whole)
+  new-report = ap (λ u. record { number = w .counts .entered + 1; values = u }) (values-there w v ranges whole may)
 
   old-report : (m : ℕ) → 1 ≤ m → m ≤ w .counts .entered → w .counts .entered + 1 < m + w .counts .size → reportOf (grown w v) m ≡ reportOf w m
   old-report m first entered near =
@@ -157,6 +160,7 @@ module _ (w : Window) (v : Values) (ranges : Ranges (w .counts)) (whole : Whole 
       rw (
         getD-set-other (w .losses) (place w v ranges whole) (rowOf (w .counts .size) m) (v .loss) 0 other,
         getD-set-other (w .shakes) (place w v ranges whole) (rowOf (w .counts .size) m) (v .shake) 0 other,
+        getD-set-other (w .names) (place w v ranges whole) (rowOf (w .counts .size) m) (named (w .counts .entered + 1) (v .edition)) 0 other,
       )
 
   -- The held reports of a window with one report more: those that were held, without the oldest where N were, and then the new one.

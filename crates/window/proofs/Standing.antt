@@ -18,7 +18,7 @@ use Rattle.laws.proofs.Tests.{Tested, passed, failed, tested}
 use Rattle.laws.proofs.Lists.{Same, lt-or-eq, moved, there}
 use Rattle.search.proofs.Search.{All}
 use Rattle.ranking.proofs.Entries.{top-same}
-use Rattle.window.specs.Rows.{rowOf, valuesIn, reportOf, heldReports, due, fitWindow, reportIn, standing}
+use Rattle.window.specs.Rows.{rowOf, numberIn, valuesIn, reportOf, heldReports, due, fitWindow, reportIn, standing}
 use Rattle.window.specs.declared.Window.{Window}
 use Rattle.window.proofs.Ring.{due-held, due-kept, Kept}
 use Rattle.window.proofs.Fitness.{Ranges, Fit, fit-facts, Held-in, row-holds}
@@ -27,35 +27,35 @@ use Rattle.window.proofs.Reports.{held-in, held-of}
 -- what stands in the rows of any window
 module _ (w : Window) where
   abbrev Used : ℕ → Type 0
-  Used r = getD (w .numbers) r 0 ≡ 0 → ⊥
+  Used r = numberIn w r ≡ 0 → ⊥
 
   standing-in : (n r : ℕ) → r < n → Used r → reportIn w r ∈ standing w n
   standing-in zero r below used = absurd (not-suc-le-zero below)
-  standing-in (suc n) r below used = go (tested (eqb (getD (w .numbers) n 0) 0)) (lt-or-eq (le-of-suc-le-suc below)) (λ l. standing-in n r l used)
+  standing-in (suc n) r below used = go (tested (eqb (numberIn w n) 0)) (lt-or-eq (le-of-suc-le-suc below)) (λ l. standing-in n r l used)
     where
-      go : Tested (eqb (getD (w .numbers) n 0) 0) → (r < n) ⊎ (r ≡ n) → (r < n → reportIn w r ∈ standing w n) → reportIn w r ∈ standing w (suc n)
+      go : Tested (eqb (numberIn w n) 0) → (r < n) ⊎ (r ≡ n) → (r < n → reportIn w r ∈ standing w n) → reportIn w r ∈ standing w (suc n)
       go (passed t) (inl l) rest = rw (t, standing) (rest l)
-      go (passed t) (inr e) rest = absurd (used (ap (λ m. getD (w .numbers) m 0) e ∙ eqb-true _ _ t))
+      go (passed t) (inr e) rest = absurd (used (ap (λ m. numberIn w m) e ∙ eqb-true _ _ t))
       go (failed f) (inl l) rest = rw (f, standing) (there (rest l))
       go (failed f) (inr e) rest = rw (f, standing) (List·Memᴰ·head (ap (reportIn w) e))
 
   standing-of : (n : ℕ) {x : Held} → x ∈ standing w n → (r : ℕ) × (r < n) × Used r × (x ≡ reportIn w r)
   standing-of zero k = absurd (List·Memᴰ·not-nil k)
-  standing-of (suc n) {x} k = go (tested (eqb (getD (w .numbers) n 0) 0)) (standing-of n)
+  standing-of (suc n) {x} k = go (tested (eqb (numberIn w n) 0)) (standing-of n)
     where
       more : (r : ℕ) × (r < n) × Used r × (x ≡ reportIn w r) → (r : ℕ) × (r < suc n) × Used r × (x ≡ reportIn w r)
       more s = let below : s .0 < n = s .1 in (s .0, omega arith, s .2, s .3)
 
-      go : Tested (eqb (getD (w .numbers) n 0) 0) → (x ∈ standing w n → (r : ℕ) × (r < n) × Used r × (x ≡ reportIn w r)) → (r : ℕ) × (r < suc n) × Used r × (x ≡ reportIn w r)
+      go : Tested (eqb (numberIn w n) 0) → (x ∈ standing w n → (r : ℕ) × (r < n) × Used r × (x ≡ reportIn w r)) → (r : ℕ) × (r < suc n) × Used r × (x ≡ reportIn w r)
       go (passed t) rest = more (rest (rw (t, standing) at k))
       go (failed f) rest =
           ⊎-elim (λ e. (n, omega arith, eqb-false _ _ f, e)) (λ q. more (rest q)) (List·Memᴰ·cases-cons (rw (f, standing) at k))
 
   -- rows that hold nothing add nothing
-  pub standing-end : (n m : ℕ) → ((r : ℕ) → n ≤ r → r < n + m → getD (w .numbers) r 0 ≡ 0) → standing w n ≡ standing w (n + m)
+  pub standing-end : (n m : ℕ) → ((r : ℕ) → n ≤ r → r < n + m → numberIn w r ≡ 0) → standing w n ≡ standing w (n + m)
   standing-end n zero none = ap (standing w) (sym (add-zero n))
   standing-end n (suc m) none =
-      let last : eqb (getD (w .numbers) (n + m) 0) 0 ≡ true = eq-eqb (getD (w .numbers) (n + m) 0) 0 (none (n + m) (omega arith) (omega arith)) in
+      let last : eqb (numberIn w (n + m)) 0 ≡ true = eq-eqb (numberIn w (n + m)) 0 (none (n + m) (omega arith) (omega arith)) in
       standing-end n m (λ r h l. none r h (less r l)) ∙ sym (ap (standing w) (add-suc n m) ∙ rw (last, standing))
     where
       less : (r : ℕ) → r < n + m → r < n + suc m
@@ -68,15 +68,15 @@ module _ (w : Window) (fit : fitWindow w ≡ true) where
   ranges : Ranges (w .counts)
   ranges = facts .ranges
 
-  row : (r : ℕ) → r < 1024 → Held-in (due (w .counts) r) (getD (w .numbers) r 0) (valuesIn w r)
+  row : (r : ℕ) → r < 1024 → Held-in (due (w .counts) r) (numberIn w r) (valuesIn w r)
   row r below = row-holds _ _ _ (facts .rows r below)
 
   in-ring : (m : ℕ) → rowOf (w .counts .size) m < 1024
   in-ring m = omega (arith, mod-lt (m - 1) (ranges .ring .positive), ranges .within)
 
   -- the values that stand in a row are whole
-  whole : (r : ℕ) → r < 1024 → reportIn w r ≡ record { number = getD (w .numbers) r 0; values = valuesIn w r }
-  whole r below = ap (λ v. record { number = getD (w .numbers) r 0; values = v }) (low-same (valuesIn w r) (row r below .permitted))
+  whole : (r : ℕ) → r < 1024 → reportIn w r ≡ record { number = numberIn w r; values = valuesIn w r }
+  whole r below = ap (λ v. record { number = numberIn w r; values = v }) (low-same (valuesIn w r) (row r below .permitted))
 
   -- Every held report has permitted values.
   pub held-permitted : All Permitted (heldReports w)
@@ -86,7 +86,7 @@ module _ (w : Window) (fit : fitWindow w ≡ true) where
       subst Permitted (sym (r .3)) (h .permitted)
 
   -- A number is held exactly where its row has it.
-  pub number-there : (m : ℕ) → w .counts .entered < m + w .counts .held → m ≤ w .counts .entered → getD (w .numbers) (rowOf (w .counts .size) m) 0 ≡ m
+  pub number-there : (m : ℕ) → w .counts .entered < m + w .counts .held → m ≤ w .counts .entered → numberIn w (rowOf (w .counts .size) m) ≡ m
   number-there m late entered =
       row (rowOf (w .counts .size) m) (in-ring m) .as-due
       ∙ due-held (ranges .ring) m late entered
@@ -97,7 +97,7 @@ module _ (w : Window) (fit : fitWindow w ≡ true) where
       r : ℕ
       r = rowOf (w .counts .size) m
 
-      number : getD (w .numbers) r 0 ≡ m
+      number : numberIn w r ≡ m
       number = number-there m late entered
 
       used : Used w r
@@ -109,7 +109,7 @@ module _ (w : Window) (fit : fitWindow w ≡ true) where
       m : ℕ
       m = due (w .counts) r
 
-      number : getD (w .numbers) r 0 ≡ m
+      number : numberIn w r ≡ m
       number = row r below .as-due
 
       k : Kept (w .counts .size) (w .counts .entered) (w .counts .held) r m

@@ -1,14 +1,19 @@
 -- A window of the latest reports, stored as a ring of rows (docs/RULES.md, section 5).
-use Prim.Native.Nat.{ℕ, zero, suc, _+_, _-_, _%_, min}
-use mathlib.Core.Bool.{Bool, true, cond, _&&_}
+use Prim.Native.Nat.{ℕ, zero, suc, _+_, _-_, _/_, _%_, min}
+use mathlib.Core.Bool.{Bool, true, false, cond, _&&_}
 use mathlib.Core.List.{List, [], _∷_}
 use lib.ListN.{getD, set, replicate}
 use lib.Dec.{leb, ltb, eqb}
 use Rattle.values.specs.declared.Values.{Values}
+use Rattle.values.specs.declared.Edition.{Edition}
+use Rattle.values.specs.declared.Edition.the-variants.{First, Second}
 use Rattle.values.specs.Range.{inRange, low}
+use Rattle.values.specs.Names.{editions, named}
+use Rattle.ranking.specs.Cells.{valuesNamed}
 use Rattle.ranking.specs.Standing.{Held}
 use Rattle.window.specs.declared.Counts.{Counts}
 use Rattle.window.specs.declared.Window.{Window}
+use Rattle.window.specs.declared.Row.{Row}
 use Rattle.window.specs.declared.Fresh.{Fresh}
 use Rattle.window.specs.declared.Place.{Place}
 
@@ -30,7 +35,7 @@ empty size =
     record {
       losses = replicate rowCount 0;
       shakes = replicate rowCount 0;
-      numbers = replicate rowCount 0;
+      names = replicate rowCount 0;
       counts = record { size = size; entered = 0; held = 0 };
     }
 
@@ -44,9 +49,21 @@ freshWindow size = cond (sized size) (record { refusal = 0; window = empty size 
 abbrev pub rowOf : ℕ → ℕ → ℕ
 rowOf size m = (m - 1) % size
 
--- The values in a row.
+-- A row as it stands, the number in it, and the values: a row keeps a report's number and edition in one (rule 17.6).
+abbrev pub rowAt : Window → ℕ → Row
+rowAt w row = record { loss = getD (w .losses) row 0; shake = getD (w .shakes) row 0; name = getD (w .names) row 0 }
+
+abbrev pub numberAt : Row → ℕ
+numberAt row = row .name / editions
+
+abbrev pub valuesAt : Row → Values
+valuesAt row = valuesNamed (row .loss) (row .shake) (row .name)
+
+abbrev pub numberIn : Window → ℕ → ℕ
+numberIn w row = numberAt (rowAt w row)
+
 abbrev pub valuesIn : Window → ℕ → Values
-valuesIn w row = record { loss = getD (w .losses) row 0; shake = getD (w .shakes) row 0 }
+valuesIn w row = valuesAt (rowAt w row)
 
 -- The report of number m, as its row has it.
 abbrev pub reportOf : Window → ℕ → Held
@@ -75,9 +92,13 @@ age size entered row = (entered + size - 1 - row) % size
 abbrev pub due : Counts → ℕ → ℕ
 due c row = cond (ltb row (c .size) && ltb (age (c .size) (c .entered) row) (c .held)) (c .entered - age (c .size) (c .entered) row) 0
 
--- A row that holds nothing is 0.
+-- A row that holds nothing is 0: its edition is the first.
+abbrev pub withoutHeat : Edition → Bool
+withoutHeat First = true
+withoutHeat (Second heat) = false
+
 abbrev pub noValues : Values → Bool
-noValues v = eqb (v .loss) 0 && eqb (v .shake) 0
+noValues v = eqb (v .loss) 0 && eqb (v .shake) 0 && withoutHeat (v .edition)
 
 -- A row holds the number that is due, with permitted values.
 abbrev pub holds : (due number : ℕ) → Values → Bool
@@ -85,7 +106,7 @@ holds due number v = eqb number due && cond (eqb due 0) (noValues v) (inRange v)
 
 -- A row of the window holds what is due there.
 abbrev pub rowFit : Window → ℕ → Bool
-rowFit w row = holds (due (w .counts) row) (getD (w .numbers) row 0) (valuesIn w row)
+rowFit w row = holds (due (w .counts) row) (numberIn w row) (valuesIn w row)
 
 -- The first `n` rows are fit.
 unfoldable pub rowsFit : Window → ℕ → Bool
@@ -116,7 +137,7 @@ grown w v =
     record {
       losses = set (w .losses) (rowOf (w .counts .size) (w .counts .entered + 1)) (v .loss);
       shakes = set (w .shakes) (rowOf (w .counts .size) (w .counts .entered + 1)) (v .shake);
-      numbers = set (w .numbers) (rowOf (w .counts .size) (w .counts .entered + 1)) (w .counts .entered + 1);
+      names = set (w .names) (rowOf (w .counts .size) (w .counts .entered + 1)) (named (w .counts .entered + 1) (v .edition));
       counts = grownCounts (w .counts);
     }
 
@@ -127,10 +148,13 @@ added w v = cond (sized (w .counts .size) && ltb (w .counts .entered) reportLimi
 -- ---- what stands in the rows of any window
 
 -- What stands in a row: its number, and the low 12 bits of its values.
+abbrev pub reportAt : Row → Held
+reportAt row = record { number = numberAt row; values = low (valuesAt row) }
+
 abbrev pub reportIn : Window → ℕ → Held
-reportIn w row = record { number = getD (w .numbers) row 0; values = low (valuesIn w row) }
+reportIn w row = reportAt (rowAt w row)
 
 -- The reports that stand in the first `n` rows, last row first: those of a number that isn't 0. Of a fit window they are the held ones.
 abbrev pub standing : Window → ℕ → List Held
 standing w zero = []
-standing w (suc row) = cond (eqb (getD (w .numbers) row 0) 0) (standing w row) (reportIn w row ∷ standing w row)
+standing w (suc row) = cond (eqb (numberIn w row) 0) (standing w row) (reportIn w row ∷ standing w row)

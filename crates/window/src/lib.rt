@@ -2,7 +2,9 @@
 ghost use mathlib.Core.Path.{_≡_};
 ghost use mathlib.Core.Bool.{true};
 ghost use Prim.Native.Nat.{min, _+_, _-_, _%_, _<_, _≤_};
-ghost use Rattle.window.specs.Rows.{rowCount, reportLimit, freshWindow, fitWindow, added, sized, empty, rowOf, placeFor, due, holds, rowsFit, countsFit};
+ghost use Rattle.window.specs.Rows.{rowCount, reportLimit, freshWindow, fitWindow, added, sized, empty, rowOf, placeFor, due, numberAt, valuesAt, noValues, holds, rowsFit, countsFit};
+use values::Edition;
+use values::Name;
 use values::Values;
 
 // How many rows are used, N; how many reports were entered, which is the last one's number; and how many of the latest are
@@ -13,12 +15,19 @@ pub struct Counts {
     pub held: u16,
 }
 
-// Report m lies in row (m - 1) mod N. A row that holds nothing is 0.
+// Report m lies in row (m - 1) mod N, by its loss, its shake, and its name. A row that holds nothing is 0.
 pub struct Window {
     pub losses: [u16; Window::ROWS],
     pub shakes: [u16; Window::ROWS],
-    pub numbers: [u32; Window::ROWS],
+    pub names: [u32; Window::ROWS],
     pub counts: Counts,
+}
+
+// A report as its row has it: the name has its number and its edition.
+pub struct Row {
+    pub loss: u16,
+    pub shake: u16,
+    pub name: u32,
 }
 
 // A window, or the refusal's number and a window of zeros.
@@ -101,6 +110,19 @@ impl Window {
     }
 }
 
+impl Row {
+    // The values of the report.
+    pub fn values(self) -> Values
+        ensures { λ r. ⌜ r ≡ valuesAt self ⌝ }
+    {
+        Values {
+            loss: self.loss,
+            shake: self.shake,
+            edition: Name::edition(self.name),
+        }
+    }
+}
+
 // A window can have n rows.
 fn sized(n: u16) -> bool
     ensures { λ r. ⌜ r ≡ sized n ⌝ }
@@ -114,7 +136,7 @@ fn empty(size: u16) -> Window
 {
     let losses = [0u16; Window::ROWS];
     let shakes = [0u16; Window::ROWS];
-    let numbers = [0u32; Window::ROWS];
+    let names = [0u32; Window::ROWS];
     let counts = Counts {
         size,
         entered: 0,
@@ -123,7 +145,7 @@ fn empty(size: u16) -> Window
     Window {
         losses,
         shakes,
-        numbers,
+        names,
         counts,
     }
 }
@@ -137,10 +159,11 @@ fn grown(w: Window, values: Values) -> Window
     let size = counts.size;
     let number = counts.entered + 1;
     let row = row_of(size, number) as usize;
+    let edition = values.edition;
     let mut next = w;
     next.losses[row] = values.loss;
     next.shakes[row] = values.shake;
-    next.numbers[row] = number;
+    next.names[row] = Name::of(number, edition);
     let later = Counts {
         size,
         entered: number,
@@ -189,17 +212,18 @@ fn rows_fit(w: Window) -> bool
 {
     let losses = w.losses;
     let shakes = w.shakes;
-    let numbers = w.numbers;
+    let names = w.names;
     let counts = w.counts;
     let last = row_of(counts.size, counts.entered + (counts.size as u32));
     let mut row: usize = 0;
     while row < Window::ROWS {
         let n = due(counts, last, row as u16);
-        let values = Values {
+        let held = Row {
             loss: losses[row],
             shake: shakes[row],
+            name: names[row],
         };
-        if !holds(n, numbers[row], values) {
+        if !holds(n, held) {
             return false;
         }
         row += 1;
@@ -239,14 +263,31 @@ fn steps_back(size: u16, last: u16, row: u16) -> u16
 }
 
 // A row holds the number that is due, with values in their range; a row that holds nothing is 0.
-fn holds(due: u32, number: u32, values: Values) -> bool
-    ensures { λ r. ⌜ r ≡ holds due number values ⌝ }
+fn holds(due: u32, row: Row) -> bool
+    ensures { λ r. ⌜ r ≡ holds due (numberAt row) (valuesAt row) ⌝ }
 {
-    if number != due {
+    if Name::number(row.name) != due {
         return false;
     }
+    let values = row.values();
     if due == 0 {
-        return values.loss == 0 && values.shake == 0;
+        return no_values(values);
     }
     values.in_range()
+}
+
+// The values of a row that holds nothing.
+fn no_values(values: Values) -> bool
+    ensures { λ r. ⌜ r ≡ noValues values ⌝ }
+{
+    let edition = values.edition;
+    if values.loss == 0 {
+        if values.shake == 0 {
+            return match edition {
+                Edition::First => true,
+                Edition::Second(_) => false,
+            };
+        }
+    }
+    false
 }

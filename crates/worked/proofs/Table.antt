@@ -1,4 +1,4 @@
--- The worked examples P1 to P16 (docs/RULES.md, section 13), under a single claim: each row is a theorem of the definitions, where they stand.
+-- The worked examples P1 to P22 (docs/RULES.md, section 13), under a single claim: each row is a theorem of the definitions, where they stand.
 -- Assumes nothing.
 use Rattle.bench.proofs.Examples as sender
 use Rattle.joining.proofs.Examples as frames
@@ -6,13 +6,13 @@ use Rattle.ranking.proofs.Examples as search
 use Rattle.board.proofs.Examples as entries
 
 pub record Table : Type 0 where
-  -- P1
+  -- P1, and its report with heat
   pub of-sender : sender.Examples
-  -- P2 to P4, and the edges of size and loss
+  -- P2 to P4, the edges of size, loss and heat, and payloads of both editions
   pub of-frames : frames.Examples
-  -- P5 to P8, and P12 to P15
+  -- P5 to P8, P12 to P15, and P17 to P20
   pub of-searches : search.Examples
-  -- P9 to P11, and P16
+  -- P9 to P11, P16, P21 and P22
   pub of-entries : entries.Examples
 
 pub table : Table

@@ -1,4 +1,4 @@
-//! The window and its 32 slots as they are stored, fit or not, and the calls on them (docs/RULES.md, sections 5 to 9 and 16).
+//! The window and its 32 slots as they are stored, fit or not, and the calls on them (docs/RULES.md, sections 5 to 9, 16 and 17).
 //!
 //! Report m stands in row (m - 1) mod N; rows that hold nothing are 0. The cells before `next` in the visiting order are the marked ones,
 //! all of them where it is 256 or another that isn't in the order. Places past the list's end are 0, and so is everything of an empty slot.
@@ -17,6 +17,7 @@ pub struct Row {
     pub number: u32,
     pub loss: u16,
     pub shake: u16,
+    pub heat: Option<u16>,
 }
 
 #[derive(Clone)]
@@ -39,7 +40,7 @@ impl Window {
 
     fn report(&self, number: u32) -> Report {
         let row = self.rows.get(self.row(number)).copied().unwrap_or_default();
-        Report { number, loss: i32::from(row.loss), shake: i32::from(row.shake) }
+        Report { number, loss: i32::from(row.loss), shake: i32::from(row.shake), heat: row.heat }
     }
 
     pub fn holds(&self, number: u32) -> bool {
@@ -77,11 +78,16 @@ impl Window {
         self.rows.iter().zip(due).all(|(row, due)| if due == 0 { row.empty(wrong) } else { row.holds(due, wrong) })
     }
 
-    fn add(&mut self, loss: u16, shake: u16) {
+    fn add(&mut self, loss: u16, shake: u16, heat: Option<u16>, wrong: Wrong) {
         self.entered += 1;
         let row = self.row(self.entered);
         if let Some(r) = self.rows.get_mut(row) {
-            *r = Row { number: self.entered, loss, shake };
+            let heat = match wrong {
+                Wrong::EditionLostInTheRow => None,
+                Wrong::RowKeepsTheHeatBefore => heat.or(r.heat),
+                _ => heat,
+            };
+            *r = Row { number: self.entered, loss, shake, heat };
         }
         self.held = self.size.min(self.held + 1);
     }
@@ -91,6 +97,7 @@ impl Row {
     fn empty(&self, wrong: Wrong) -> bool {
         (self.number == 0 || wrong == Wrong::EmptyRowNumberNotChecked)
             && (self.loss == 0 && self.shake == 0 || wrong == Wrong::EmptyRowValuesNotChecked)
+            && (self.heat.is_none() || wrong == Wrong::EmptyRowHeatNotChecked)
     }
 
     fn holds(&self, due: u32, wrong: Wrong) -> bool {
@@ -103,19 +110,18 @@ impl Row {
 #[derive(Clone, PartialEq)]
 pub struct Slot {
     pub k: u8,
-    pub a: i16,
-    pub b: i16,
+    pub weights: [i16; 3],
     pub ranges: Ranges,
     pub len: u8,
     pub next: u16,
     pub lines: [Entry; LINES],
 }
 
-const NO_LINE: Entry = Entry { number: 0, score: 0 };
+const NO_LINE: Entry = Entry { number: 0, score: 0, heat: None };
 
 impl Slot {
     pub fn fresh() -> Slot {
-        Slot { k: 0, a: 0, b: 0, ranges: Ranges::default(), len: 0, next: 0, lines: [NO_LINE; LINES] }
+        Slot { k: 0, weights: [0; 3], ranges: Ranges::default(), len: 0, next: 0, lines: [NO_LINE; LINES] }
     }
 
     pub fn listed(&self) -> &[Entry] {
@@ -124,7 +130,7 @@ impl Slot {
 
     /// The question with nothing listed and nothing marked.
     pub fn asked(&self) -> Question {
-        Question::new(self.k as usize, i32::from(self.a), i32::from(self.b), self.ranges)
+        Question::new(self.k as usize, self.weights.map(i32::from), self.ranges)
     }
 
     /// The steps that its search has taken: the place of the next cell in the order, or all.
@@ -165,20 +171,23 @@ impl Slot {
         *self == Slot::fresh()
     }
 
-    /// A question that is fit (rules 9.5 and 9.6, section 16), clause by clause.
+    /// A question that is fit (rules 9.5 and 9.6, sections 16 and 17), clause by clause.
     fn fit(&self, window: &Window, wrong: Wrong) -> bool {
-        let weight = |w: i16| (-1000..=1000).contains(&w);
+        let weight = |i: usize| (-1000..=1000).contains(&self.weights[i]);
         let ordered = |r: Range| r.low <= r.high;
         let ends = |r: Range| r.low.max(r.high) <= 4095;
         let (q, rest) = (self.asked(), &self.lines[self.listed().len()..]);
         let held = |e: &Entry| window.holds(e.number);
         let scored = |e: &Entry| !held(e) || e.score == q.score(&window.report(e.number), Wrong::No);
         let counted = |e: &Entry| !held(e) || q.entry(&window.report(e.number), wrong).is_some();
+        let edition = |e: &Entry| !held(e) || e.heat == Question::edition(&window.report(e.number), wrong);
+        let has_one = |e: &Entry| e.heat.is_some() == window.report(e.number).heat.is_some();
         let ranked = |order: Ordering| !self.listed().windows(2).any(|p| above(&p[0], &p[1], Wrong::No) == order);
         let clauses = [
             (self.k <= 16, Wrong::KNotChecked),
-            (weight(self.a), Wrong::FirstWeightNotChecked),
-            (weight(self.b), Wrong::SecondWeightNotChecked),
+            (weight(0), Wrong::FirstWeightNotChecked),
+            (weight(1), Wrong::SecondWeightNotChecked),
+            (weight(2), Wrong::ThirdWeightNotChecked),
             (ordered(self.ranges.loss), Wrong::LossOrderNotChecked),
             (ordered(self.ranges.shake), Wrong::ShakeOrderNotChecked),
             (ends(self.ranges.loss), Wrong::LossEndsNotChecked),
@@ -189,10 +198,12 @@ impl Slot {
             (self.listed().iter().all(held), Wrong::NotHeldListed),
             (self.listed().iter().all(scored), Wrong::ScoresNotChecked),
             (self.listed().iter().all(counted), Wrong::UncountedLineNotChecked),
+            (self.listed().iter().all(|e| edition(e) || wrong == Wrong::LineHeatNotChecked && has_one(e)), Wrong::LineEditionNotChecked),
             (ranked(Ordering::Greater), Wrong::RankNotChecked),
             (ranked(Ordering::Equal), Wrong::TwiceListed),
             (rest.iter().all(|e| e.number == 0), Wrong::RestNumberNotChecked),
             (rest.iter().all(|e| e.score == 0), Wrong::RestScoreNotChecked),
+            (rest.iter().all(|e| e.heat.is_none()), Wrong::RestHeatNotChecked),
         ];
         self.k > 0 && clauses.iter().all(|c| c.0 || wrong == c.1)
     }
@@ -208,6 +219,8 @@ impl Slot {
         let empty = match wrong {
             Wrong::EmptySlotNotChecked => self.k == 0,
             Wrong::EmptySlotRangesNotChecked => Slot { ranges: Ranges::default(), ..self.clone() }.zeros(),
+            Wrong::EmptySlotThirdWeightNotChecked => Slot { weights: [self.weights[0], self.weights[1], 0], ..self.clone() }.zeros(),
+            Wrong::EmptySlotHeatNotChecked => Slot { lines: self.lines.map(|e| Entry { heat: None, ..e }), ..self.clone() }.zeros(),
             _ => self.zeros(),
         };
         empty || self.fit(window, wrong) && (self.ended(wrong) || wrong == Wrong::UnfinishedOnTheBoard)
@@ -243,9 +256,11 @@ impl Board {
     }
 
     /// The steps of the question's search.
-    pub fn set(&mut self, slot: usize, k: u8, a: i16, b: i16, ranges: Ranges) -> Result<usize, u32> {
+    pub fn set(&mut self, slot: usize, k: u8, weights: [i16; 3], ranges: Ranges) -> Result<usize, u32> {
         let wrong = self.wrong;
-        let (out, used) = (|w: i16| !(-1000..=1000).contains(&w), self.slots.get(slot).map_or(false, |s| s.k != 0));
+        let out = |i: usize| !(-1000..=1000).contains(&weights[i]);
+        let used = self.slots.get(slot).map_or(false, |s| s.k != 0);
+        let fifteen = out(0) || out(1) || out(2) && wrong != Wrong::SetTakesAnyHeatWeight;
         let thirty = thirty(ranges, wrong);
         first(&[
             (wrong == Wrong::ThirteenFirst && slot > 31, 13),
@@ -255,14 +270,14 @@ impl Board {
             (wrong == Wrong::SixteenFirst && used, 16),
             (!(1..=16).contains(&k), 14),
             (wrong == Wrong::ThirtyBeforeFifteen && thirty, 30),
-            (out(a) || out(b), 15),
+            (fifteen, 15),
             (wrong == Wrong::ThirtyAfterSixteen && used, 16),
             (thirty, 30),
             (used, 16),
         ])?;
         let held = self.window.reports();
         let new = &mut self.slots[slot];
-        *new = Slot { k, a, b, ranges, ..Slot::fresh() };
+        *new = Slot { k, weights, ranges, ..Slot::fresh() };
         let mut q = new.asked();
         let steps = q.search(&held, wrong);
         new.list(&q.list);
@@ -282,6 +297,7 @@ impl Board {
         self.slots[slot] = match self.wrong {
             Wrong::RemovingLeavesTheLines => Slot { lines: old.lines, ..Slot::fresh() },
             Wrong::RemovingLeavesTheRanges => Slot { ranges: old.ranges, ..Slot::fresh() },
+            Wrong::RemovingLeavesTheHeatWeight => Slot { weights: [0, 0, old.weights[2]], ..Slot::fresh() },
             _ => Slot::fresh(),
         };
         Ok(())
@@ -293,9 +309,16 @@ impl Board {
     }
 
     /// The report's number, and of each question that was searched its slot and the steps.
-    pub fn enter(&mut self, loss: u16, shake: u16) -> Result<(u32, Vec<(usize, usize)>), u32> {
+    pub fn enter(&mut self, loss: u16, shake: u16, heat: Option<u16>) -> Result<(u32, Vec<(usize, usize)>), u32> {
         let wrong = self.wrong;
-        let (over, full) = (loss > 4095 || shake > 4095, self.window.entered >= MOST_REPORTS && wrong != Wrong::EnteredNotChecked);
+        let most = match wrong {
+            Wrong::EntersAnyHeat => u16::MAX,
+            Wrong::EntersHeat4096 => 4096,
+            _ => 4095,
+        };
+        let over = loss > 4095 || shake > 4095 || heat.map_or(false, |h| h > most);
+        let heat = heat.map(|h| h % 4096);
+        let full = self.window.entered >= MOST_REPORTS && wrong != Wrong::EnteredNotChecked;
         first(&[
             (wrong == Wrong::TwelveFirst && over, 12),
             (!self.fit(), 24),
@@ -304,8 +327,8 @@ impl Board {
             (full, 11),
         ])?;
         let mut held = self.window.reports();
-        self.window.add(loss, shake);
-        let new = Report { number: self.window.entered, loss: i32::from(loss), shake: i32::from(shake) };
+        self.window.add(loss, shake, heat, wrong);
+        let new = Report { number: self.window.entered, loss: i32::from(loss), shake: i32::from(shake), heat };
         held.push_back(new);
         let left = if held.len() > self.window.size as usize { held.pop_front() } else { None };
         let mut searches = Vec::new();
@@ -313,8 +336,10 @@ impl Board {
             let mut q = slot.question(wrong);
             q.offer(&new, wrong);
             if left.map_or(false, |r| q.list.iter().any(|e| e.number == r.number)) {
-                if wrong == Wrong::RangesForgottenOnASearch {
-                    q.ranges = Ranges::ALL;
+                match wrong {
+                    Wrong::RangesForgottenOnASearch => q.ranges = Ranges::ALL,
+                    Wrong::HeatWeightForgottenOnASearch => q.weights[2] = 0,
+                    _ => {}
                 }
                 let steps = q.search(&held, wrong);
                 slot.go_on(steps, wrong);
@@ -345,8 +370,10 @@ impl Board {
         if wrong != Wrong::BeginKeepsTheList {
             s.list(&[]);
         }
-        if wrong == Wrong::BeginForgetsTheRanges {
-            s.ranges = Ranges::ALL;
+        match wrong {
+            Wrong::BeginForgetsTheRanges => s.ranges = Ranges::ALL,
+            Wrong::BeginForgetsTheHeatWeight => s.weights[2] = 0,
+            _ => {}
         }
         if wrong != Wrong::BeginKeepsTheMarks {
             s.go_on(0, wrong);

@@ -1,4 +1,4 @@
-//! The log program by the rules (docs/RULES.md, section 11): a log in, its text out.
+//! The log program by the rules (docs/RULES.md, sections 11 and 17): a log in, its text out.
 
 use crate::bus::Bus;
 use crate::joining::Heard;
@@ -40,7 +40,7 @@ impl Cart {
             let length = if rest.len() < 3 { 0 } else { le(&rest[1..3]) as usize };
             if rest.len() < 3 + length {
                 self.item += 1;
-                let early = self.wrong == Wrong::LengthBeforeEnd && rest.len() >= 3 && !known(rest[0], length);
+                let early = self.wrong == Wrong::LengthBeforeEnd && rest.len() >= 3 && !known(rest[0], length, self.wrong);
                 self.refuse(if early { 22 } else { 21 });
                 return;
             }
@@ -51,7 +51,7 @@ impl Cart {
 
     /// One item that is whole.
     pub fn item(&mut self, tag: u8, value: &[u8]) {
-        if !known(tag, value.len()) {
+        if !known(tag, value.len(), self.wrong) {
             if self.wrong != Wrong::SkippedNotCounted {
                 self.item += 1;
             }
@@ -65,11 +65,23 @@ impl Cart {
         }
         match tag {
             16 => self.window(le(value) as usize),
-            17 => self.set(value[0] as usize, value[1] as usize, signed(&value[2..4]), signed(&value[4..6])),
+            17 | 22 => self.set(value[0] as usize, value[1] as usize, self.weights(&value[2..])),
             18 => self.frame(None, value),
             19 => self.remove(value[0] as usize),
             20 => self.show(value[0] as usize),
             _ => self.frame(Some(self.time(&value[..4])), &value[4..]),
+        }
+    }
+
+    /// A question's weights; that for heat is 0 where none is given.
+    fn weights(&self, value: &[u8]) -> [i32; 3] {
+        let at = |i: usize| value.get(2 * i..2 * i + 2).map_or(0, signed);
+        match self.wrong {
+            Wrong::HeatWeightFirst if value.len() > 4 => [at(1), at(2), at(0)],
+            Wrong::HeatWeightWithoutSign if value.len() > 4 => [at(0), at(1), le(&value[4..6]) as i32],
+            Wrong::HeatWeightPassedOver => [at(0), at(1), 0],
+            Wrong::PlainQuestionsWeighHeat if value.len() == 4 => [at(0), at(1), 1],
+            _ => [at(0), at(1), at(2)],
         }
     }
 
@@ -83,7 +95,7 @@ impl Cart {
         self.size = Some(n);
     }
 
-    fn set(&mut self, slot: usize, k: usize, a: i32, b: i32) {
+    fn set(&mut self, slot: usize, k: usize, [a, b, c]: [i32; 3]) {
         let wrong = self.wrong;
         let most_k = if wrong == Wrong::K17 { 17 } else { 16 };
         let most = if wrong == Wrong::WeightOf1001 { 1001 } else { 1000 };
@@ -99,7 +111,12 @@ impl Cart {
         if used && wrong == Wrong::SixteenBeforeFifteen {
             return self.refuse(16);
         }
-        if out(a) || out(b) {
+        let out_for_heat = match wrong {
+            Wrong::HeatWeightNotTested => false,
+            Wrong::HeatWeightOf1001 => c < -1000 || c > 1001,
+            _ => out(c),
+        };
+        if out(a) || out(b) || out_for_heat {
             return self.refuse(15);
         }
         if used {
@@ -109,7 +126,7 @@ impl Cart {
             Wrong::LogCountsTo4094 => Ranges { loss: Range { low: 0, high: 4094 }, ..Ranges::ALL },
             _ => Ranges::ALL,
         };
-        let mut q = Question::new(k, a, b, ranges);
+        let mut q = Question::new(k, [a, b, c], ranges);
         let steps = q.search(&self.held, wrong);
         self.slots[slot] = Some(q);
         let item = self.item;
@@ -155,23 +172,24 @@ impl Cart {
         match self.bus.hear(time, le(&frame[..4]), &frame[4..], self.wrong) {
             Heard::Refused(code) => self.refuse(code),
             Heard::Kept => {}
-            Heard::Report(r) => self.enter(r.loss, r.shake),
+            Heard::Report(r) => self.enter(r.loss, r.shake, r.heat),
         }
     }
 
-    fn enter(&mut self, loss: i32, shake: i32) {
+    fn enter(&mut self, loss: i32, shake: i32, heat: Option<u16>) {
         let wrong = self.wrong;
         if self.entered == MOST_REPORTS {
             return self.refuse(11);
         }
         let most = self.size.unwrap_or(1);
         self.entered += 1;
-        let new = Report { number: self.entered, loss, shake };
+        let new = Report { number: self.entered, loss, shake, heat };
         let mut gone = None;
         if wrong == Wrong::DropBeforeAdd && self.held.len() == most {
             gone = self.held.pop_front();
         }
-        self.held.push_back(new);
+        let kept = if wrong == Wrong::HeldWithoutHeat { None } else { heat };
+        self.held.push_back(Report { heat: kept, ..new });
         if wrong != Wrong::DropBeforeAdd {
             self.offer(&new);
             if self.held.len() > most {
@@ -212,9 +230,10 @@ impl Cart {
     }
 }
 
-fn known(tag: u8, length: usize) -> bool {
-    let lengths = [(16, 2), (17, 6), (18, 12), (19, 1), (20, 1), (21, 16)];
-    lengths.contains(&(tag, length))
+fn known(tag: u8, length: usize, wrong: Wrong) -> bool {
+    let lengths = [(16, 2), (17, 6), (18, 12), (19, 1), (20, 1), (21, 16), (22, 8)];
+    let either = wrong == Wrong::EitherTagOfAQuestion && [(17, 8), (22, 6)].contains(&(tag, length));
+    lengths.contains(&(tag, length)) || either
 }
 
 fn signed(two: &[u8]) -> i32 {

@@ -48,6 +48,9 @@ pub fn all() -> Vec<Case> {
     item_refusals(&mut out);
     times(&mut out);
     other_frames_with_times(&mut out);
+    heats(&mut out);
+    heat_in_payloads(&mut out);
+    heat_weights(&mut out);
     out
 }
 
@@ -147,9 +150,12 @@ fn announcement_refusals(all: &mut Vec<Case>) {
     refused("7: size 9", announcement(5, 9, 2, 65300), 7);
     refused("7: size 16", announcement(5, 16, 3, 65300), 7);
     refused("7: size 19", announcement(5, 19, 3, 65300), 7);
-    refused("7: size 85, count 13", announcement(5, 85, 13, 65300), 7);
-    let opens = [announcement(5, 84, 12, 65300), packet(5, 2, &[])];
-    case(all, "size 84, count 12 opens", &after_window(&opens), "R 3 9\n");
+    refused("7: size 90, count 13", announcement(5, 90, 13, 65300), 7);
+    refused("7: size 91, count 13", announcement(5, 91, 13, 65300), 7);
+    for (size, count) in [(17, 3), (20, 3), (22, 4), (24, 4), (84, 12), (85, 13), (89, 13)] {
+        let opens = [announcement(5, size, count, 65300), packet(5, 2, &[])];
+        case(all, &format!("size {}, count {} opens", size, count), &after_window(&opens), "R 3 9\n");
+    }
 }
 
 fn payload_refusals(all: &mut Vec<Case>) {
@@ -165,18 +171,18 @@ fn payload_refusals(all: &mut Vec<Case>) {
         };
         case(all, name, &items, &format!("S 2 0 256\n{}", text));
     };
-    sent("loss and shake 4095", payload(4095, 4095, 0, None), None);
-    sent("10: loss 4096", payload(4096, 0, 0, None), Some(10));
-    sent("10: shake 4096", payload(0, 4096, 0, None), Some(10));
+    sent("loss and shake 4095", payload(4095, 4095, 0, None, None), None);
+    sent("10: loss 4096", payload(4096, 0, 0, None, None), Some(10));
+    sent("10: shake 4096", payload(0, 4096, 0, None, None), Some(10));
     for length in 0..65 {
-        sent(&format!("note of {} bytes", length), payload(9, 8, u32::MAX, Some(&vec![255; length])), None);
+        sent(&format!("note of {} bytes", length), payload(9, 8, u32::MAX, None, Some(&vec![255; length])), None);
     }
     for at in [0, 1, 2, 5, 6, 7, 10, 11, 12, 17, 18, 19].iter() {
-        let mut p = payload(9, 8, 7, Some(&[1, 2, 3]));
+        let mut p = payload(9, 8, 7, None, Some(&[1, 2, 3]));
         p[*at] ^= 1;
         sent(&format!("10: byte {} of the payload changed", at), p, Some(10));
     }
-    let mut long = payload(9, 8, 7, Some(&[1, 2, 3]));
+    let mut long = payload(9, 8, 7, None, Some(&[1, 2, 3]));
     long.push(0);
     sent("10: a byte behind the note", long, Some(10));
 }
@@ -209,6 +215,7 @@ fn call_refusals(all: &mut Vec<Case>) {
 fn item_refusals(all: &mut Vec<Case>) {
     let kinds = [
         set(0, 1, 1, 1),
+        set_heat(0, 1, 1, 1, 1),
         report(5, 1, 2)[0].clone(),
         at(7, &report(5, 1, 2)[0]),
         remove(0),
@@ -227,16 +234,17 @@ fn item_refusals(all: &mut Vec<Case>) {
     for n in 1..5 {
         case(all, &format!("21: window, {} of 5 bytes", n), &[window(3)[..n].to_vec()], "R 1 21\n");
     }
-    for tag in [0, 1, 4, 15, 22, 255].iter() {
+    for tag in [0, 1, 4, 5, 15, 23, 255].iter() {
         case(all, &format!("22: tag {}", tag), &[item(*tag, &[3, 0]), window(3)], "R 1 22\n");
     }
-    for (tag, right) in [(16, 2), (17, 6), (18, 12), (19, 1), (20, 1), (21, 16)].iter() {
-        for length in [0, 1, 2, 5, 6, 7, 11, 12, 13, 15, 16, 17, 255, 256, 258, 4096, 65535].iter().filter(|l| *l != right) {
+    for (tag, right) in [(16, 2), (17, 6), (18, 12), (19, 1), (20, 1), (21, 16), (22, 8)].iter() {
+        for length in [0, 1, 2, 5, 6, 7, 8, 9, 11, 12, 13, 15, 16, 17, 255, 256, 258, 4096, 65535].iter().filter(|l| *l != right) {
             let name = format!("22: tag {}, length {}", tag, length);
             case(all, &name, &[item(*tag, &vec![0; *length]), window(3), window(3)], "R 1 22\nR 3 23\n");
         }
     }
-    for early in [set(40, 1, 1, 1), report(5, 1, 2)[0].clone(), at(7, &report(5, 1, 2)[0]), remove(40), show(40)].iter() {
+    let frame = report(5, 1, 2)[0].clone();
+    for early in [set(40, 1, 1, 1), set_heat(40, 1, 1, 1, 1), frame.clone(), at(7, &frame), remove(40), show(40)].iter() {
         case(all, &format!("23: tag {} with no window", early[0]), &[early.clone(), window(1)], "R 1 23\n");
     }
     case(all, "23: a second window, of any N", &[window(1), window(1), window(0), window(1025)], "R 2 23\nR 3 23\nR 4 23\n");
@@ -309,4 +317,115 @@ fn other_frames_with_times(all: &mut Vec<Case>) {
     let other = report(9, 8, 0);
     let two = [at(MOST, &good[0]), at(0, &other[0]), at(MOST, &good[1]), at(750, &other[1]), at(750, &other[2]), at(1500, &other[3])];
     run("each sender has its own time", &[&two, &whole(MOST)[2..]], "Q 0 2 2:9 1:8\n");
+}
+
+/// Reports with a heat and without, and the questions for which they count (docs/RULES.md, section 17).
+fn heats(all: &mut Vec<Case>) {
+    let four = [heated(5, 100, 0, 3000), report(5, 4095, 0), heated(9, 200, 7, 2900), heated(9, 300, 0, 0)].concat();
+    let mut asked = |name: &str, question: Item, text: &str| {
+        let items = [vec![window(4)], four.clone(), vec![question, show(0)]].concat();
+        case(all, name, &items, text);
+    };
+    // frames of 5, 4, 5 and 5 items behind the window: the question is item 21
+    asked("c 0, tag 17: heat makes no difference", set(0, 4, 1, 0), "S 21 0 256\nQ 0 4 2:4095 4:300 3:200 1:100\n");
+    asked("c 0, tag 22: the same", set_heat(0, 4, 1, 0, 0), "S 21 0 256\nQ 0 4 2:4095 4:300 3:200 1:100\n");
+    asked("1, 0, 1: the one without heat doesn't count", set_heat(0, 4, 1, 0, 1), "S 21 0 256\nQ 0 3 3:3100 1:3100 4:300\n");
+    // column x can reach 256 x + 255 + 4095: all 256 cells lie above 3100
+    asked("1, 0, 1, the best alone: heat's better end is 4095", set_heat(0, 1, 1, 0, 1), "S 21 0 256\nQ 0 1 3:3100\n");
+    // the best is 300 of report 4, and column x can reach 256 x + 255: columns 15 to 1 are taken
+    asked("1, 0, -1: heat's better end is 0", set_heat(0, 1, 1, 0, -1), "S 21 0 240\nQ 0 1 4:300\n");
+    asked("0, 0, -1", set_heat(0, 2, 0, 0, -1), "S 21 0 256\nQ 0 2 4:0 3:-2900\n");
+    asked("0, 0, 1", set_heat(0, 2, 0, 0, 1), "S 21 0 256\nQ 0 2 1:3000 3:2900\n");
+    let edges = [heated(5, 4095, 4095, 4095), heated(5, 0, 0, 4095), heated(5, 4095, 4095, 0)].concat();
+    let far = |a: i32, b: i32, c: i32| [vec![window(3)], edges.clone(), vec![set_heat(0, 3, a, b, c), show(0)]].concat();
+    case(all, "the greatest scores", &far(1000, 1000, 1000), "S 17 0 256\nQ 0 3 1:12285000 3:8190000 2:4095000\n");
+    case(all, "the least scores", &far(-1000, -1000, -1000), "S 17 0 256\nQ 0 3 2:-4095000 3:-8190000 1:-12285000\n");
+    // any other cell stays below the score in cell 255
+    let best = [vec![window(3)], edges.clone(), vec![set_heat(0, 1, 1, 2, 3), set_heat(1, 1, 1, 2, -3)]].concat();
+    case(all, "one cell alone reaches the best score", &best, "S 17 0 1\nS 18 1 1\n");
+    leaving_heats(all);
+}
+
+/// Listed reports leave, and what is searched then has its heat still.
+fn leaving_heats(all: &mut Vec<Case>) {
+    let ask = |c: i32, values: &[Vec<Item>]| [vec![window(2), set_heat(0, 1, 1, 1, c)], values.concat(), vec![show(0)]].concat();
+    // 5 frames each with a heat, 4 without: the third report's last frame is item 17
+    let p9 = ask(1, &[heated(5, 10, 10, 5), heated(5, 5, 5, 3), heated(5, 1, 1, 1)]);
+    case(all, "P9 with heats: the row kept them", &p9, "S 2 0 256\nS 17 0 256\nQ 0 1 2:13\n");
+    let mixed = ask(1, &[heated(5, 10, 10, 5), report(5, 5, 5), heated(5, 1, 1, 1)]);
+    case(all, "P9 with one that doesn't count", &mixed, "S 2 0 256\nS 16 0 256\nQ 0 1 3:3\n");
+    let none = ask(-1, &[heated(5, 10, 10, 5), report(5, 5, 5), report(5, 1, 1)]);
+    case(all, "the last one that counts leaves", &none, "S 2 0 256\nS 15 0 256\nQ 0 0\n");
+    let plain = ask(0, &[heated(5, 10, 10, 5), report(5, 5, 5), heated(5, 1, 1, 4095)]);
+    case(all, "P9 with c 0, whatever heats are held", &plain, "S 2 0 256\nS 16 0 256\nQ 0 1 2:10\n");
+}
+
+/// Payloads of the second edition, and of neither.
+fn heat_in_payloads(all: &mut Vec<Case>) {
+    let mut sent = |name: &str, p: Vec<u8>, text: &str| {
+        let mut items = vec![window(3), set_heat(0, 1, 0, 0, 1), set(1, 1, 1, 0)];
+        items.extend(carry(5, &p));
+        let last = items.len();
+        items.extend([show(0), show(1), packet(5, 1, &[])]);
+        let text = if text.is_empty() { format!("R {} 10\nQ 0 0\nQ 1 0\n", last) } else { text.to_string() };
+        case(all, name, &items, &format!("S 2 0 256\nS 3 1 256\n{}R {} 8\n", text, last + 3));
+    };
+    for heat in [0, 1, 255, 256, 4094, 4095] {
+        sent(&format!("heat {}", heat), payload(9, 8, 7, Some(heat), None), &format!("Q 0 1 1:{}\nQ 1 1 1:9\n", heat));
+    }
+    for heat in [4096, 4097, 8191, 65535] {
+        sent(&format!("10: heat {}", heat), payload(9, 8, 7, Some(heat), None), "");
+    }
+    for length in 0..65 {
+        let p = payload(9, 8, 7, Some(11), Some(&vec![5; length]));
+        sent(&format!("heat and a note of {} bytes, {} in all", length, p.len()), p, "Q 0 1 1:11\nQ 1 1 1:9\n");
+    }
+    sent("10: 65 bytes of note, without a heat: 85 in all", payload(9, 8, 7, None, Some(&[1; 65])), "");
+    sent("size 22, a note of 2 bytes", payload(9, 8, 7, None, Some(&[1, 2])), "Q 0 0\nQ 1 1 1:9\n");
+    sent("size 22, a heat", payload(9, 8, 7, Some(513), None), "Q 0 1 1:513\nQ 1 1 1:9\n");
+    sent("a note that looks like a heat", payload(9, 8, 7, None, Some(&[5, 2, 0, 1, 0])), "Q 0 0\nQ 1 1 1:9\n");
+    for (size, behind) in [(23, 4), (24, 4), (24, 0), (26, 0), (89, 0)] {
+        let mut p = payload(9, 8, 7, Some(11), None);
+        p.resize(size, behind);
+        sent(&format!("10: size {} with tag 5, {}s behind the heat", size, behind), p, "");
+    }
+    for length in [1, 2, 3, 4] {
+        let p = [payload(9, 8, 7, None, None), item(5, &vec![0; length])].concat();
+        if length != 2 {
+            sent(&format!("10: a heat of {} bytes", length), p, "");
+        }
+    }
+    let note = item(4, &[1, 2, 3]);
+    sent("10: the heat behind the note", [payload(9, 8, 7, None, Some(&[1, 2, 3])), item(5, &[1, 0])].concat(), "");
+    sent("10: the heat twice", [payload(9, 8, 7, Some(1), None), item(5, &[1, 0])].concat(), "");
+    sent("10: the note twice", [payload(9, 8, 7, Some(1), Some(&[])), note.clone()].concat(), "");
+    let before = [item(1, &[9, 0]), item(2, &[8, 0]), item(5, &[1, 0]), item(3, &[7, 0, 0, 0])].concat();
+    sent("10: the heat before the own number", before, "");
+    for at in [17, 18, 19, 22, 23, 24] {
+        let mut p = payload(9, 8, 7, Some(11), Some(&[1, 2, 3]));
+        p[at] ^= 1;
+        sent(&format!("10: byte {} of a payload with a heat changed", at), p, "");
+    }
+}
+
+/// The weight for heat, and tag 22 in a log.
+fn heat_weights(all: &mut Vec<Case>) {
+    let one = |i: Item| after_window(&[i]);
+    for c in [-32768, -1001, 1001, 32767] {
+        case(all, &format!("15: c {}", c), &one(set_heat(31, 16, 0, 0, c)), "R 2 15\n");
+    }
+    for c in [-1000, -1, 0, 1, 1000] {
+        case(all, &format!("c {}", c), &one(set_heat(31, 16, 0, 0, c)), "S 2 31 256\n");
+    }
+    case(
+        all,
+        "13 and 14 before 15, tag 22",
+        &after_window(&[set_heat(32, 0, 0, 0, 1001), set_heat(31, 17, 0, 0, 1001)]),
+        "R 2 13\nR 3 14\n",
+    );
+    let twice = after_window(&[set(4, 1, 1, 1), set_heat(4, 1, 1, 1, 1001), set_heat(4, 2, 1, 1, 1), set_heat(5, 2, 1001, 0, 0)]);
+    case(all, "15 before 16, tag 22", &twice, "S 2 4 256\nR 3 15\nR 4 16\nR 5 15\n");
+    let removed = after_window(&[set_heat(4, 1, 0, 0, 1), remove(4), set(4, 1, 0, 0), report(5, 1, 2)[0].clone()]);
+    let removed = [removed, report(5, 1, 2)[1..].to_vec(), vec![show(4)]].concat();
+    case(all, "a slot keeps no weight for heat", &removed, "S 2 4 256\nS 4 4 256\nQ 4 1 1:0\n");
 }

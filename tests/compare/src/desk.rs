@@ -1,10 +1,10 @@
 //! The desk (docs/DESK.md) by the rules: its state, and its answer to a line.
 
-use crate::board::{Board, Row, Slot};
+use crate::board::{Board, Row, Slot, Window};
 use crate::bus::{Bus, Last};
 use crate::joining::{payload, Brought, Heard, Session, BYTES};
-use crate::orders::{read, Order, FORMS};
-use crate::rules::{Entry, Range, Ranges};
+use crate::orders::{read, Order, Said, FORMS};
+use crate::rules::{Entry, Ranges, Report};
 use crate::wrong::Wrong;
 
 #[derive(Clone)]
@@ -20,6 +20,9 @@ fn hex(bytes: &[u8]) -> String {
 
 fn report(r: &Brought) -> String {
     let mut out = format!("report {} {} {}", r.own, r.loss, r.shake);
+    if let Some(heat) = r.heat {
+        out += &format!(" heat {}", heat);
+    }
     if let Some(note) = &r.note {
         out += " note";
         if !note.is_empty() {
@@ -27,6 +30,11 @@ fn report(r: &Brought) -> String {
         }
     }
     out
+}
+
+/// What stands behind a report's numbers where it has a heat.
+fn behind(heat: Option<u16>) -> String {
+    heat.map_or(String::new(), |h| format!(":{}", h))
 }
 
 fn refused(code: u32) -> String {
@@ -60,8 +68,13 @@ impl Desk {
             Order::Numbers(name, n) => self.numbers(name, &n),
             Order::Ranged(name, n, said) => match &mut self.board {
                 None => String::from("no window"),
-                Some(board) if name == "set" => set(board, &n, ranges(said, Ranges::ALL, self.wrong)),
+                Some(board) if name == "set" => set(board, &n, said, self.wrong),
                 Some(board) => poke_slot(board, &n, said, self.wrong),
+            },
+            Order::Heated(name, n, heat) => match &mut self.board {
+                None => String::from("no window"),
+                Some(board) if name == "enter" => enter(board, &n, heat),
+                Some(board) => poke_heated(board, name, &n, heat, self.wrong),
             },
             Order::Frame(id, data, time) => match self.bus.hear(time, id, &data, self.wrong) {
                 Heard::Refused(code) => refused(code),
@@ -103,7 +116,7 @@ impl Desk {
             }
             _ => match &mut self.board {
                 None => String::from("no window"),
-                Some(board) if name.starts_with("poke ") => poke(board, name, n),
+                Some(board) if name == "poke window" => poke_window(&mut board.window, n),
                 Some(board) => call(board, name, n, self.wrong),
             },
         }
@@ -137,29 +150,51 @@ impl Desk {
 }
 
 /// The ranges of loss and shake that are said, and in place of the others those that hold where none is.
-fn ranges([loss, shake]: [Option<Range>; 2], unsaid: Ranges, wrong: Wrong) -> Ranges {
-    let (loss, shake) = if wrong == Wrong::RangesSwapped { (shake, loss) } else { (loss, shake) };
+fn ranges(said: Said, unsaid: Ranges, wrong: Wrong) -> Ranges {
+    let (loss, shake) = if wrong == Wrong::RangesSwapped { (said.shake, said.loss) } else { (said.loss, said.shake) };
     Ranges { loss: loss.unwrap_or(unsaid.loss), shake: shake.unwrap_or(unsaid.shake) }
 }
 
-fn set(board: &mut Board, n: &[i64], ranges: Ranges) -> String {
-    let steps = board.set(n[0] as usize, n[1] as u8, n[2] as i16, n[3] as i16, ranges);
+fn set(board: &mut Board, n: &[i64], said: Said, wrong: Wrong) -> String {
+    let weights = [n[2] as i16, n[3] as i16, said.heat.unwrap_or(0)];
+    let steps = board.set(n[0] as usize, n[1] as u8, weights, ranges(said, Ranges::ALL, wrong));
     steps.map_or_else(refused, |steps| format!("steps {}", steps))
 }
 
-/// A slot's numbers; its lines stay, and so do ranges that aren't said.
-fn poke_slot(board: &mut Board, n: &[i64], said: [Option<Range>; 2], wrong: Wrong) -> String {
+/// A slot's numbers; its lines stay, and so does what isn't said.
+fn poke_slot(board: &mut Board, n: &[i64], said: Said, wrong: Wrong) -> String {
     let slot = &mut board.slots[n[0] as usize];
     let before = if wrong == Wrong::PokeForgetsTheRanges { Ranges::ALL } else { slot.ranges };
+    let weight = if wrong == Wrong::PokeForgetsTheHeatWeight { 0 } else { slot.weights[2] };
     *slot = Slot {
         k: n[1] as u8,
-        a: n[2] as i16,
-        b: n[3] as i16,
+        weights: [n[2] as i16, n[3] as i16, said.heat.unwrap_or(weight)],
         ranges: ranges(said, before, wrong),
         len: n[4] as u8,
         next: n[5] as u16,
         lines: slot.lines,
     };
+    ok(Ok(()))
+}
+
+fn enter(board: &mut Board, n: &[i64], heat: Option<u16>) -> String {
+    board.enter(n[0] as u16, n[1] as u16, heat).map_or_else(refused, |(number, searches)| {
+        let each: Vec<String> = searches.iter().map(|s| format!(" {}:{}", s.0, s.1)).collect();
+        format!("report {}{}", number, each.concat())
+    })
+}
+
+/// A row or a line; a heat that isn't said stays, and so does none.
+fn poke_heated(board: &mut Board, name: &str, n: &[i64], heat: Option<u16>, wrong: Wrong) -> String {
+    let (window, at) = (&mut board.window, n[0] as usize);
+    let kept = |before: Option<u16>| heat.or(before).filter(|_| heat.is_some() || wrong != Wrong::PokeForgetsTheHeat);
+    if name == "poke row" {
+        let heat = kept(window.rows[at].heat);
+        window.rows[at] = Row { number: n[1] as u32, loss: n[2] as u16, shake: n[3] as u16, heat };
+    } else {
+        let line = &mut board.slots[at].lines[n[1] as usize];
+        *line = Entry { number: n[2] as u32, score: n[3] as i32, heat: kept(line.heat) };
+    }
     ok(Ok(()))
 }
 
@@ -169,12 +204,8 @@ fn call(board: &mut Board, name: &str, n: &[i64], wrong: Wrong) -> String {
     match name {
         "remove" => ok(board.remove(slot)),
         "read" => board.read(slot).map_or_else(refused, |list| {
-            let lines: Vec<String> = list.iter().map(|e| format!("{}:{}", e.number, e.score)).collect();
+            let lines: Vec<String> = list.iter().map(|e| format!("{}:{}{}", e.number, e.score, behind(e.heat))).collect();
             listed("list", &lines)
-        }),
-        "enter" => board.enter(n[0] as u16, n[1] as u16).map_or_else(refused, |(number, searches)| {
-            let each: Vec<String> = searches.iter().map(|s| format!(" {}:{}", s.0, s.1)).collect();
-            format!("report {}{}", number, each.concat())
         }),
         "begin" => ok(board.begin(slot)),
         "step" => ok(board.step(slot)),
@@ -186,23 +217,15 @@ fn call(board: &mut Board, name: &str, n: &[i64], wrong: Wrong) -> String {
         }
         _ if !board.window.fit(wrong) => refused(24),
         _ => {
-            let held: Vec<String> = board.window.reports().iter().map(|r| format!("{}:{}:{}", r.number, r.loss, r.shake)).collect();
-            listed("held", &held)
+            let shown = |r: &Report| format!("{}:{}:{}{}", r.number, r.loss, r.shake, behind(r.heat));
+            listed("held", &board.window.reports().iter().map(shown).collect::<Vec<_>>())
         }
     }
 }
 
-/// The lines that store something.
-fn poke(board: &mut Board, name: &str, n: &[i64]) -> String {
-    let (window, at) = (&mut board.window, n[0] as usize);
-    match name {
-        "poke window" => {
-            window.size = n[0] as u16;
-            window.entered = n[1] as u32;
-            window.held = n[2] as u16;
-        }
-        "poke row" => window.rows[at] = Row { number: n[1] as u32, loss: n[2] as u16, shake: n[3] as u16 },
-        _ => board.slots[at].lines[n[1] as usize] = Entry { number: n[2] as u32, score: n[3] as i32 },
-    }
+fn poke_window(window: &mut Window, n: &[i64]) -> String {
+    window.size = n[0] as u16;
+    window.entered = n[1] as u32;
+    window.held = n[2] as u16;
     ok(Ok(()))
 }

@@ -1,5 +1,6 @@
 //! Logs from seeds: good ones, crafted ones and damaged ones. An item is its bytes; a log is its items one after the other.
 
+use crate::heating::Heating;
 use crate::rules::le;
 
 pub type Item = Vec<u8>;
@@ -57,6 +58,13 @@ pub fn set(slot: u8, k: u8, a: i32, b: i32) -> Item {
     item(17, &[slot, k, a[0], a[1], b[0], b[1]])
 }
 
+/// The same with a weight for heat.
+pub fn set_heat(slot: u8, k: u8, a: i32, b: i32, c: i32) -> Item {
+    let mut value = set(slot, k, a, b)[3..].to_vec();
+    value.extend((c as i16).to_le_bytes());
+    item(22, &value)
+}
+
 pub fn frame(identifier: u32, data: &[u8]) -> Item {
     let mut value = identifier.to_le_bytes().to_vec();
     value.extend_from_slice(data);
@@ -104,10 +112,13 @@ pub fn carry(sender: u8, payload: &[u8]) -> Vec<Item> {
     out
 }
 
-pub fn payload(loss: u32, shake: u32, own: u32, note: Option<&[u8]>) -> Vec<u8> {
+pub fn payload(loss: u32, shake: u32, own: u32, heat: Option<u32>, note: Option<&[u8]>) -> Vec<u8> {
     let mut out = item(1, &(loss as u16).to_le_bytes());
     out.extend(item(2, &(shake as u16).to_le_bytes()));
     out.extend(item(3, &own.to_le_bytes()));
+    if let Some(heat) = heat {
+        out.extend(item(5, &(heat as u16).to_le_bytes()));
+    }
     if let Some(text) = note {
         out.extend(item(4, text));
     }
@@ -115,7 +126,11 @@ pub fn payload(loss: u32, shake: u32, own: u32, note: Option<&[u8]>) -> Vec<u8> 
 }
 
 pub fn report(sender: u8, loss: u32, shake: u32) -> Vec<Item> {
-    carry(sender, &payload(loss, shake, 7, None))
+    carry(sender, &payload(loss, shake, 7, None, None))
+}
+
+pub fn heated(sender: u8, loss: u32, shake: u32, heat: u32) -> Vec<Item> {
+    carry(sender, &payload(loss, shake, 7, Some(heat), None))
 }
 
 pub fn bytes(items: &[Item]) -> Vec<u8> {
@@ -143,6 +158,7 @@ const VALUES: [Values; 8] =
 /// A log while it is drawn.
 struct Draw<'a> {
     rng: &'a mut Rng,
+    heating: Heating,
     values: Values,
     drawn: u32,
     slots: u8,
@@ -151,9 +167,10 @@ struct Draw<'a> {
 
 impl<'a> Draw<'a> {
     fn new(rng: &'a mut Rng) -> Draw<'a> {
+        let heating = Heating::new(rng.0, 60);
         let values = rng.pick(&VALUES);
         let slots = rng.pick(&[1, 2, 3, 8, 32]);
-        Draw { rng, values, drawn: 0, slots, out: Vec::new() }
+        Draw { rng, heating, values, drawn: 0, slots, out: Vec::new() }
     }
 
     fn edge(&mut self) -> u32 {
@@ -199,18 +216,24 @@ impl<'a> Draw<'a> {
     fn question(&mut self) {
         let k = if self.rng.chance(50) { self.rng.among(1, 3) } else { self.rng.among(1, 16) };
         let (slot, a, b) = (self.slot(), self.weight(), self.weight());
-        self.out.push(set(slot, k as u8, a, b));
+        let c = self.heating.weight();
+        self.asks(slot, k as u8, a, b, c);
+    }
+
+    /// A question with a weight for heat, or without one.
+    fn asks(&mut self, slot: u8, k: u8, a: i32, b: i32, c: Option<i32>) {
+        self.out.push(c.map_or_else(|| set(slot, k, a, b), |c| set_heat(slot, k, a, b, c)));
     }
 
     fn some_payload(&mut self) -> Vec<u8> {
         let (loss, shake) = self.value();
-        let own = self.rng.next() as u32;
+        let (own, heat) = (self.rng.next() as u32, self.heating.heat());
         if self.rng.chance(60) {
-            return payload(loss, shake, own, None);
+            return payload(loss, shake, own, heat, None);
         }
         let length = if self.rng.chance(30) { self.rng.pick(&[0, 1, 63, 64]) } else { self.rng.below(65) };
         let note: Vec<u8> = (0..length).map(|_| self.rng.byte()).collect();
-        payload(loss, shake, own, Some(&note))
+        payload(loss, shake, own, heat, Some(&note))
     }
 
     /// Frames of several senders, each in its order, in mixed order.
@@ -348,7 +371,8 @@ fn doors(rng: &mut Rng) -> Vec<Item> {
                 let k = d.rng.pick(&[0, 1, 2, 15, 16, 17, 255]);
                 let edges = [-32768, -1001, -1000, -1, 0, 1, 2, 1000, 1001, 32767];
                 let (a, b) = (d.rng.pick(&edges), d.rng.pick(&edges));
-                d.out.push(set(slot, k, a, b));
+                let c = Some(d.heating.pick(&edges)).filter(|_| d.heating.chance(60));
+                d.asks(slot, k, a, b, c);
             }
         }
     }
@@ -381,7 +405,7 @@ fn bus(rng: &mut Rng) -> Vec<Item> {
 
 /// An announcement where every number is at or past an edge, or mostly so.
 pub fn odd_announcement(rng: &mut Rng, sender: u8) -> Item {
-    let size = rng.pick(&[0, 8, 9, 16, 17, 18, 19, 20, 21, 77, 78, 84, 85, 91, 1785, 1786, 65535]);
+    let size = rng.pick(&[0, 8, 9, 16, 17, 18, 19, 20, 21, 22, 24, 77, 78, 84, 85, 89, 90, 91, 1785, 1786, 65535]);
     let right = (size + 6) / 7;
     let count = if rng.chance(70) { right } else { rng.pick(&[0, 1, 2, 3, right + 1, 12, 13, 255]) };
     let group = if rng.chance(70) { 65300 } else { rng.pick(&[0, 65299, 65301, 65300 - 256, 65300 + 65536, 1 << 23]) };
@@ -446,6 +470,7 @@ fn payloads(rng: &mut Rng) -> Vec<Item> {
     for _ in 0..d.rng.among(3, 20) {
         let mut p = d.some_payload();
         match d.rng.below(7) {
+            _ if d.heating.chance(40) => d.heating.broken(&mut p),
             0 => {}
             1 => {
                 let at = d.rng.below(p.len());
@@ -454,16 +479,16 @@ fn payloads(rng: &mut Rng) -> Vec<Item> {
             2 => p[d.rng.pick(&[0, 1, 2, 5, 6, 7, 10, 11, 12])] ^= 1 << d.rng.below(8),
             3 => {
                 let (loss, shake) = (d.rng.pick(&[4095, 4096, 0, 65535]), d.rng.pick(&[4095, 4096, 0, 8191]));
-                p = payload(loss, shake, 0, None);
+                p = payload(loss, shake, 0, None, None);
             }
             4 => {
                 let length = d.rng.pick(&[0, 1, 62, 63, 64, 65, 66]);
                 let note = vec![9; length];
-                p = payload(1, 2, 3, Some(&note));
+                p = payload(1, 2, 3, None, Some(&note));
             }
             5 if p.len() > 19 => p[18] = d.rng.pick(&[0, 1, 64, 65, 255]),
             _ => {
-                let length = d.rng.among(0, 90) as usize;
+                let length = d.rng.among(0, 92) as usize;
                 p.resize(length.max(1), 4);
             }
         }
@@ -497,7 +522,7 @@ fn damaged(rng: &mut Rng, mut items: Vec<Item>) -> Vec<Item> {
             }
             4 => {
                 // another length, with or without as many bytes
-                let length = rng.pick(&[0, 1, 2, 5, 6, 7, 11, 12, 13, 15, 16, 17, 300]);
+                let length = rng.pick(&[0, 1, 2, 5, 6, 7, 8, 9, 11, 12, 13, 15, 16, 17, 300]);
                 if rng.chance(70) {
                     items[at].resize(3 + length, 1);
                 }
@@ -506,7 +531,7 @@ fn damaged(rng: &mut Rng, mut items: Vec<Item>) -> Vec<Item> {
                     items[at][2] = (length / 256) as u8;
                 }
             }
-            5 => items[at][0] = rng.pick(&[0, 1, 4, 15, 16, 17, 18, 19, 20, 21, 22, 255]),
+            5 => items[at][0] = rng.pick(&[0, 1, 4, 15, 16, 17, 18, 19, 20, 21, 22, 23, 255]),
             6 => {
                 let value: Vec<u8> = (0..rng.below(20)).map(|_| rng.byte()).collect();
                 let tag = rng.byte();
@@ -584,6 +609,10 @@ pub fn words(item: &[u8]) -> String {
         (18, 12) => frame_words(le(&v[..4]), &v[4..]),
         (19, 1) => format!("remove slot {}", v[0]),
         (20, 1) => format!("show slot {}", v[0]),
+        (22, 8) => {
+            let [a, b, c] = [signed(&v[2..4]), signed(&v[4..6]), signed(&v[6..8])];
+            format!("question, slot {}, k {}, weights {}, {}, {}", v[0], v[1], a, b, c)
+        }
         (21, 16) => format!("at {}, {}", le(&v[..4]), frame_words(le(&v[4..8]), &v[8..])),
         (tag, length) => format!("tag {}, length {}: {}", tag, length, hex(v)),
     }

@@ -2,7 +2,7 @@
 //! of the reports have times, and the last one too: its last packet is kept, so that a frame before it is refused 26.
 
 use crate::cart::Cart;
-use crate::logs::{at, report, set, show, window, Item};
+use crate::logs::{at, heated, report, set, set_heat, show, window, Item};
 use crate::rules::MOST_REPORTS;
 use crate::wrong::Wrong;
 use std::io::{Read, Write};
@@ -19,10 +19,15 @@ fn peak(process: u32) -> u64 {
     line.split_whitespace().nth(1).and_then(|n| n.parse().ok()).unwrap_or(0)
 }
 
-/// The items around report n: values rise slowly, so that each is listed; one in 5,000 stands out, and is searched for when it leaves.
+/// The items around report n: values rise slowly, so that each is listed; one in 5,000 stands out, and is searched for when it leaves. A
+/// quarter has a heat.
 fn around(n: u32) -> Vec<Item> {
     let (sender, slowly) = ((n % 254) as u8, n / 256);
-    let mut out = if n % 5000 == 0 { report(7, 4095, 4095) } else { report(sender, slowly, 4000 - slowly) };
+    let mut out = match n {
+        _ if n % 5000 == 0 => report(7, 4095, 4095),
+        _ if n % 4 == 1 && n <= MOST_REPORTS => heated(sender, slowly, 4000 - slowly, slowly),
+        _ => report(sender, slowly, 4000 - slowly),
+    };
     if n % 3 == 0 || n > MOST_REPORTS {
         out = out.iter().map(|f| at(n, f)).collect();
     }
@@ -31,13 +36,13 @@ fn around(n: u32) -> Vec<Item> {
         out.push(at(n, &report(sender, 0, 0)[0]));
     }
     if n % 100_000 == 0 || n > MOST_REPORTS {
-        out.extend([show(0), show(5), show(31)]);
+        out.extend([show(0), show(5), show(30), show(31)]);
     }
     out
 }
 
 fn opening() -> Vec<Item> {
-    vec![window(1024), set(0, 1, 2, 1), set(5, 16, 0, -3), set(31, 4, 0, 0)]
+    vec![window(1024), set(0, 1, 2, 1), set(5, 16, 0, -3), set_heat(30, 3, 0, 0, 1), set(31, 4, 0, 0)]
 }
 
 pub fn run(mut command: Command) -> bool {

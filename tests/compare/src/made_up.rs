@@ -1,9 +1,10 @@
 //! Scripts that poke states, fit and unfit, near each edge of each clause, and then make calls on them.
 
-use crate::board::{Slot, Window, LINES, ROWS};
+use crate::board::{Row, Slot, Window, LINES, ROWS};
+use crate::heating::Heating;
 use crate::logs::{carry, identifier, odd_announcement, Rng};
 use crate::ranging::both;
-use crate::rules::{le, Entry, Range, Ranges};
+use crate::rules::{le, Entry, Range, Ranges, Report};
 use crate::scripts::{frame_line, hex, some_payload, Script};
 use crate::wrong::Wrong;
 
@@ -23,7 +24,8 @@ fn window(s: &mut Script, rng: &mut Rng, size: u16, entered: u32, held: u16) {
         if m == entered {
             values[high] = 4096;
         }
-        s.say(format!("poke row {} {} {} {}", counts.row(m).min(ROWS - 1), m, values[0], values[1]));
+        let heat = Heating::words(s.heating.heat());
+        s.say(format!("poke row {} {} {} {}{}", counts.row(m).min(ROWS - 1), m, values[0], values[1], heat));
     }
 }
 
@@ -61,14 +63,17 @@ fn some_slot(s: &mut Script, rng: &mut Rng) -> Slot {
         n if n < 6 => rng.pick(&[-1000, -999, 1000, 17]),
         _ => rng.among(-3, 3) as i16,
     };
-    let mut slot = Slot { k: rng.among(1, most) as u8, a: weight(rng), b: weight(rng), ranges: s.ranges(), ..Slot::fresh() };
+    let weights = [weight(rng), weight(rng), s.heating.any_weight().unwrap_or(0) as i16];
+    let mut slot = Slot { k: rng.among(1, most) as u8, weights, ranges: s.ranges(), ..Slot::fresh() };
     let mut q = slot.asked();
     let order = q.order(Wrong::No);
     let mut steps = if rng.chance(20) { order.len() } else { rng.below(order.len() + 1) };
     let held = s.board().window.reports();
-    if s.ranging.chance(40) {
-        // the next cell has reports
-        let cells: Vec<usize> = (0..order.len()).filter(|&i| held.iter().any(|r| r.cell() == order[i])).collect();
+    let weighed = slot.weights[2] != 0 && s.heating.chance(60);
+    if s.ranging.chance(40) || weighed {
+        // the next cell has reports, and where heat is weighed some that count
+        let some = |cell: usize| held.iter().any(|r| r.cell() == cell && (!weighed || q.entry(r, Wrong::No).is_some()));
+        let cells: Vec<usize> = (0..order.len()).filter(|&i| some(order[i])).collect();
         steps = if cells.is_empty() { steps } else { s.ranging.pick(&cells) };
     }
     let made_up = rng.chance(40);
@@ -78,7 +83,7 @@ fn some_slot(s: &mut Script, rng: &mut Rng) -> Slot {
     q.rank(listed, Wrong::No);
     if made_up {
         q.list.truncate(rng.below(17));
-    } else if rng.chance(70) {
+    } else if rng.chance(70) && !weighed {
         steps = q.search(&held, Wrong::No);
     }
     slot.list(&q.list);
@@ -87,11 +92,22 @@ fn some_slot(s: &mut Script, rng: &mut Rng) -> Slot {
 }
 
 fn slot_line(at: usize, s: &Slot) -> String {
-    format!("poke slot {} {} {} {} {} {}{}", at, s.k, s.a, s.b, s.len, s.next, both(s.ranges))
+    let [a, b, c] = s.weights;
+    format!("poke slot {} {} {} {} {} {} heat {}{}", at, s.k, a, b, s.len, s.next, c, both(s.ranges))
 }
 
+/// The greatest number that a row or a line has room for.
+const MOST_NUMBER: u32 = 1_048_319;
+
+/// Where it has no heat, one that the line had stays.
 fn line_line(at: usize, place: usize, e: &Entry) -> String {
-    format!("poke line {} {} {} {}", at, place, e.number, e.score)
+    let heat = Heating::words(e.heat.map(u32::from));
+    format!("poke line {} {} {} {}{}", at, place, e.number.min(MOST_NUMBER), e.score, heat)
+}
+
+fn row_line(at: usize, r: &Row) -> String {
+    let heat = Heating::words(r.heat.map(u32::from));
+    format!("poke row {} {} {} {}{}", at, r.number.min(MOST_NUMBER), r.loss, r.shake, heat)
 }
 
 /// Makes one slot of another: its numbers, and of its lines those that are others than before.
@@ -113,6 +129,7 @@ fn store(s: &mut Script, at: usize, slot: &Slot) {
 fn damage(s: &mut Script, rng: &mut Rng, at: usize) -> Vec<String> {
     let (said, back) = match rng.below(14) {
         _ if s.ranging.chance(40) => ranges_damaged(s, at),
+        _ if s.heating.chance(45) => heat_damaged(s, at),
         0 | 1 | 2 => counts_damaged(s, rng),
         3 | 4 | 5 => row_damaged(s, rng),
         6 | 7 | 8 | 9 => slot_damaged(s, rng, at),
@@ -141,23 +158,56 @@ fn row_damaged(s: &Script, rng: &mut Rng) -> (Vec<String>, Vec<String>) {
     let w = s.board().window;
     let rows = usize::from(w.size).max(1).min(ROWS);
     let at = if rng.chance(70) { rng.below(rows) } else { rng.pick(&[rows.min(ROWS - 1), ROWS - 1, rng.0 as usize % ROWS]) };
-    let line = |at: usize, number: u32, loss: u16, shake: u16| format!("poke row {} {} {} {}", at, number, loss, shake);
     let old = w.rows[at];
-    let back = line(at, old.number, old.loss, old.shake);
-    let (mut number, mut loss, mut shake) = (old.number, old.loss, old.shake);
+    let mut new = old;
     match rng.below(4) {
-        0 => loss = rng.pick(&[0, 1, 4095, 4096, 65535]),
-        1 => shake = rng.pick(&[0, 1, 4095, 4096, 65535]),
-        2 => number = number.wrapping_add(rng.pick(&[1, u32::MAX, 1024])),
+        0 => new.loss = rng.pick(&[0, 1, 4095, 4096, 65535]),
+        1 => new.shake = rng.pick(&[0, 1, 4095, 4096, 65535]),
+        2 => new.number = new.number.wrapping_add(rng.pick(&[1, u32::MAX, 1024])),
         _ => {
             // two rows change places
             let other = rng.below(rows);
             let o = w.rows[other];
-            let said = vec![line(at, o.number, o.loss, o.shake), line(other, number, loss, shake)];
-            return (said, vec![back, line(other, o.number, o.loss, o.shake)]);
+            return (vec![row_line(at, &o), row_line(other, &old)], vec![row_line(at, &old), row_line(other, &o)]);
         }
     }
-    (vec![line(at, number, loss, shake)], vec![back])
+    (vec![row_line(at, &new)], vec![row_line(at, &old)])
+}
+
+/// A heat or a weight for it that is unfit, or another than before. What has had none can't be put back.
+fn heat_damaged(s: &mut Script, at: usize) -> (Vec<String>, Vec<String>) {
+    let (w, old) = (s.board().window, s.board().slots[at].clone());
+    let (rows, len) = (usize::from(w.size).max(1).min(ROWS), old.listed().len());
+    let heat = Some(s.heating.pick(&[0, 0, 1, 4094, 4095]));
+    let with = |c: i16| Slot { weights: [old.weights[0], old.weights[1], c], ..old.clone() };
+    let lined = |place: usize| {
+        let line = old.lines[place];
+        (vec![line_line(at, place, &Entry { heat, ..line })], vec![line_line(at, place, &line)])
+    };
+    let slots = |new: &Slot| (made_of(at, &old, new), made_of(at, new, &old));
+    match s.heating.below(12) {
+        0 => slots(&with(s.heating.pick(&[-32768, -1001, -1001, 1001, 1001, 32767]))),
+        1 => slots(&with(s.heating.pick(&[-1000, -1, 0, 1, 1000]))),
+        2 => slots(&Slot { weights: [0, 0, s.heating.pick(&[-1, 1, 1000])], ..Slot::fresh() }),
+        // an empty slot whose line has a heat
+        3 => {
+            let (said, back) = slots(&Slot::fresh());
+            let line = format!("poke line {} {} 0 0 heat {}", at, s.heating.pick(&[0, 15]), s.heating.pick(&[0, 1, 4095]));
+            (said.into_iter().chain([line]).collect(), back)
+        }
+        4 => slots(&uncounted_listed(s, &old)),
+        5 | 6 if len > 0 => lined(s.heating.below(len)),
+        5 | 6 | 7 => lined(s.heating.pick(&[len.min(LINES - 1), LINES - 1])),
+        // the heat of a listed report is another in its row
+        8 | 9 if len > 0 => {
+            let row = w.row(old.lines[s.heating.below(len)].number).min(ROWS - 1);
+            (vec![row_line(row, &Row { heat, ..w.rows[row] })], vec![row_line(row, &w.rows[row])])
+        }
+        _ => {
+            let row = s.heating.pick(&[0, rows - 1, rows.min(ROWS - 1), ROWS - 1]);
+            (vec![row_line(row, &Row { heat, ..w.rows[row] })], vec![row_line(row, &w.rows[row])])
+        }
+    }
 }
 
 fn slot_damaged(s: &Script, rng: &mut Rng, at: usize) -> (Vec<String>, Vec<String>) {
@@ -165,15 +215,14 @@ fn slot_damaged(s: &Script, rng: &mut Rng, at: usize) -> (Vec<String>, Vec<Strin
     let mut new = old.clone();
     match rng.below(7) {
         0 | 1 => new.k = rng.pick(&[0, 0, 1, 2, 16, 17, 17, 255, old.len.wrapping_sub(1)]),
-        2 => new.a = rng.pick(&[-32768, -1001, -1000, 0, 1, 1000, 1001]),
-        3 => new.b = rng.pick(&[-1001, -1000, 0, 1, 1000, 1001, 32767]),
+        2 => new.weights[0] = rng.pick(&[-32768, -1001, -1000, 0, 1, 1000, 1001]),
+        3 => new.weights[1] = rng.pick(&[-1001, -1000, 0, 1, 1000, 1001, 32767]),
         4 => new.len = rng.pick(&[0, 1, old.len.wrapping_add(1), old.len.wrapping_sub(1), 16, 17, 255]),
         5 => new.next = rng.pick(&[0, 1, 255, 256, 257, 257, 65535]),
         _ => {
             new = Slot {
                 k: 0,
-                a: rng.pick(&[0, 0, 1]),
-                b: rng.pick(&[0, 0, -1]),
+                weights: [rng.pick(&[0, 0, 1]), rng.pick(&[0, 0, -1]), 0],
                 len: rng.pick(&[0, 0, 1]),
                 next: rng.pick(&[0, 0, 1]),
                 ranges: Ranges::default(),
@@ -212,8 +261,8 @@ fn ranges_damaged(s: &mut Script, at: usize) -> (Vec<String>, Vec<String>) {
 fn uncounted_listed(s: &mut Script, old: &Slot) -> Slot {
     let (mut q, mut new) = (old.asked(), old.clone());
     let held = s.board().window.reports();
-    let uncounted: Vec<Entry> =
-        held.iter().filter(|r| q.entry(r, Wrong::No).is_none()).map(|r| Entry { number: r.number, score: q.score(r, Wrong::No) }).collect();
+    let listed_all_the_same = |r: &Report| Entry { number: r.number, score: q.score(r, Wrong::No), heat: r.heat };
+    let uncounted: Vec<Entry> = held.iter().filter(|r| q.entry(r, Wrong::No).is_none()).map(listed_all_the_same).collect();
     let mut listed = old.listed().to_vec();
     if !uncounted.is_empty() {
         listed.push(s.ranging.pick(&uncounted));
@@ -258,7 +307,7 @@ fn lines_damaged(s: &Script, rng: &mut Rng, at: usize) -> (Vec<String>, Vec<Stri
             // one that left the window, or is in no row yet
             let end = len.min(LINES - 1);
             let number = rng.pick(&[entered.wrapping_add(1), entered.wrapping_sub(u32::from(s.board().window.held)), 0]);
-            said.push(line_line(at, end, &Entry { number, score: lines[end.max(1) - 1].score }));
+            said.push(line_line(at, end, &Entry { number, ..lines[end.max(1) - 1] }));
             said.push(slot_line(at, &Slot { len: end as u8 + 1, ..slot.clone() }));
             back = vec![line_line(at, end, &lines[end]), slot_line(at, &slot)];
         }
@@ -363,8 +412,25 @@ pub fn large(s: &mut Script, rng: &mut Rng) {
         store(s, at, &slot);
         let back = if rng.chance(65) { damage(s, rng, at) } else { Vec::new() };
         calls(s, rng, at, back);
+        cleared(s, at);
         store(s, at, &before);
     }
+}
+
+/// Takes the heats off a slot's lines, which no poke does: it lists as many of the held reports that have one, and is begun anew.
+fn cleared(s: &mut Script, at: usize) {
+    let board = s.board();
+    let count = (0..LINES).rev().find(|&p| board.slots[at].lines[p].heat.is_some()).map_or(0, |p| p + 1);
+    let mut held: Vec<Report> = board.window.reports().into_iter().filter(|r| r.heat.is_some()).collect();
+    if count == 0 || held.len() < count {
+        return;
+    }
+    held.reverse();
+    let mut slot = Slot { k: LINES as u8, ranges: Ranges::ALL, next: 256, ..Slot::fresh() };
+    let list: Vec<Entry> = held[..count].iter().map(|r| Entry { number: r.number, score: 0, heat: r.heat }).collect();
+    slot.list(&list);
+    store(s, at, &slot);
+    s.say(format!("begin {}", at));
 }
 
 // ---- sessions
@@ -373,7 +439,7 @@ pub fn large(s: &mut Script, rng: &mut Rng) {
 pub fn session(s: &mut Script, rng: &mut Rng) {
     s.say(String::from("window 1"));
     let sender = rng.pick(&[0, 1, 5, 100, 252, 253]);
-    let mut p = some_payload(rng);
+    let mut p = some_payload(s, rng);
     if p.is_empty() {
         p.push(1);
     }
@@ -386,7 +452,7 @@ pub fn session(s: &mut Script, rng: &mut Rng) {
     }
     if rng.chance(45) {
         let at = rng.below(3);
-        numbers[at] = rng.pick(&[0, 0, 1, 2, 3, 12, 13, 17, 18, 19, 20, 84, 85, 255, (numbers[at] + 1) % 256]);
+        numbers[at] = rng.pick(&[0, 0, 1, 2, 3, 12, 13, 17, 18, 19, 20, 84, 85, 89, 90, 255, (numbers[at] + 1) % 256]);
     }
     let time = poked_time(s, sender);
     s.say(format!("poke session {} {} {} {}{}", sender, numbers[0] % 256, numbers[1], numbers[2], time));
@@ -425,7 +491,7 @@ fn poked_time(s: &mut Script, sender: u8) -> String {
 
 /// The part of the payload that has come already, and bytes that nobody sent.
 fn poke_bytes(s: &mut Script, rng: &mut Rng, sender: u8, p: &[u8], come: usize) {
-    for (place, value) in p.iter().take(come.min(84)).enumerate() {
+    for (place, value) in p.iter().take(come.min(89)).enumerate() {
         s.say(format!("poke byte {} {} {}", sender, place, value));
     }
     if rng.chance(30) {
@@ -434,8 +500,14 @@ fn poke_bytes(s: &mut Script, rng: &mut Rng, sender: u8, p: &[u8], come: usize) 
             s.say(format!("poke byte {} {} {}", sender, place, value));
         }
     }
+    if s.heating.chance(if p.len() == 17 { 70 } else { 10 }) {
+        // what looks like a heat behind one without it
+        for (place, value) in [(17, 5), (18, 2), (19, 0), (20, s.heating.below(256)), (21, 0)].iter().filter(|b| b.0 >= come) {
+            s.say(format!("poke byte {} {} {}", sender, place, value));
+        }
+    }
     for _ in 0..rng.below(4) {
-        let place = rng.pick(&[16, 17, 20, 82, 83, rng.0 as usize % 84]);
+        let place = rng.pick(&[16, 17, 20, 83, 84, 87, 88, rng.0 as usize % 89]);
         if place >= come {
             s.say(format!("poke byte {} {} {}", sender, place, rng.below(256)));
         }

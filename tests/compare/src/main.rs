@@ -6,6 +6,7 @@ mod cart;
 mod cases;
 mod clocks;
 mod desk;
+mod heating;
 mod joining;
 mod logs;
 mod long;

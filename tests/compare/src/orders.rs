@@ -8,12 +8,22 @@ pub enum Order {
     Wrong(String),
     /// A line of numbers, by its first word, or its first two where that is `poke`; a time that may be said comes last.
     Numbers(&'static str, Vec<i64>),
-    /// The same where ranges may be said: those of loss and shake that are.
-    Ranged(&'static str, Vec<i64>, [Option<Range>; 2]),
+    /// The same where a weight for heat and ranges may be said.
+    Ranged(&'static str, Vec<i64>, Said),
+    /// The same where a report's heat may be said.
+    Heated(&'static str, Vec<i64>, Option<u16>),
     /// Identifier, data, and the time where one is said.
     Frame(u32, Vec<u8>, Option<u32>),
     Payload(Vec<u8>),
     Write(Sending),
+}
+
+/// What is said of a question behind its numbers.
+#[derive(Clone, Copy, Default)]
+pub struct Said {
+    pub heat: Option<i16>,
+    pub loss: Option<Range>,
+    pub shake: Option<Range>,
 }
 
 pub struct Form {
@@ -33,6 +43,10 @@ const SIGNED: (i64, i64) = (-32768, 32767);
 const LONG: (i64, i64) = (0, 4294967295);
 const SLOT: (i64, i64) = (0, 31);
 const SENDER: (i64, i64) = (0, 253);
+const HEAT: (i64, i64) = (0, 4095);
+
+/// The numbers that a row or a line has room for, each with any heat or none in 32 bits.
+const NUMBER: (i64, i64) = (0, 1048319);
 
 /// All lines, in the order of the page.
 pub const FORMS: [Form; 22] = [
@@ -40,11 +54,11 @@ pub const FORMS: [Form; 22] = [
     form(
         "set",
         &[BYTE, BYTE, SIGNED, SIGNED],
-        " SLOT K A B [loss LOW HIGH] [shake LOW HIGH]; SLOT and K are 0 to 255, A and B -32768 to 32767, LOW and HIGH 0 to 65535",
+        " SLOT K A B [heat C] [loss LOW HIGH] [shake LOW HIGH]; SLOT and K are 0 to 255, A, B and C -32768 to 32767, LOW and HIGH 0 to 65535",
     ),
     form("remove", &[BYTE], " SLOT; SLOT is 0 to 255"),
     form("read", &[BYTE], " SLOT; SLOT is 0 to 255"),
-    form("enter", &[SHORT, SHORT], " LOSS SHAKE; each is 0 to 65535"),
+    form("enter", &[SHORT, SHORT], " LOSS SHAKE [heat H]; each is 0 to 65535"),
     form("begin", &[SLOT], " SLOT; SLOT is 0 to 31"),
     form("step", &[SLOT], " SLOT; SLOT is 0 to 31"),
     form("marks", &[SLOT], " SLOT; SLOT is 0 to 31"),
@@ -56,26 +70,30 @@ pub const FORMS: [Form; 22] = [
     form(
         "write",
         &[BYTE, SHORT, SHORT, LONG],
-        " SENDER LOSS SHAKE OWN [note BYTES] [room N]; SENDER is 0 to 255, LOSS and SHAKE 0 to 65535, OWN and N 0 to 4294967295, BYTES an even number of hexadecimal digits",
+        " SENDER LOSS SHAKE OWN [heat H] [note BYTES] [room N]; SENDER is 0 to 255, LOSS, SHAKE and H 0 to 65535, OWN and N 0 to 4294967295, BYTES an even number of hexadecimal digits",
     ),
     form("poke window", &[SHORT, LONG, SHORT], " SIZE ENTERED HELD; SIZE and HELD are 0 to 65535, ENTERED 0 to 4294967295"),
-    form("poke row", &[(0, 1023), LONG, SHORT, SHORT], " ROW NUMBER LOSS SHAKE; ROW is 0 to 1023, NUMBER 0 to 4294967295, LOSS and SHAKE 0 to 65535"),
+    form(
+        "poke row",
+        &[(0, 1023), NUMBER, SHORT, SHORT],
+        " ROW NUMBER LOSS SHAKE [heat H]; ROW is 0 to 1023, NUMBER 0 to 1048319, LOSS and SHAKE 0 to 65535, H 0 to 4095",
+    ),
     form(
         "poke slot",
         &[SLOT, BYTE, SIGNED, SIGNED, BYTE, SHORT],
-        " SLOT K A B LEN NEXT [loss LOW HIGH] [shake LOW HIGH]; SLOT is 0 to 31, K and LEN 0 to 255, A and B -32768 to 32767, NEXT, LOW and HIGH 0 to 65535",
+        " SLOT K A B LEN NEXT [heat C] [loss LOW HIGH] [shake LOW HIGH]; SLOT is 0 to 31, K and LEN 0 to 255, A, B and C -32768 to 32767, NEXT, LOW and HIGH 0 to 65535",
     ),
     form(
         "poke line",
-        &[SLOT, (0, 15), LONG, (-2147483648, 2147483647)],
-        " SLOT PLACE NUMBER SCORE; SLOT is 0 to 31, PLACE 0 to 15, NUMBER 0 to 4294967295, SCORE -2147483648 to 2147483647",
+        &[SLOT, (0, 15), NUMBER, (-2147483648, 2147483647)],
+        " SLOT PLACE NUMBER SCORE [heat H]; SLOT is 0 to 31, PLACE 0 to 15, NUMBER 0 to 1048319, SCORE -2147483648 to 2147483647, H 0 to 4095",
     ),
     form(
         "poke session",
         &[SENDER, BYTE, BYTE, BYTE],
         " SENDER SIZE COUNT NEXT [at MS]; SENDER is 0 to 253, MS 0 to 4294967295, the others 0 to 255",
     ),
-    form("poke byte", &[SENDER, (0, 83), BYTE], " SENDER PLACE VALUE; SENDER is 0 to 253, PLACE 0 to 83, VALUE 0 to 255"),
+    form("poke byte", &[SENDER, (0, 88), BYTE], " SENDER PLACE VALUE; SENDER is 0 to 253, PLACE 0 to 88, VALUE 0 to 255"),
     form("poke untimed", &[SENDER, LONG], " SENDER MS; SENDER is 0 to 253, MS 0 to 4294967295"),
     form("help", &[], ""),
 ];
@@ -144,6 +162,10 @@ fn read_as(form: &Form, words: &[&str]) -> Option<Order> {
     if ["set", "poke slot"].contains(&form.name) {
         return Some(Order::Ranged(form.name, numbers, said(&words[count..])?));
     }
+    if ["enter", "poke row", "poke line"].contains(&form.name) {
+        let heat = heat(&words[count..], if form.name == "enter" { SHORT } else { HEAT })?;
+        return Some(Order::Heated(form.name, numbers, heat));
+    }
     if words.len() > count {
         return None;
     }
@@ -159,30 +181,49 @@ fn at(words: &[&str]) -> Option<Option<i64>> {
     }
 }
 
-/// `loss LOW HIGH` and `shake LOW HIGH` in either order, each once.
-fn said(words: &[&str]) -> Option<[Option<Range>; 2]> {
-    let mut out = [None; 2];
-    for three in words.chunks(3) {
-        let place = ["loss", "shake"].iter().position(|name| *name == three[0])?;
-        let end = |i: usize| number(three.get(i)?, SHORT).map(|n| n as u16);
-        if out[place].replace(Range { low: end(1)?, high: end(2)? }).is_some() {
+/// `heat H`, or no word at all.
+fn heat(words: &[&str], range: (i64, i64)) -> Option<Option<u16>> {
+    match words {
+        [] => Some(None),
+        ["heat", h] => Some(Some(number(h, range)? as u16)),
+        _ => None,
+    }
+}
+
+/// `heat C`, `loss LOW HIGH` and `shake LOW HIGH` in any order, each once.
+fn said(mut words: &[&str]) -> Option<Said> {
+    let mut out = Said::default();
+    while let Some(&name) = words.first() {
+        let end = |i: usize| number(words.get(i)?, SHORT).map(|n| n as u16);
+        let twice = match name {
+            "heat" => out.heat.replace(number(words.get(1)?, SIGNED)? as i16).is_some(),
+            "loss" => out.loss.replace(Range { low: end(1)?, high: end(2)? }).is_some(),
+            "shake" => out.shake.replace(Range { low: end(1)?, high: end(2)? }).is_some(),
+            _ => return None,
+        };
+        if twice {
             return None;
         }
+        words = &words[if name == "heat" { 2 } else { 3 }..];
     }
     Some(out)
 }
 
-/// `note BYTES` and `room N` in either order, each once.
+/// `heat H`, `note BYTES` and `room N` in any order, each once.
 fn write(numbers: &[i64], mut words: &[&str]) -> Option<Order> {
     let n = |i: usize| numbers[i] as u32;
-    let mut out = Sending { sender: n(0), loss: n(1), shake: n(2), own: n(3), note: None, room: None };
+    let mut out = Sending { sender: n(0), loss: n(1), shake: n(2), own: n(3), heat: None, note: None, room: None };
     while let Some(&word) = words.first() {
         words = &words[1..];
         match word {
             "note" if out.note.is_none() => {
-                let none = words.is_empty() || words[0] == "room";
+                let none = words.is_empty() || ["heat", "room"].contains(&words[0]);
                 out.note = Some(if none { Vec::new() } else { bytes(words[0])? });
                 words = if none { words } else { &words[1..] };
+            }
+            "heat" if out.heat.is_none() => {
+                out.heat = Some(number(words.first()?, SHORT)? as u32);
+                words = &words[1..];
             }
             "room" if out.room.is_none() => {
                 out.room = Some(number(words.first()?, LONG)? as u64);

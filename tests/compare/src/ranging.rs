@@ -82,7 +82,7 @@ impl Ranging {
     }
 
     /// The words that say a question's ranges in either order, mostly those alone that aren't 0 to 4095.
-    pub fn words(&mut self, ranges: Ranges) -> String {
+    pub fn words(&mut self, ranges: Ranges) -> Vec<String> {
         let mut words = Vec::new();
         for (name, range) in [("loss", ranges.loss), ("shake", ranges.shake)] {
             if range != Range::ALL || self.chance(10) {
@@ -92,7 +92,7 @@ impl Ranging {
         if self.chance(50) {
             words.reverse();
         }
-        words.concat()
+        words
     }
 
     /// A report's loss and shake: those drawn, or ones near the ends of some question's ranges.

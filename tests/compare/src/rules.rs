@@ -1,4 +1,4 @@
-//! Ranking and searching by the rules (docs/RULES.md, sections 5 to 8 and 16), written from them and from nothing else. Plain, not fast: a
+//! Ranking and searching by the rules (docs/RULES.md, sections 5 to 8, 16 and 17), written from them and from nothing else. Plain, not fast: a
 //! search sorts its cells and takes them one by one, and every step looks at the whole window.
 
 use crate::wrong::Wrong;
@@ -11,11 +11,13 @@ pub fn le(bytes: &[u8]) -> u32 {
     bytes.iter().rev().fold(0, |n, &b| n * 256 + u32::from(b))
 }
 
+/// Without a heat it is of the first edition, with one of the second (section 17).
 #[derive(Clone, Copy)]
 pub struct Report {
     pub number: u32,
     pub loss: i32,
     pub shake: i32,
+    pub heat: Option<u16>,
 }
 
 impl Report {
@@ -69,7 +71,7 @@ pub struct Ranges {
 impl Ranges {
     pub const ALL: Ranges = Ranges { loss: Range::ALL, shake: Range::ALL };
 
-    /// Whether a report counts.
+    /// Whether a report lies inside both.
     pub fn hold(self, r: &Report, wrong: Wrong) -> bool {
         let (loss, shake) = (self.loss.holds(r.loss, wrong), self.shake.holds(r.shake, wrong));
         match wrong {
@@ -91,48 +93,83 @@ impl Ranges {
 pub struct Entry {
     pub number: u32,
     pub score: i32,
+    pub heat: Option<u16>,
 }
 
 #[derive(Clone)]
 pub struct Question {
     pub k: usize,
-    pub a: i32,
-    pub b: i32,
+    /// For loss, shake and heat.
+    pub weights: [i32; 3],
     pub ranges: Ranges,
     pub list: Vec<Entry>,
     pub marks: Vec<bool>,
 }
 
 impl Question {
-    pub fn new(k: usize, a: i32, b: i32, ranges: Ranges) -> Question {
-        Question { k, a, b, ranges, list: Vec::new(), marks: vec![false; 256] }
+    pub fn new(k: usize, weights: [i32; 3], ranges: Ranges) -> Question {
+        Question { k, weights, ranges, list: Vec::new(), marks: vec![false; 256] }
     }
 
     pub fn score(&self, r: &Report, wrong: Wrong) -> i32 {
+        let heat = match wrong {
+            Wrong::HeatNotScored => 0,
+            Wrong::HeatScoredOneHigher => r.heat.map_or(0, |h| i32::from(h) + 1),
+            _ => i32::from(r.heat.unwrap_or(0)),
+        };
         // only values that a rule got wrong lets in make it wrap
-        let score = self.a.wrapping_mul(r.loss).wrapping_add(self.b.wrapping_mul(r.shake));
+        let parts = self.weights.iter().zip([r.loss, r.shake, heat]).map(|(w, v)| w.wrapping_mul(v));
+        let score = parts.fold(0, i32::wrapping_add);
         if wrong == Wrong::ScoreWithoutSign {
-            score.abs()
+            score.wrapping_abs()
         } else {
             score
         }
     }
 
-    /// What the list can name of a report: nothing where it doesn't count (section 16).
-    pub fn entry(&self, r: &Report, wrong: Wrong) -> Option<Entry> {
-        let short = wrong == Wrong::UncountedOnAShortList && self.list.len() < self.k;
-        let counts = short || self.ranges.hold(r, wrong);
-        Some(Entry { number: r.number, score: self.score(r, wrong) }).filter(|_| counts)
+    /// Whether a report has a heat, or needs none (section 17).
+    fn heated(&self, r: &Report, wrong: Wrong) -> bool {
+        match wrong {
+            Wrong::NoHeatScoredAs0 => true,
+            Wrong::NoHeatNeverCounts => r.heat.is_some(),
+            Wrong::HeatNeedsAWeight => r.heat.is_none() || self.weights[2] != 0,
+            _ => r.heat.is_some() || self.weights[2] == 0,
+        }
     }
 
-    /// A cell's best possible score, that of the best corner of what the ranges leave of it (rule 7.3, section 16).
+    /// What a line keeps of a report's edition.
+    pub fn edition(r: &Report, wrong: Wrong) -> Option<u16> {
+        match wrong {
+            Wrong::EditionLostInTheLine => None,
+            Wrong::LineWithoutHeatHas0 => Some(r.heat.unwrap_or(0)),
+            _ => r.heat,
+        }
+    }
+
+    /// What the list can name of a report: nothing where it doesn't count (sections 16 and 17).
+    pub fn entry(&self, r: &Report, wrong: Wrong) -> Option<Entry> {
+        let short = wrong == Wrong::UncountedOnAShortList && self.list.len() < self.k;
+        let counts = short || self.ranges.hold(r, wrong) && self.heated(r, wrong);
+        Some(Entry { number: r.number, score: self.score(r, wrong), heat: Question::edition(r, wrong) }).filter(|_| counts)
+    }
+
+    /// A cell's best possible score, that of the best corner of what the ranges leave of it, with the better heat (rule 7.3, sections 16 and 17).
     pub fn best(&self, cell: usize, wrong: Wrong) -> i32 {
         let corner = |weight: i32, range: Range, index: i32| {
             let range = if wrong == Wrong::BestOfTheWholeCell { Range::ALL } else { range };
             let (low, high) = range.part(index, wrong);
             weight * if weight > 0 { high + i32::from(wrong == Wrong::CellEdge) } else { low }
         };
-        corner(self.a, self.ranges.loss, cell as i32 % 16) + corner(self.b, self.ranges.shake, cell as i32 / 16)
+        let [a, b, c] = self.weights;
+        let heat = match wrong {
+            Wrong::HeatAtTheWrongEnd => 4095 * c.min(0),
+            Wrong::BestWithoutHeat => 0,
+            Wrong::BestOfAnyHeat => 4095 * c.abs(),
+            Wrong::BestOfHeat4096 => 4096 * c.max(0),
+            Wrong::BestHeatByItsCell => (256 * (cell as i32 % 16) + 255) * c.max(0),
+            _ => 4095 * c.max(0),
+        };
+        corner(a, self.ranges.loss, cell as i32 % 16) + corner(b, self.ranges.shake, cell as i32 / 16) + heat
     }
 
     /// The cells in the order in which a search takes them (rule 7.4); none that the ranges leave nothing of (section 16).
@@ -219,6 +256,10 @@ impl Question {
 
 /// The order of two reports in rank (rule 6.3).
 pub fn above(x: &Entry, y: &Entry, wrong: Wrong) -> Ordering {
-    let newer = if wrong == Wrong::TieToOlder { x.number.cmp(&y.number) } else { y.number.cmp(&x.number) };
+    let newer = match wrong {
+        Wrong::TieToOlder => x.number.cmp(&y.number),
+        Wrong::TieToTheHotter => y.heat.cmp(&x.heat).then(y.number.cmp(&x.number)),
+        _ => y.number.cmp(&x.number),
+    };
     y.score.cmp(&x.score).then(newer)
 }

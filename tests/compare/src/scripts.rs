@@ -5,6 +5,7 @@ use crate::board::Board;
 use crate::bus::Last;
 use crate::clocks::Clocks;
 use crate::desk::Desk;
+use crate::heating::Heating;
 use crate::joining::Session;
 use crate::logs::{carry, payload, Item, Rng};
 use crate::ranging::Ranging;
@@ -21,16 +22,18 @@ pub struct Script {
     pub desk: Desk,
     pub clocks: Clocks,
     pub ranging: Ranging,
+    pub heating: Heating,
     /// So many of a hundred lines are spoilt on their way, and the seed for that.
     spoils: usize,
     spoiling: Rng,
 }
 
 impl Script {
-    fn new(kind: &'static str, clocks: Clocks, ranging: Ranging, rng: &mut Rng) -> Script {
+    fn new(kind: &'static str, seed: u64, rng: &mut Rng) -> Script {
+        let (clocks, ranging, heating) = (Clocks::new(seed, 50), Ranging::new(seed, 40), Heating::new(seed, 45));
         let (spoils, spoiling) = (if rng.chance(12) { rng.pick(&[3, 10, 40]) } else { 0 }, Rng(rng.next()));
         let desk = Desk::new(Wrong::No);
-        Script { kind, first: false, lines: Vec::new(), answers: Vec::new(), desk, clocks, ranging, spoils, spoiling }
+        Script { kind, first: false, lines: Vec::new(), answers: Vec::new(), desk, clocks, ranging, heating, spoils, spoiling }
     }
 
     pub fn say(&mut self, line: String) {
@@ -56,11 +59,15 @@ impl Script {
         self.ranging.draw(&held)
     }
 
-    /// Sets a question, with ranges or without.
+    /// Sets a question, with ranges and a weight for heat or without.
     pub fn set(&mut self, slot: usize, k: i32, a: i32, b: i32) {
         let ranges = self.ranges();
-        let words = self.ranging.words(ranges);
-        self.say(format!("set {} {} {} {}{}", slot, k, a, b, words));
+        let mut words = self.ranging.words(ranges);
+        if let Some(c) = self.heating.any_weight() {
+            let place = self.heating.below(words.len() + 1);
+            words.insert(place, format!(" heat {}", c));
+        }
+        self.say(format!("set {} {} {} {}{}", slot, k, a, b, words.concat()));
     }
 
     /// Enters a report with these values, or with ones near the ends of what some question counts.
@@ -68,7 +75,8 @@ impl Script {
         let used = self.desk.board.iter().flat_map(|b| &b.slots).filter(|s| s.k != 0 && s.ranges != Ranges::ALL);
         let asked: Vec<Ranges> = used.map(|s| s.ranges).collect();
         let [loss, shake] = self.ranging.values(&asked, [loss, shake]);
-        self.say(format!("enter {} {}", loss, shake));
+        let heat = Heating::words(self.heating.any_heat());
+        self.say(format!("enter {} {}{}", loss, shake, heat));
     }
 
     /// Looks at all that a call may have changed of a slot, also where the board doesn't read its list: a search under way is given
@@ -77,7 +85,7 @@ impl Script {
         self.say(format!("steps {}", slot));
         self.say(format!("marks {}", slot));
         let s = self.board().slots[slot].clone();
-        let poked = |next: u16| format!("poke slot {} {} {} {} {} {}", slot, s.k, s.a, s.b, s.len, next);
+        let poked = |next: u16| format!("poke slot {} {} {} {} {} {}", slot, s.k, s.weights[0], s.weights[1], s.len, next);
         let under_way = s.k != 0 && s.next < 256;
         if under_way {
             self.say(poked(256));
@@ -215,7 +223,7 @@ fn mixed(s: &mut Script, rng: &mut Rng, sort: usize) {
     for i in 0..rng.among(1, 4) as usize {
         let note: Vec<u8> = (0..rng.pick(&[0, 1, 9, 64])).map(|_| rng.next() as u8).collect();
         let note = if rng.chance(40) { Some(&note[..]) } else { None };
-        let p = payload(value(rng, sort), value(rng, sort), rng.next() as u32, note);
+        let p = payload(value(rng, sort), value(rng, sort), rng.next() as u32, s.heating.heat(), note);
         queues.push(carry((first + i) as u8, &p));
     }
     while !queues.is_empty() {
@@ -227,7 +235,8 @@ fn mixed(s: &mut Script, rng: &mut Rng, sort: usize) {
         }
         let words: Vec<String> = s.answers[s.answers.len() - 1].split_whitespace().map(String::from).collect();
         if words.first().map_or(false, |w| w == "report") && words.len() > 3 && rng.chance(80) {
-            s.say(format!("enter {} {}", words[2], words[3]));
+            let heat = if words.len() > 5 && words[4] == "heat" { format!(" heat {}", words[5]) } else { String::new() };
+            s.say(format!("enter {} {}{}", words[2], words[3], heat));
         }
         if queues[i].is_empty() {
             queues.remove(i);
@@ -237,11 +246,15 @@ fn mixed(s: &mut Script, rng: &mut Rng, sort: usize) {
 
 // ---- payloads and the bench sender
 
-pub fn some_payload(rng: &mut Rng) -> Vec<u8> {
+pub fn some_payload(s: &mut Script, rng: &mut Rng) -> Vec<u8> {
     let value = |rng: &mut Rng| rng.pick(&[0, 1, 255, 4095, 4095, 4096, 65535]);
     let note: Vec<u8> = (0..rng.pick(&[0, 1, 5, 63, 64, 65])).map(|_| rng.next() as u8).collect();
     let note = if rng.chance(50) { Some(&note[..]) } else { None };
-    let mut p = payload(value(rng), value(rng), rng.next() as u32, note);
+    let mut p = payload(value(rng), value(rng), rng.next() as u32, s.heating.any_heat(), note);
+    if s.heating.chance(30) {
+        s.heating.broken(&mut p);
+        return p;
+    }
     if rng.chance(40) {
         let at = rng.below(p.len());
         p[at] = p[at].wrapping_add(rng.pick(&[1, 255, 16]));
@@ -256,15 +269,15 @@ pub fn some_payload(rng: &mut Rng) -> Vec<u8> {
 fn texts(s: &mut Script, rng: &mut Rng) {
     s.say(String::from("window 1"));
     for _ in 0..4 {
-        let p = some_payload(rng);
+        let p = some_payload(s, rng);
         s.say(format!("payload {}", hex(&p)).trim_end().to_string());
-        let line = write_line(rng);
+        let line = write_line(s, rng);
         s.say(line);
     }
 }
 
 /// A line for the bench sender, at and past each edge.
-fn write_line(rng: &mut Rng) -> String {
+fn write_line(s: &mut Script, rng: &mut Rng) -> String {
     let value = |rng: &mut Rng| rng.pick(&[0, 1, 255, 256, 4095, 4095, 4095, 4096, 65535]);
     let sender = rng.pick(&[0, 5, 77, 252, 253, 253, 254, 255]);
     let own = rng.pick(&[0, 7, 65536, 4294967295, rng.0 as u32]);
@@ -272,18 +285,22 @@ fn write_line(rng: &mut Rng) -> String {
     let length = rng.pick(&[0, 1, 4, 5, 63, 64, 64, 65, 200]);
     let note: Vec<u8> = (0..length).map(|_| rng.next() as u8).collect();
     let noted = rng.chance(60);
+    let heat = s.heating.any_heat();
     let mut words = Vec::new();
     if noted {
         words.push(format!(" note {}", hex(&note)).trim_end().to_string());
     }
     if rng.chance(60) {
-        let size = if noted { 20 + length } else { 17 };
+        let size = if noted { 20 + length } else { 17 } + if heat.is_some() { 5 } else { 0 };
         let needed = 12 * (1 + (size + 6) / 7) as i64;
-        let room = rng.pick(&[0, 12, needed - 1, needed, needed + 1, needed, 157, 4294967295]);
+        let room = rng.pick(&[0, 12, needed - 1, needed, needed + 1, needed, 157, 169, 4294967295]);
         words.push(format!(" room {}", room));
     }
     if rng.chance(50) {
         words.reverse();
+    }
+    if heat.is_some() {
+        words.insert(s.heating.below(words.len() + 1), Heating::words(heat));
     }
     line += &words.concat();
     line
@@ -326,7 +343,7 @@ pub fn draw(seed: u64) -> Script {
         n if n < 59 => ("session", made_up::session),
         _ => ("made up", made_up::question),
     };
-    let mut script = Script::new(kind, Clocks::new(seed, 50), Ranging::new(seed, 40), rng);
+    let mut script = Script::new(kind, seed, rng);
     fill(&mut script, rng);
     script.leave();
     script

@@ -19,6 +19,7 @@ pub fn any_line(rng: &mut Rng) -> String {
             words.extend(some_time(rng));
         }
         "poke session" => words.extend(some_time(rng)),
+        "enter" | "poke row" | "poke line" => words.extend(some_heat(rng)),
         "set" | "poke slot" => words.extend(some_ranges(rng)),
         "payload" => words.push(hex(&bytes)),
         "write" => {
@@ -27,6 +28,8 @@ pub fn any_line(rng: &mut Rng) -> String {
                 more.reverse();
             }
             more.truncate(rng.below(3));
+            let place = rng.below(more.len() + 1);
+            more.splice(place..place, some_heat(rng));
             words.extend(more);
         }
         _ => {}
@@ -40,7 +43,13 @@ fn some_time(rng: &mut Rng) -> Option<String> {
     Some(format!("at {}", ms)).filter(|_| rng.chance(40))
 }
 
-/// Ranges, where any are said.
+/// A heat, where one is said.
+fn some_heat(rng: &mut Rng) -> Option<String> {
+    let heat = rng.pick(&[0, 1, 4094, 4095, 4095, 4096, 65535]);
+    Some(format!("heat {}", heat)).filter(|_| rng.chance(40))
+}
+
+/// Ranges and a weight for heat, where any are said.
 fn some_ranges(rng: &mut Rng) -> Vec<String> {
     let mut out = Vec::new();
     for name in if rng.chance(50) { ["loss", "shake"] } else { ["shake", "loss"] } {
@@ -49,10 +58,14 @@ fn some_ranges(rng: &mut Rng) -> Vec<String> {
             out.push(format!("{} {} {}", name, low, high));
         }
     }
+    if rng.chance(30) {
+        let place = rng.below(out.len() + 1);
+        out.insert(place, format!("heat {}", rng.pick(&[-32768, -1001, -1000, -1, 0, 1, 1000, 1001, 32767])));
+    }
     out
 }
 
-const NUMBERS: [&str; 44] = [
+const NUMBERS: [&str; 49] = [
     "-1",
     "-0",
     "0",
@@ -62,8 +75,10 @@ const NUMBERS: [&str; 44] = [
     "17",
     "31",
     "32",
-    "83",
     "84",
+    "88",
+    "89",
+    "90",
     "253",
     "254",
     "255",
@@ -84,6 +99,9 @@ const NUMBERS: [&str; 44] = [
     "-32769",
     "65535",
     "65536",
+    "1000001",
+    "1048319",
+    "1048320",
     "2147483647",
     "2147483648",
     "-2147483648",
@@ -99,7 +117,7 @@ const NUMBERS: [&str; 44] = [
     "-",
 ];
 
-const ODD: [&str; 57] = [
+const ODD: [&str; 78] = [
     "",
     " ",
     "\t",
@@ -155,6 +173,27 @@ const ODD: [&str; 57] = [
     "set 0 1 1 1 Loss 5 7",
     "set 0 1 1 loss 5 7",
     "set loss 5 7 0 1 1 1",
+    "enter 1 2 heat",
+    "enter 1 2 heat -1",
+    "enter 1 2 heat 65536",
+    "enter 1 2 heat 3 heat 3",
+    "enter 1 2 heat 3 4",
+    "enter 1 heat 3",
+    "enter heat 3 1 2",
+    "enter 1 2 Heat 3",
+    "enter 1 2 note AB",
+    "set 0 1 1 1 heat",
+    "set 0 1 1 1 heat 1 heat 1",
+    "set 0 1 1 1 heat loss 5 7",
+    "set 0 1 1 1 shake 5 7 heat -2 loss 5 7",
+    "set 0 1 1 1 heat 32768",
+    "write 1 2 3 4 note heat 5",
+    "write 1 2 3 4 note heat",
+    "write 1 2 3 4 heat 5 note room 72",
+    "write 1 2 3 4 heat 5 heat 5",
+    "poke row 0 1048320 0 0",
+    "poke row 0 1 0 0 heat 4096",
+    "poke line 0 0 1 0 heat 4096",
     "poke slot 0 0 0 0 0 loss 0 0",
     "poke slot 0 0 0 0 0 0 shake 00 00 loss 0 0",
 ];
@@ -169,7 +208,11 @@ pub fn line(rng: &mut Rng, line: &str) -> Vec<u8> {
             words.remove(at);
         }
         3 => {
-            let more = if rng.chance(50) { rng.pick(&NUMBERS) } else { rng.pick(&["note", "room", "at", "loss", "shake", "AB", "x", "#"]) };
+            let more = if rng.chance(50) {
+                rng.pick(&NUMBERS)
+            } else {
+                rng.pick(&["note", "room", "at", "heat", "loss", "shake", "AB", "x", "#"])
+            };
             words.insert(at + rng.below(2), more.to_string());
         }
         4 => words[at] = format!("{}{}", rng.pick(&["0", "00", "-", "+", "-0", "x", "#"]), words[at]),

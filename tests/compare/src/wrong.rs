@@ -21,7 +21,7 @@ wrong! {
     in_logs:
         CellEdge DropBeforeAdd StopAtEqual OneBuffer TieToOlder EntryMustBeAbove SearchChangesNothing MarksNotReplaced ListNotCut
         SlotsFalling RemovedSlotKept AnnouncementDoesNotReplace FourCloses FiveKeeps SixKeeps SevenKeeps NineKeeps TenKeeps
-        SixBeforeFive SequenceNotChecked PaddingRead Takes85 Takes4096 NoteLengthNotChecked SecondWindow RefusedWindowStands
+        SixBeforeFive SequenceNotChecked PaddingRead Takes4096 NoteLengthNotChecked SecondWindow RefusedWindowStands
         FramesBeforeTheWindow SkippedNotCounted LengthBeforeEnd SixteenBeforeFifteen WeightOf1001 K17 WeightsSwapped
         ScoreWithoutSign
         // frames with times
@@ -29,7 +29,14 @@ wrong! {
         UntimedTestsTheTime OneTimeForAll NoTimeIsZero TimesWrapAround TimeHighByteFirst TwentySixFirst TwentySixLast TwentySixCloses
         TwentySixSetsTheTime RefusalUndoesTheClosing
         // ranges
-        LogCountsTo4094;
+        LogCountsTo4094
+        // payloads with a heat
+        Takes90 Refuses85 Refuses89 ReadsANoteOf65 TagFivePassedOver HeatFromTheNote HeatBehindTheNote EditionByTheSize NoHeatReadAs0 HeatLengthNotChecked
+        PieceBehindTheHeat HeatHighByteFirst ReadsHeat4096 ReadsAnyHeat
+        // heat: what counts, scores and cells
+        NoHeatScoredAs0 NoHeatNeverCounts HeatNeedsAWeight HeatNotScored HeatScoredOneHigher HeatAtTheWrongEnd BestWithoutHeat BestOfAnyHeat BestOfHeat4096
+        BestHeatByItsCell TieToTheHotter HeldWithoutHeat HeatWeightNotTested HeatWeightOf1001 HeatWeightFirst HeatWeightWithoutSign HeatWeightPassedOver
+        PlainQuestionsWeighHeat EitherTagOfAQuestion;
     at_the_desk:
         // steps and beginnings
         EqualCellsFalling CellsByNumber LeastCellFirst WholeSearchAtOnce ListedByAStepAgain StepListNotCut FinishedSteps
@@ -46,6 +53,12 @@ wrong! {
         // unfit: ranges, and what they leave out
         LossOrderNotChecked ShakeOrderNotChecked LossEndsNotChecked ShakeEndsNotChecked NextOutsideTheOrder UncountedLineNotChecked
         EmptySlotRangesNotChecked
+        // heat: rows, lines and questions
+        EditionLostInTheRow EditionLostInTheLine LineWithoutHeatHas0 RowKeepsTheHeatBefore EntersAnyHeat EntersHeat4096 SetTakesAnyHeatWeight
+        HeatWeightForgottenOnASearch BeginForgetsTheHeatWeight RemovingLeavesTheHeatWeight PokeForgetsTheHeatWeight PokeForgetsTheHeat
+        // unfit: heat
+        ThirdWeightNotChecked LineEditionNotChecked LineHeatNotChecked RestHeatNotChecked EmptyRowHeatNotChecked EmptySlotThirdWeightNotChecked
+        EmptySlotHeatNotChecked
         // unfit: a session
         SessionSizeNotChecked SessionCountNotChecked SessionNextZero SessionNextPastCount HalfClosed
         // unfit: a last time
@@ -55,6 +68,7 @@ wrong! {
         NineteenBeforeTwelve TwentyFirst TwentySixBeforeTwentyFour ClosingBeforeTwentyFour ThirtyFirst ThirtyBeforeFifteen ThirtyAfterSixteen
         // frames, payloads, the bench sender, the board
         OpeningKeepsTheBytes StoresPastTheSize ClosingClearsTheBytes LastPacketNotStored NoteByTheBytes NoteDropped EmptyNoteIsNone
-        NoteWithItsHead OwnLostHalf RoomOneByteShort RoomOneByteMore Note65 PaddedWithZeros PrioritySix SessionsGoWithTheWindow RefusedWindowClears
+        NoteWithItsHead OwnLostHalf RoomOneByteShort RoomOneByteMore Note65 PaddedWithZeros PrioritySix NoteWithTheHeat HeatByTheBytes WritesAnyHeat
+        WritesHeatHighByteFirst SessionsGoWithTheWindow RefusedWindowClears
         SlotsStayWithTheWindow RemovingLeavesTheLines SearchesFalling LateClearsTheBytes TimesGoWithTheWindow PokeForgetsTheTime;
 }

@@ -11,7 +11,7 @@ use borrow.Rule.Slice.PartMut.{post-is}
 use Rattle.joining.specs.declared.Session.{Session}
 use Rattle.joining.specs.Joining.{take-frame}
 use Rattle.bus.specs.Room.{sessionIn, sessionBytes}
-use Rattle.bus.proofs.Places.{first-87}
+use Rattle.bus.proofs.Places.{first-92}
 use borrow.Author.Needs.{needs}
 use Rattle.bus.proofs.advance_in.Statement.{statement}
 use Rattle.bus.proofs.advance_in.Tie as tie
@@ -40,11 +40,11 @@ returns c =
     let room = now (a .room) in
     let d = now (a .«data») in
     let left = sessionBytes (take-frame (sessionIn (drop (a .at) room)) (a .id) d .session) in
-    let same = ap (λ (n : ℕ). sessionIn (take n (drop (a .at) room))) (add-sub-cancel-left (a .at) 87) ∙ first-87 (drop (a .at) room) in (
+    let same = ap (λ (n : ℕ). sessionIn (take n (drop (a .at) room))) (add-sub-cancel-left (a .at) 92) ∙ first-92 (drop (a .at) room) in (
       c .before .before .advance-at .ensures .0 ∙ ap (λ (s : Session). take-frame s (a .id) d .answer) same,
-      ap (λ (l : List ℕ). take (a .at) room ++ (c .before .before .advance-at .last .0 ++ l)) (post-is (a .at) (a .at + 87) room (omega arith))
-          ∙ ap (λ (l : List ℕ). take (a .at) room ++ (l ++ drop (a .at + 87) room)) (c .before .before .advance-at .ensures .1 ∙ ap (λ (s : Session). sessionBytes (take-frame s (a .id) d .session)) same)
-          ∙ sym (append-assoc (take (a .at) room) left (drop (a .at + 87) room)),
+      ap (λ (l : List ℕ). take (a .at) room ++ (c .before .before .advance-at .last .0 ++ l)) (post-is (a .at) (a .at + 92) room (omega arith))
+          ∙ ap (λ (l : List ℕ). take (a .at) room ++ (l ++ drop (a .at + 92) room)) (c .before .before .advance-at .ensures .1 ∙ ap (λ (s : Session). sessionBytes (take-frame s (a .id) d .session)) same)
+          ∙ sym (append-assoc (take (a .at) room) left (drop (a .at + 92) room)),
     )
 
 pub advance-in-spec : {M : Type 1} → statement M

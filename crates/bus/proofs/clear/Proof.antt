@@ -9,10 +9,10 @@ use Rattle.bus.proofs.clear.Statement.{statement}
 use Rattle.bus.proofs.clear.Tie as tie
 
 abbrev Inv-loop : tie.InvT-loop
-Inv-loop place₀ i₀ place i = (i ≤ 84) × (length place ≡ 87) × (take i place ≡ replicate i 255)
+Inv-loop place₀ i₀ place i = (i ≤ 89) × (length place ≡ 92) × (take i place ≡ replicate i 255)
 
 abbrev μ-loop : tie.MeasureT-loop
-μ-loop place₀ i₀ place i = 84 - i
+μ-loop place₀ i₀ place i = 89 - i
 
 loop-holds : tie.Need-loop-holds Inv-loop μ-loop
 loop-holds c = (omega arith, c .pre, refl)
@@ -37,7 +37,7 @@ same-length c = c .before .loop .inv .1 ∙ sym (c .before .before .pre)
 returns : tie.Need-returns Inv-loop μ-loop
 returns c =
     let l = c .before .loop in
-    let end : l .i ≡ 84 = omega arith in
+    let end : l .i ≡ 89 = omega arith in
     ap (λ (k : ℕ). take k (l .place)) (sym end) ∙ l .inv .2 ∙ ap (λ (k : ℕ). replicate k 255) end
 
 pub clear-spec : {M : Type 1} → statement M

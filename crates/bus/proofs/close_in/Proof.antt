@@ -11,7 +11,7 @@ use borrow.Rule.Slice.PartMut.{post-is}
 use Rattle.joining.specs.declared.Session.{Session}
 use Rattle.joining.specs.Joining.{closed}
 use Rattle.bus.specs.Room.{sessionIn, sessionBytes}
-use Rattle.bus.proofs.Places.{first-87}
+use Rattle.bus.proofs.Places.{first-92}
 use Rattle.bus.proofs.Placed.{closing, none-there}
 use borrow.Author.Needs.{needs}
 use Rattle.bus.proofs.close_in.Statement.{statement}
@@ -42,13 +42,13 @@ returns : tie.Need-returns
 returns c =
     let s = c .before .before .before .before .before .before in
     let room = now (s .args .room) in
-    let at : ℕ = 87 * s .args .sender in
+    let at : ℕ = 92 * s .args .sender in
     let left = sessionBytes (closed (sessionIn (drop at room))) in
-    let same = ap (λ (n : ℕ). sessionIn (take n (drop at room))) (add-sub-cancel-left at 87) ∙ first-87 (drop at room) in
+    let same = ap (λ (n : ℕ). sessionIn (take n (drop at room))) (add-sub-cancel-left at 92) ∙ first-92 (drop at room) in
     closing room (s .args .sender) (s .pre) (search needs)
-    (ap (λ (l : List ℕ). take at room ++ (c .before .before .close-at .last .0 ++ l)) (post-is at (at + 87) room (omega arith))
-    ∙ ap (λ (l : List ℕ). take at room ++ (l ++ drop (at + 87) room)) (c .before .before .close-at .ensures ∙ ap (λ (x : Session). sessionBytes (closed x)) same)
-    ∙ sym (append-assoc (take at room) left (drop (at + 87) room)))
+    (ap (λ (l : List ℕ). take at room ++ (c .before .before .close-at .last .0 ++ l)) (post-is at (at + 92) room (omega arith))
+    ∙ ap (λ (l : List ℕ). take at room ++ (l ++ drop (at + 92) room)) (c .before .before .close-at .ensures ∙ ap (λ (x : Session). sessionBytes (closed x)) same)
+    ∙ sym (append-assoc (take at room) left (drop (at + 92) room)))
 
 returns-2 : tie.Need-returns-2
 returns-2 c =

@@ -16,7 +16,7 @@ use Rattle.bus.proofs.fill_in.Statement.{statement}
 use Rattle.bus.proofs.fill_in.Tie as tie
 
 abbrev Inv-loop : tie.InvT-loop
-Inv-loop room₀ sessions k₀ room k = (k ≤ 254) × (length (roomOf (take k sessions)) ≡ 87 * k) × (room ≡ sets room₀ 0 (roomOf (take k sessions))) × Sized (take k sessions)
+Inv-loop room₀ sessions k₀ room k = (k ≤ 254) × (length (roomOf (take k sessions)) ≡ 92 * k) × (room ≡ sets room₀ 0 (roomOf (take k sessions))) × Sized (take k sessions)
 
 abbrev μ-loop : tie.MeasureT-loop
 μ-loop room₀ sessions k₀ room k = 254 - k

@@ -1,4 +1,4 @@
--- `bus::finish_at` meets its contract: the payload is the first `size` of the 84 bytes, and they stay.
+-- `bus::finish_at` meets its contract: the payload is the first `size` of the 89 bytes, and they stay.
 -- Assumes nothing.
 use denote.Ref.{now}
 use mathlib.Core.Path.{sym, _∙_, ap}
@@ -30,7 +30,7 @@ same-length c = search needs
 returns : tie.Need-returns
 returns c =
     let s = c .before .before .before .before .before .before .before in
-    (c .before .before .before .before .answered .ensures ∙ ap (λ (l : List ℕ). yields (readPayload l)) (sym (take-take (s .args .size) 84 (now (s .args .place)) (s .pre .1))), c .before .before .close-at .ensures)
+    (c .before .before .before .before .answered .ensures ∙ ap (λ (l : List ℕ). yields (readPayload l)) (sym (take-take (s .args .size) 89 (now (s .args .place)) (s .pre .1))), c .before .before .close-at .ensures)
 
 pub finish-at-spec : {M : Type 1} → statement M
 finish-at-spec =

@@ -37,7 +37,7 @@ returns c =
     let s = c .before .before .before .before .before in
     let room = now (s .args .room) in
     let at = s .args .at in
-    c .numbers-fit .ensures ∙ fit-numbers (record { bytes = []; size = getD room (at + 84) 0; count = getD room (at + 85) 0; next = getD room (at + 86) 0 }) ∙ fit-read room at
+    c .numbers-fit .ensures ∙ fit-numbers (record { bytes = []; size = getD room (at + 89) 0; count = getD room (at + 90) 0; next = getD room (at + 91) 0 }) ∙ fit-read room at
 
 pub fit-in-spec : {M : Type 1} → statement M
 fit-in-spec =

@@ -1,4 +1,4 @@
--- `bus::put_numbers` meets its contract: the three numbers are the last of 87 bytes.
+-- `bus::put_numbers` meets its contract: the three numbers are the last of 92 bytes.
 -- Assumes nothing.
 use Rattle.bus.proofs.Places.{put-numbers}
 use denote.Ref.{now}

@@ -44,7 +44,7 @@ same-length c = search needs
 returns : tie.Need-returns
 returns c =
     let a = c .before .before .before .before .before .before .before .args in
-    let long : length (a .s .bytes) ≡ 84 = search needs in
+    let long : length (a .s .bytes) ≡ 89 = search needs in
     (four-stores (now (a .room)) (a .at) (a .s) long (c .before .before .put-all .ensures), long)
 
 pub put-session-spec : {M : Type 1} → statement M

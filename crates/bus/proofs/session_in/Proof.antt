@@ -1,4 +1,4 @@
--- `bus::session_at` meets its contract: 84 bytes take the place of 84, and the numbers stand behind them.
+-- `bus::session_at` meets its contract: 89 bytes take the place of 89, and the numbers stand behind them.
 -- Assumes nothing.
 use denote.Ref.{now}
 use mathlib.Core.Path.{_≡_, sym, _∙_, ap}
@@ -54,12 +54,12 @@ returns c =
     let s = c .before .before .before .before .before .before .before .before in
     let room = now (s .args .room) in
     let at = s .args .at in
-    let new : List ℕ = take 84 (drop at room) in
-    let long : length new ≡ 84 = length-take-le 84 (drop at room) (rw (length-drop, s .pre .0) (omega (arith, s .pre .1))) in
+    let new : List ℕ = take 89 (drop at room) in
+    let long : length new ≡ 89 = length-take-le 89 (drop at room) (rw (length-drop, s .pre .0) (omega (arith, s .pre .1))) in
     four-reads room at
     (c .before .before .before .before .put-all .ensures
-    ∙ ap (λ (n : ℕ). sets (replicate 84 255) 0 (take n (drop at room))) (add-sub-cancel-left at 84)
-    ∙ overwritten (replicate 84 255) new (long ∙ sym (length-replicate {A = ℕ} 84 255)))
+    ∙ ap (λ (n : ℕ). sets (replicate 89 255) 0 (take n (drop at room))) (add-sub-cancel-left at 89)
+    ∙ overwritten (replicate 89 255) new (long ∙ sym (length-replicate {A = ℕ} 89 255)))
 
 pub session-in-spec : {M : Type 1} → statement M
 session-in-spec =

@@ -29,7 +29,7 @@ put-frames-requires c κs =
     let m = c .before .before .before in
     let s = m .before .before .before in
     let a = s .before .before .before .before .before .args in
-    let sent = items-sent (a .time) (a .s) (now (a .note)) (replicate 156 0) (m .written .given .0 .0) (length-replicate {A = ℕ} 156 0) (sym (s .send .ensures .0) ∙ m .written .given .1) (s .send .ensures .1) in
+    let sent = items-sent (a .time) (a .s) (now (a .note)) (replicate 168 0) (m .written .given .0 .0) (length-replicate {A = ℕ} 168 0) (sym (s .send .ensures .0) ∙ m .written .given .1) (s .send .ensures .1) in
     (omega (arith, sent .within, s .send .kept .0), omega (arith, s .send .kept .0))
 
 enum-known-written-2 : tie.Need-enum-known-written-2
@@ -44,7 +44,7 @@ returns c =
     let m = f .before .before .before .before in
     let s = m .before .before .before in
     let a = s .before .before .before .before .before .args in
-    let sent = items-sent (a .time) (a .s) (now (a .note)) (replicate 156 0) (m .written .given .0 .0) (length-replicate {A = ℕ} 156 0) (sym (s .send .ensures .0) ∙ m .written .given .1) (s .send .ensures .1) in
+    let sent = items-sent (a .time) (a .s) (now (a .note)) (replicate 168 0) (m .written .given .0 .0) (length-replicate {A = ℕ} 168 0) (sym (s .send .ensures .0) ∙ m .written .given .1) (s .send .ensures .1) in
     (ap answer.Items (f .put-frames .ensures .0) ∙ items-counted (a .time) (a .s) (now (a .note)) sent, f .put-frames .ensures .1 ∙ rw (sent .items))
 
 returns-2 : tie.Need-returns-2
@@ -53,7 +53,7 @@ returns-2 c =
     let m = c .before in
     let s = m .before .before .before in
     let a = s .before .before .before .before .before .args in
-    let refused = items-refused (a .time) (a .s) (now (a .note)) 156 (m .written2 .given .0 .0) refl (sym (s .send .ensures .0) ∙ m .written2 .given .1) in
+    let refused = items-refused (a .time) (a .s) (now (a .note)) 168 (m .written2 .given .0 .0) refl (sym (s .send .ensures .0) ∙ m .written2 .given .1) in
     (refused .0, rw (refused .1))
 
 pub put-report-spec : {M : Type 1} → statement M

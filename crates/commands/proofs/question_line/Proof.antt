@@ -1,22 +1,25 @@
--- `commands::question` meets its contract: each answer is what the definition says.
+-- `commands::question_line` meets its contract: each answer is what the definition says.
 -- Assumes nothing.
-use mathlib.Core.Path.{_∙_}
-use Prim.Native.Nat.{_≤_}
+use mathlib.Core.Path.{ap, _∙_}
+use mathlib.Core.List.{List}
+use Prim.Native.Nat.{ℕ, _≤_}
 use denote.Ref.{now}
-use Rattle.items.specs.Items.{signed16}
-use Rattle.items.specs.declared.Item.the-variants as item
 use Rattle.items.proofs.Signs.{signed-kept}
 use Rattle.commands.specs.declared.Command.the-variants as command
-use Rattle.commands.proofs.Reading.{question-wrong, question-right, value-most, weight-most}
+use Rattle.commands.specs.Lines.{questionItem}
+use Rattle.commands.proofs.Reading.{question-wrong, question-right, value-most, weight-most, heat-most}
 use borrow.Author.Needs.{needs}
 use native.Mathlib.Omega.{arith}
 use Rattle.commands.proofs.question_line.Statement.{statement}
 use Rattle.commands.proofs.question_line.Tie as tie
 
--- The numbers of the four words fit their bytes.
-module _ (f : tie.After-first-false) where
+-- The numbers of the five words fit their bytes.
+module _ (f : tie.After-first-of-six) where
+  abbrev h : tie.After-heat-weight
+  h = f .before .before
+
   abbrev b : tie.After-weight2
-  b = f .before .before
+  b = h .before
 
   abbrev a : tie.After-weight
   a = b .before
@@ -27,17 +30,23 @@ module _ (f : tie.After-first-false) where
   abbrev s : tie.After-value
   s = k .before
 
+  abbrev text : List ℕ
+  text = now (s .before .before .args .line)
+
   slot-small : s .value .result .value ≤ 255
-  slot-small = value-most 1 255 (now (s .before .before .args .line)) (s .value .result) (s .value .ensures)
+  slot-small = value-most 1 255 text (s .value .result) (s .value .ensures)
 
   k-small : k .value2 .result .value ≤ 255
-  k-small = value-most 2 255 (now (s .before .before .args .line)) (k .value2 .result) (k .value2 .ensures)
+  k-small = value-most 2 255 text (k .value2 .result) (k .value2 .ensures)
 
   loss-small : a .weight .result .value ≤ 65535
-  loss-small = weight-most 3 (now (s .before .before .args .line)) (a .weight .result) (a .weight .ensures)
+  loss-small = weight-most 3 text (a .weight .result) (a .weight .ensures)
 
   shake-small : b .weight2 .result .value ≤ 65535
-  shake-small = weight-most 4 (now (s .before .before .args .line)) (b .weight2 .result) (b .weight2 .ensures)
+  shake-small = weight-most 4 text (b .weight2 .result) (b .weight2 .ensures)
+
+  heat-small : h .heat-weight .result .value ≤ 65535
+  heat-small = heat-most text (h .heat-weight .result) (h .heat-weight .ensures)
 
 value-requires : tie.Need-value-requires
 value-requires c κs = search needs
@@ -51,18 +60,21 @@ weight-requires c κs = search needs
 weight-requires-2 : tie.Need-weight-requires-2
 weight-requires-2 c κs = search needs
 
+heat-weight-requires : tie.Need-heat-weight-requires
+heat-weight-requires c κs = search needs
+
 no-more-requires : tie.Need-no-more-requires
 no-more-requires c κs = search needs
 
-first-false-requires : tie.Need-first-false-requires
-first-false-requires c κs = search needs
+first-of-six-requires : tie.Need-first-of-six-requires
+first-of-six-requires c κs = search needs
 
 returns : tie.Need-returns
 returns c =
     let f = c .before in
     let m = f .before in
-    question-wrong (now (s f .before .before .args .line)) (s f .value .result) (k f .value2 .result) (a f .weight .result) (b f .weight2 .result) (m .no-more .result) (f .first-false .result)
-    (s f .value .ensures) (k f .value2 .ensures) (a f .weight .ensures) (b f .weight2 .ensures) (m .no-more .ensures) (f .first-false .ensures) (c .if1 .taken)
+    question-wrong (text f) (s f .value .result) (k f .value2 .result) (a f .weight .result) (b f .weight2 .result) (h f .heat-weight .result) (m .no-more .result) (f .first-of-six .result)
+    (s f .value .ensures) (k f .value2 .ensures) (a f .weight .ensures) (b f .weight2 .ensures) (h f .heat-weight .ensures) (m .no-more .ensures) (f .first-of-six .ensures) (c .if1 .taken)
 
 cast-signed16 : tie.Need-cast-signed16
 cast-signed16 c = omega (arith, loss-small (c .before .before))
@@ -76,24 +88,40 @@ cast-signed16-2 c = omega (arith, shake-small (c .before .before .before .before
 signed16-requires-2 : tie.Need-signed16-requires-2
 signed16-requires-2 c κs = search needs
 
-cast-t13 : tie.Need-cast-t13
-cast-t13 c = omega (arith, slot-small (c .before .before .before .before .before .before))
+cast-signed16-3 : tie.Need-cast-signed16-3
+cast-signed16-3 c = omega (arith, heat-small (c .before .before .before .before .before .before))
 
-cast-t14 : tie.Need-cast-t14
-cast-t14 c = omega (arith, k-small (c .before .before .before .before .before .before .before))
+signed16-requires-3 : tie.Need-signed16-requires-3
+signed16-requires-3 c κs = search needs
+
+cast-t16 : tie.Need-cast-t16
+cast-t16 c = omega (arith, slot-small (c .before .before .before .before .before .before .before .before))
+
+cast-t17 : tie.Need-cast-t17
+cast-t17 c = omega (arith, k-small (c .before .before .before .before .before .before .before .before .before))
+
+no-more-requires-2 : tie.Need-no-more-requires-2
+no-more-requires-2 c κs = search needs
+
+question-item-requires : tie.Need-question-item-requires
+question-item-requires c κs = search needs
 
 returns-2 : tie.Need-returns-2
 returns-2 c =
-    let second = c .before .before in
+    let bare = c .before in
+    let third = bare .before .before .before in
+    let second = third .before .before in
     let first = second .before .before in
     let e = first .before .before in
     let f = e .before in
     let m = f .before in
     let loss = signed-kept (a f .weight .result .value) (omega (arith, loss-small f)) (first .signed16 .ensures) in
     let shake = signed-kept (b f .weight2 .result .value) (omega (arith, shake-small f)) (second .signed162 .ensures) in
-    (λ i. command.Item (item.Set (record { slot = s f .value .result .value; k = k f .value2 .result .value; loss = loss i; shake = shake i })))
-    ∙ question-right (now (s f .before .before .args .line)) (s f .value .result) (k f .value2 .result) (a f .weight .result) (b f .weight2 .result) (m .no-more .result) (f .first-false .result)
-    (s f .value .ensures) (k f .value2 .ensures) (a f .weight .ensures) (b f .weight2 .ensures) (m .no-more .ensures) (f .first-false .ensures) (e .if1 .left)
+    let heat = signed-kept (h f .heat-weight .result .value) (omega (arith, heat-small f)) (third .signed163 .ensures) in
+    ap command.Item (c .question-item .ensures)
+    ∙ (λ i. command.Item (questionItem (bare .no-more2 .result) (record { slot = s f .value .result .value; k = k f .value2 .result .value; loss = loss i; shake = shake i; heat = heat i })))
+    ∙ question-right (text f) (s f .value .result) (k f .value2 .result) (a f .weight .result) (b f .weight2 .result) (h f .heat-weight .result) (m .no-more .result) (f .first-of-six .result)
+    (s f .value .ensures) (k f .value2 .ensures) (a f .weight .ensures) (b f .weight2 .ensures) (h f .heat-weight .ensures) (m .no-more .ensures) (f .first-of-six .ensures) (bare .no-more2 .result) (bare .no-more2 .ensures) (e .if1 .left)
 
 pub question-line-spec : {M : Type 1} → statement M
 question-line-spec =
@@ -103,13 +131,18 @@ question-line-spec =
     value-requires-2
     weight-requires
     weight-requires-2
+    heat-weight-requires
     no-more-requires
-    first-false-requires
+    first-of-six-requires
     returns
     cast-signed16
     signed16-requires
     cast-signed16-2
     signed16-requires-2
-    cast-t13
-    cast-t14
+    cast-signed16-3
+    signed16-requires-3
+    cast-t16
+    cast-t17
+    no-more-requires-2
+    question-item-requires
     returns-2)

@@ -7,8 +7,8 @@ use Rattle.commands.proofs.write.Tie as tie
 of-requires : tie.Need-of-requires
 of-requires c κs = search needs
 
-tail-requires : tie.Need-tail-requires
-tail-requires c κs = search needs
+note-in-requires : tie.Need-note-in-requires
+note-in-requires c κs = search needs
 
 put-requires : tie.Need-put-requires
 put-requires c κs = search needs
@@ -24,8 +24,8 @@ returns c =
     let p = c .before .before .before in
     let t = p .before .before in
     let o = t .before in
-    rw (← t .tail .ensures, ← o .of .ensures) (λ i. record { answer = p .put .ensures .0 i; time = c .time-after .ensures i }, p .put .ensures .1)
+    rw (← t .note-in .ensures, ← o .of .ensures) (λ i. record { answer = p .put .ensures .0 i; time = c .time-after .ensures i }, p .put .ensures .1)
 
 pub write-spec : {M : Type 1} → statement M
 write-spec =
-    tie.close (tie.spec of-requires tail-requires put-requires time-after-requires same-length returns)
+    tie.close (tie.spec of-requires note-in-requires put-requires time-after-requires same-length returns)

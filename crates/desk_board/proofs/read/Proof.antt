@@ -8,10 +8,10 @@ use Rattle.desk_board.proofs.read.Statement.{statement}
 use Rattle.desk_board.proofs.read.Tie as tie
 
 abbrev Inv-loop : tie.InvT-loop
-Inv-loop out₀ numbers scores len end₀ i₀ out end i = length out ≡ length out₀
+Inv-loop out₀ numbers scores editions len end₀ i₀ out end i = length out ≡ length out₀
 
 abbrev μ-loop : tie.MeasureT-loop
-μ-loop out₀ numbers scores len end₀ i₀ out end i = 16 - i
+μ-loop out₀ numbers scores editions len end₀ i₀ out end i = 16 - i
 
 refused-requires : tie.Need-refused-requires Inv-loop μ-loop
 refused-requires c κs = search needs
@@ -34,8 +34,8 @@ put-counted-requires c κs = search needs
 loop-holds : tie.Need-loop-holds Inv-loop μ-loop
 loop-holds c = search needs
 
-cast-entry : tie.Need-cast-entry Inv-loop μ-loop
-cast-entry c = search needs
+cast-k : tie.Need-cast-k Inv-loop μ-loop
+cast-k c = search needs
 
 mul-entry : tie.Need-mul-entry Inv-loop μ-loop
 mul-entry c = search needs
@@ -43,14 +43,17 @@ mul-entry c = search needs
 array-read-entry : tie.Need-array-read-entry Inv-loop μ-loop
 array-read-entry c = search needs
 
-cast-entry-2 : tie.Need-cast-entry-2 Inv-loop μ-loop
-cast-entry-2 c = search needs
-
 mul-entry-2 : tie.Need-mul-entry-2 Inv-loop μ-loop
 mul-entry-2 c = search needs
 
 array-copy-out-entry : tie.Need-array-copy-out-entry Inv-loop μ-loop
 array-copy-out-entry c = search needs
+
+mul-entry-3 : tie.Need-mul-entry-3 Inv-loop μ-loop
+mul-entry-3 c = search needs
+
+array-read-entry-2 : tie.Need-array-read-entry-2 Inv-loop μ-loop
+array-read-entry-2 c = search needs
 
 entry-requires : tie.Need-entry-requires Inv-loop μ-loop
 entry-requires c κs = search needs
@@ -83,12 +86,13 @@ read-spec =
     cast-put-counted
     put-counted-requires
     loop-holds
-    cast-entry
+    cast-k
     mul-entry
     array-read-entry
-    cast-entry-2
     mul-entry-2
     array-copy-out-entry
+    mul-entry-3
+    array-read-entry-2
     entry-requires
     add-i
     loop-less

@@ -8,10 +8,10 @@ use Rattle.desk_board.proofs.rows.Statement.{statement}
 use Rattle.desk_board.proofs.rows.Tie as tie
 
 abbrev Inv-loop : tie.InvT-loop
-Inv-loop counts losses shakes numbers at out₀ held end₀ i₀ out end i = length out ≡ length out₀
+Inv-loop counts losses shakes names at out₀ held end₀ i₀ out end i = length out ≡ length out₀
 
 abbrev μ-loop : tie.MeasureT-loop
-μ-loop counts losses shakes numbers at out₀ held end₀ i₀ out end i = held - i
+μ-loop counts losses shakes names at out₀ held end₀ i₀ out end i = held - i
 
 loop-holds : tie.Need-loop-holds Inv-loop μ-loop
 loop-holds c = search needs

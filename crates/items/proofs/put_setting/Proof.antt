@@ -1,4 +1,4 @@
--- `items::put_setting` meets its contract: the four parts of the value stand in a row.
+-- `items::put_setting` meets its contract: the five parts of the value stand in a row, and as much of it is written as was asked for.
 -- Assumes nothing.
 use mathlib.Core.Path.{ap, _∙_}
 use mir.Facts.{toZ-ofZ}
@@ -38,8 +38,20 @@ unsigned16-requires-2 c κs = search needs
 put16-requires-2 : tie.Need-put16-requires-2
 put16-requires-2 c κs = search needs
 
-slice-aggregate-put-field : tie.Need-slice-aggregate-put-field
-slice-aggregate-put-field c = search needs
+slice-aggregate-put16-3 : tie.Need-slice-aggregate-put16-3
+slice-aggregate-put16-3 c = search needs
+
+unsigned16-requires-3 : tie.Need-unsigned16-requires-3
+unsigned16-requires-3 c κs = search needs
+
+put16-requires-3 : tie.Need-put16-requires-3
+put16-requires-3 c κs = search needs
+
+slice-aggregate-front : tie.Need-slice-aggregate-front
+slice-aggregate-front c = search needs
+
+front-requires : tie.Need-front-requires
+front-requires c κs = search needs
 
 put-field-requires : tie.Need-put-field-requires
 put-field-requires c κs = search needs
@@ -50,7 +62,9 @@ same-length c = search needs
 returns : tie.Need-returns
 returns c =
     let f = c .before .before in
-    let fourth = f .before .before .before .before in
+    let fifth = f .before .before .before .before .before in
+    let z = fifth .before in
+    let fourth = z .before .before .before .before in
     let b = fourth .before in
     let third = b .before .before .before .before in
     let a = third .before in
@@ -59,8 +73,9 @@ returns c =
     let s = first .before .before .before .args .s in
     let loss = a .unsigned16 .ensures ∙ ap unsigned16 (toZ-ofZ (record { sfits = a .before .struct-told .given .1 .1 .0 .1 })) in
     let shake = b .unsigned162 .ensures ∙ ap unsigned16 (toZ-ofZ (record { sfits = b .before .struct-told2 .given .1 .1 .1 .0 .1 })) in
+    let heat = z .unsigned163 .ensures ∙ ap unsigned16 (toZ-ofZ (record { sfits = z .before .struct-told3 .given .1 .1 .1 .1 .0 .1 })) in
     f .put-field .ensures
-    ∙ rw (setting-stored s loss shake (first .put .ensures) (second .put2 .ensures) (third .put16 .ensures) (fourth .put162 .ensures))
+    ∙ rw (f .before .front .ensures, setting-stored s loss shake heat (first .put .ensures) (second .put2 .ensures) (third .put16 .ensures) (fourth .put162 .ensures) (fifth .put163 .ensures))
 
 pub put-setting-spec : {M : Type 1} → statement M
 put-setting-spec =
@@ -76,7 +91,11 @@ put-setting-spec =
     slice-aggregate-put16-2
     unsigned16-requires-2
     put16-requires-2
-    slice-aggregate-put-field
+    slice-aggregate-put16-3
+    unsigned16-requires-3
+    put16-requires-3
+    slice-aggregate-front
+    front-requires
     put-field-requires
     same-length
     returns)

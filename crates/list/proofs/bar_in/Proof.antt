@@ -14,7 +14,7 @@ use Rattle.list.proofs.bar_in.Tie as tie
 returns : tie.Need-returns
 returns c =
     let a = c .before .args in
-    sym (bar-at-none (a .numbers .now) (a .scores .now) (a .len) (a .full) (c .if1 .taken))
+    sym (bar-at-none (a .names .now) (a .scores .now) (a .len) (a .full) (c .if1 .taken))
 
 sub-last : tie.Need-sub-last
 sub-last c = search needs
@@ -35,9 +35,9 @@ returns-2 : tie.Need-returns-2
 returns-2 c =
     let first = c .before .before in
     let a = first .before .args in
-    let ns = a .numbers .now in
+    let ns = a .names .now in
     let ss = a .scores .now in
-    ap (λ s. record { full = a .full; number = getD ns (a .len - 1) 0; score = s }) (kept w32 (getD ss (a .len - 1) (pos 0)) (c .t14 .given))
+    ap (λ s. record { full = a .full; name = getD ns (a .len - 1) 0; score = s }) (kept w32 (getD ss (a .len - 1) (pos 0)) (c .t14 .given))
     ∙ sym (bar-at-some ns ss (a .len) (a .full) (first .if1 .left))
 
 pub bar-in-spec : {M : Type 1} → statement M

@@ -13,7 +13,9 @@ use lib.ListN.{getD}
 use lib.Signed.{ltZ}
 use mir.Syntax.{w32}
 use mir.Val.{toZ, ofZ}
-use Rattle.ranking.specs.Cells.{score, isScored, points}
+use Rattle.values.proofs.Names.{name-back}
+use Rattle.ranking.specs.declared.Rule.{Rule}
+use Rattle.ranking.specs.Cells.{score, isScored, points, ScoreFits, fromLeast}
 use Rattle.ranking.specs.Standing.{Entry, above, isCounted, entry, top}
 use Rattle.ranking.specs.declared.Score.the-variants.{Scored}
 use Rattle.ranking.proofs.Cells.{from-is, from-none}
@@ -33,17 +35,17 @@ use Rattle.list.proofs.gathered.Statement.{statement}
 use Rattle.list.proofs.gathered.Tie as tie
 
 abbrev Inv-loop : tie.InvT-loop
-Inv-loop rule k losses shakes numbers rows most end found₀ by₀ len₀ bar₀ least₀ row₀ found by len bar least row =
+Inv-loop rule k losses shakes names rows most end found₀ by₀ len₀ bar₀ least₀ row₀ found by len bar least row =
     (row ≤ end)
     × (end ≡ min rows 1024)
     × (most ≡ min k 16)
     × Roomy found by
-    × (record { numbers = found; scores = by; len = len } ≡ columnsOf (top rule most (standing (rowsOf losses shakes numbers) row)))
+    × (record { names = found; scores = by; len = len } ≡ columnsOf (top rule most (standing (rowsOf losses shakes names) row)))
     × (bar ≡ barAt found by len (eqb len most))
     × (toZ w32 least ≡ leastAt bar)
 
 abbrev μ-loop : tie.MeasureT-loop
-μ-loop rule k losses shakes numbers rows most end found₀ by₀ len₀ bar₀ least₀ row₀ found by len bar least row = end - row
+μ-loop rule k losses shakes names rows most end found₀ by₀ len₀ bar₀ least₀ row₀ found by len bar least row = end - row
 
 -- what the loop's head knows
 module _ (c : tie.At-loop Inv-loop μ-loop) where
@@ -57,7 +59,7 @@ module _ (c : tie.At-loop Inv-loop μ-loop) where
   most = ended .before .smaller .result
 
   abbrev rows : Window
-  rows = rowsOf (start .args .losses .now) (start .args .shakes .now) (start .args .numbers .now)
+  rows = rowsOf (start .args .losses .now) (start .args .shakes .now) (start .args .names .now)
 
   abbrev report : Entry
   report = entry (start .args .rule) (reportIn rows (c .loop .row))
@@ -74,10 +76,17 @@ module _ (c : tie.At-loop Inv-loop μ-loop) where
 -- and the loop's body of its row
 module _ (c : tie.After-score-from Inv-loop μ-loop) where
   abbrev at : tie.At-loop Inv-loop μ-loop
-  at = c .before .before .before .before
+  at = c .before .before .before .before .before
 
   up : at .loop .row + 1 ≤ ended at .smaller2 .result
   up = search needs
+
+  abbrev rule : Rule
+  rule = start at .args .rule
+
+  -- the score is that of the row's report
+  scored-as : (c .score-from .result ≡ fromLeast (toZ w32 (at .loop .least)) (score rule (reportIn (rows at) (at .loop .row) .values))) × ScoreFits rule (reportIn (rows at) (at .loop .row) .values)
+  scored-as = c .score-from .ensures
 
 -- a row whose report counts, and isn't below the least score
 module _ (c : tie.After-known-told Inv-loop μ-loop) where
@@ -88,7 +97,7 @@ module _ (c : tie.After-known-told Inv-loop μ-loop) where
   own = c .before .scored .given .0 .0
 
   is : score (start row .args .rule) (reportIn (rows row) (row .loop .row) .values) ≡ Scored own
-  is = from-is (toZ w32 (row .loop .least)) (score (start row .args .rule) (reportIn (rows row) (row .loop .row) .values)) own (sym (c .before .before .before .score-from .ensures .0) ∙ c .before .scored .given .1)
+  is = from-is (toZ w32 (row .loop .least)) (score (start row .args .rule) (reportIn (rows row) (row .loop .row) .values)) own (sym (scored-as (c .before .before .before) .0) ∙ c .before .scored .given .1)
 
   whole : toZ w32 (ofZ w32 own) ≡ own
   whole = kept w32 own (c .known-told .given .0 .1)
@@ -96,15 +105,15 @@ module _ (c : tie.After-known-told Inv-loop μ-loop) where
   counted : isCounted (start row .args .rule) (reportIn (rows row) (row .loop .row)) ≡ true
   counted = ap isScored is
 
-  reported : record { number = getD (rows row .numbers) (row .loop .row) 0; score = toZ w32 (ofZ w32 own) } ≡ report row
-  reported = ap (λ s. record { number = reportIn (rows row) (row .loop .row) .number; score = s }) (whole ∙ sym (ap points is))
+  reported : record { name = getD (rows row .names) (row .loop .row) 0; score = toZ w32 (ofZ w32 own) } ≡ report row
+  reported = ap₂ (λ n s. record { name = n; score = s }) (sym (name-back (getD (rows row .names) (row .loop .row) 0))) (whole ∙ sym (ap points is))
 
 module _ (c : tie.After-admits Inv-loop μ-loop) where
   abbrev turn : tie.At-loop Inv-loop μ-loop
-  turn = row (c .before .before)
+  turn = row (c .before)
 
   test : c .admits .result ≡ admits (above (start turn .args .rule)) (barOf (columnsOf (top (start turn .args .rule) (most turn) (standing (rows turn) (turn .loop .row)))) (most turn)) (report turn)
-  test = c .admits .ensures ∙ ap₂ (admits (above (start turn .args .rule))) (same-bar turn) (reported (c .before .before))
+  test = c .admits .ensures ∙ ap₂ (admits (above (start turn .args .rule))) (same-bar turn) (reported (c .before))
 
 smaller-requires : tie.Need-smaller-requires Inv-loop μ-loop
 smaller-requires c κs = search needs
@@ -126,8 +135,8 @@ loop-holds c =
       search needs,
       ended .smaller2 .ensures,
       chosen .smaller .ensures,
-      record { numbers = refl; scores = refl },
-      gathered-none (a .rule) (chosen .smaller .result) (omega (arith, chosen .smaller .ensures)) (rowsOf (a .losses .now) (a .shakes .now) (a .numbers .now)),
+      record { names = refl; scores = refl },
+      gathered-none (a .rule) (chosen .smaller .result) (omega (arith, chosen .smaller .ensures)) (rowsOf (a .losses .now) (a .shakes .now) (a .names .now)),
       c .before .bar-in .ensures,
       kept w32 (c .least .result) (c .least .ok) ∙ c .least .ensures,
     )
@@ -146,6 +155,12 @@ mul-shake c = search needs
 
 element-copy-out-shake : tie.Need-element-copy-out-shake Inv-loop μ-loop
 element-copy-out-shake c = search needs
+
+mul-name : tie.Need-mul-name Inv-loop μ-loop
+mul-name c = search needs
+
+element-copy-out-name : tie.Need-element-copy-out-name Inv-loop μ-loop
+element-copy-out-name c = search needs
 
 score-from-requires : tie.Need-score-from-requires Inv-loop μ-loop
 score-from-requires c κs = search needs
@@ -169,15 +184,9 @@ loop-again c =
     ⊎-elim (gathered-out rule (most b) (small b) (rows b) (l .row))
     (λ low. gathered-skips rule (most b) (small b) (rows b) (l .row) (low .0)
     (ap (λ bar. admits (above rule) bar (report b)) (sym (same-bar b))
-    ∙ admits-under (above rule) (l .bar) (report b) (score-below rule) (one .score-from .ensures .1 .sfits) (ap (ltZ (report b .score)) (sym (l .inv .6)) ∙ low .1)))
-    (from-none (toZ w32 (l .least)) (score rule (reportIn (rows b) (l .row) .values)) (sym (one .score-from .ensures .0) ∙ c .enum-told .given .1)) in
+    ∙ admits-under (above rule) (l .bar) (report b) (score-below rule) (scored-as one .1 .sfits) (ap (ltZ (report b .score)) (sym (l .inv .6)) ∙ low .1)))
+    (from-none (toZ w32 (l .least)) (score rule (reportIn (rows b) (l .row) .values)) (sym (scored-as one .0) ∙ c .enum-told .given .1)) in
     (up one, l .inv .1, l .inv .2, l .inv .3, l .inv .4 ∙ ap columnsOf fails, l .inv .5, l .inv .6)
-
-mul-number : tie.Need-mul-number Inv-loop μ-loop
-mul-number c = search needs
-
-element-copy-out-number : tie.Need-element-copy-out-number Inv-loop μ-loop
-element-copy-out-number c = search needs
 
 admits-requires : tie.Need-admits-requires Inv-loop μ-loop
 admits-requires c κs = search needs
@@ -189,7 +198,7 @@ loop-again-2 : tie.Need-loop-again-2 Inv-loop μ-loop
 loop-again-2 c =
     let b = turn (c .before) in
     let l = b .loop in
-    (up (c .before .before .before .before .before .before), l .inv .1, l .inv .2, l .inv .3, l .inv .4 ∙ ap columnsOf (gathered-skips (start b .args .rule) (most b) (small b) (rows b) (l .row) (counted (c .before .before .before)) (sym (test (c .before)) ∙ not-true _ (c .if1 .taken))), l .inv .5, l .inv .6)
+    (up (c .before .before .before .before .before), l .inv .1, l .inv .2, l .inv .3, l .inv .4 ∙ ap columnsOf (gathered-skips (start b .args .rule) (most b) (small b) (rows b) (l .row) (counted (c .before .before)) (sym (test (c .before)) ∙ not-true _ (c .if1 .taken))), l .inv .5, l .inv .6)
 
 put-in-requires : tie.Need-put-in-requires Inv-loop μ-loop
 put-in-requires c κs =
@@ -212,11 +221,11 @@ loop-again-3 c =
     let earlier = put .before .before .before .before in
     let b = turn earlier in
     let l = b .loop in (
-      up (earlier .before .before .before .before .before),
+      up (earlier .before .before .before .before),
       l .inv .1,
       l .inv .2,
       put .put-in .ensures .1,
-      gathered-places (start b .args .rule) (most b) (small b) (rows b) (l .row) (l .found) _ (l .by) _ (l .len) _ _ (l .inv .4) (put .put-in .ensures .1) (put .put-in .ensures .0) (reported (earlier .before .before)) (counted (earlier .before .before)) (sym (test earlier) ∙ not-false _ (put .before .before .before .if1 .left)),
+      gathered-places (start b .args .rule) (most b) (small b) (rows b) (l .row) (l .found) _ (l .by) _ (l .len) _ _ (l .inv .4) (put .put-in .ensures .1) (put .put-in .ensures .0) (reported (earlier .before)) (counted (earlier .before)) (sym (test earlier) ∙ not-false _ (put .before .before .before .if1 .left)),
       c .before .bar-in2 .ensures,
       kept w32 (c .least2 .result) (c .least2 .ok) ∙ c .least2 .ensures,
     )
@@ -248,13 +257,13 @@ gathered-spec =
     element-copy-out-loss
     mul-shake
     element-copy-out-shake
+    mul-name
+    element-copy-out-name
     score-from-requires
     enum-known-scored
     enum-told
     loop-less
     loop-again
-    mul-number
-    element-copy-out-number
     admits-requires
     loop-less-2
     loop-again-2

@@ -17,7 +17,7 @@ use Rattle.list.proofs.new_in.Statement.{statement}
 use Rattle.list.proofs.new_in.Tie as tie
 
 abbrev none : Entry
-none = record { number = 0; score = pos 0 }
+none = record { name = 0; score = pos 0 }
 
 mul-above : tie.Need-mul-above
 mul-above c = search needs
@@ -39,15 +39,15 @@ returns c =
     let first = c .before .before .before in
     let start = first .before in
     let a = start .args in
-    let ns = a .numbers .now in
+    let ns = a .names .now in
     let ss = a .scores .now in
     let room = start .pre .1 in
     let few = start .pre .0 in
-    let x : Entry = record { number = a .number; score = a .score } in
+    let x : Entry = record { name = a .name; score = a .score } in
     let l = take (a .len) (linesOf ns ss) in
     let line = lineAt ns ss (a .at) in
     c .above .ensures
-    ∙ ap₂ (λ s t. above (a .rule) (record { number = a .number; score = s }) (record { number = line .number; score = t })) (toZ-ofZ (start .fits .score)) (kept w32 (line .score) (c .before .above-arg2 .given))
+    ∙ ap₂ (λ s t. above (a .rule) (record { name = a .name; score = s }) (record { name = line .name; score = t })) (toZ-ofZ (start .fits .score)) (kept w32 (line .score) (c .before .above-arg2 .given))
     ∙ sym
     (new-there (above (a .rule)) (above-strict (a .rule)) x l none (omega (arith, length-front ns ss room (a .len) few, first .if1 .taken, start .pre .2))
     ∙ ap (above (a .rule) x) (ap (λ i. getD l i none) (sym (start .pre .2)) ∙ line-at ns ss room (a .len) few (a .at) (first .if1 .taken)))
@@ -56,11 +56,11 @@ returns-2 : tie.Need-returns-2
 returns-2 c =
     let start = c .before in
     let a = start .args in
-    let ns = a .numbers .now in
+    let ns = a .names .now in
     let ss = a .scores .now in
     let room = start .pre .1 in
     sym
-    (new-last (above (a .rule)) (above-strict (a .rule)) (record { number = a .number; score = a .score }) (take (a .len) (linesOf ns ss))
+    (new-last (above (a .rule)) (above-strict (a .rule)) (record { name = a .name; score = a .score }) (take (a .len) (linesOf ns ss))
     (omega (arith, length-front ns ss room (a .len) (start .pre .0), c .if1 .left, start .pre .2)))
 
 pub new-in-spec : {M : Type 1} → statement M

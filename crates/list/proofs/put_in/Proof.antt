@@ -22,18 +22,18 @@ module _ (c : tie.After-rank-in) where
   start = c .before .before .before
 
   abbrev entry : Entry
-  entry = record { number = start .args .number; score = start .args .score }
+  entry = record { name = start .args .name; score = start .args .score }
 
   abbrev old : List Entry
-  old = linesOf (start .args .numbers .now) (start .args .scores .now)
+  old = linesOf (start .args .names .now) (start .args .scores .now)
 
   long : length old ≡ 16
-  long = length-all (start .args .numbers .now) (start .args .scores .now) (start .pre .2)
+  long = length-all (start .args .names .now) (start .args .scores .now) (start .pre .2)
 
   found : c .rank-in .result ≡ rankIn (above (start .args .rule)) entry (take (start .args .len) old)
   found =
       c .rank-in .ensures
-      ∙ ap (λ s. rankIn (above (start .args .rule)) (record { number = start .args .number; score = s }) (take (start .args .len) old)) (toZ-ofZ (start .fits .score))
+      ∙ ap (λ s. rankIn (above (start .args .rule)) (record { name = start .args .name; score = s }) (take (start .args .len) old)) (toZ-ofZ (start .fits .score))
 
 -- and once it is known whether the entry is new
 module _ (c : tie.After-new-in) where
@@ -43,7 +43,7 @@ module _ (c : tie.After-new-in) where
   is-new : c .new-in .result ≡ newIn (above (start ranked .args .rule)) (entry ranked) (take (start ranked .args .len) (old ranked))
   is-new =
       c .new-in .ensures
-      ∙ ap (λ s. newIn (above (start ranked .args .rule)) (record { number = start ranked .args .number; score = s }) (take (start ranked .args .len) (old ranked))) (toZ-ofZ (start ranked .fits .score))
+      ∙ ap (λ s. newIn (above (start ranked .args .rule)) (record { name = start ranked .args .name; score = s }) (take (start ranked .args .len) (old ranked))) (toZ-ofZ (start ranked .fits .score))
 
 rank-in-requires : tie.Need-rank-in-requires
 rank-in-requires c κs = search needs
@@ -100,10 +100,10 @@ returns-3 c =
     let order = at-last (above (a .rule)) (above-strict (a .rule)) (entry r) (a .len) (a .most) (old r) (long r) (start r .pre .0) (start r .pre .1) at (found r) under last (m .smaller2 .ensures) in
     let low = last-low (above (a .rule)) (above-strict (a .rule)) (entry r) (a .len) (a .most) (old r) (long r) (start r .pre .0) (start r .pre .1) at (found r) under last (m .smaller2 .ensures) in
     let right = c .slide .ensures .1 ∙ ap (λ s. slid at last s (a .scores .now)) (toZ-ofZ (start r .fits .score)) in (
-      subst (λ l. Placing (above (a .rule)) (entry r) (a .len) (a .most) (old r) l (last + 1)) (sym (slid-lines (start r .pre .2) at last (a .number) (a .score) order low (c .slide .ensures .0) right))
+      subst (λ l. Placing (above (a .rule)) (entry r) (a .len) (a .most) (old r) l (last + 1)) (sym (slid-lines (start r .pre .2) at last (a .name) (a .score) order low (c .slide .ensures .0) right))
           (placing-new (above (a .rule)) (above-strict (a .rule)) (entry r) (a .len) (a .most) (old r) (long r) (start r .pre .0) (start r .pre .1) at (found r) under last (m .smaller2 .ensures)
           (sym (is-new b) ∙ not-false _ (m .before .if2 .left))),
-      slid-roomy (start r .pre .2) at last (a .number) (a .score) order low (c .slide .ensures .0) right,
+      slid-roomy (start r .pre .2) at last (a .name) (a .score) order low (c .slide .ensures .0) right,
     )
 
 pub put-in-spec : {M : Type 1} → statement M

@@ -21,14 +21,14 @@ use Rattle.list.proofs.rank_in.Statement.{statement}
 use Rattle.list.proofs.rank_in.Tie as tie
 
 abbrev Inv-loop : tie.InvT-loop
-Inv-loop rule numbers scores len number score i₀ i =
+Inv-loop rule names scores len name score i₀ i =
     (i ≤ len)
     × (len ≤ 16)
-    × Roomy numbers scores
-    × Ranked (above rule) (record { number = number; score = toZ w32 score }) (take len (linesOf numbers scores)) i
+    × Roomy names scores
+    × Ranked (above rule) (record { name = name; score = toZ w32 score }) (take len (linesOf names scores)) i
 
 abbrev μ-loop : tie.MeasureT-loop
-μ-loop rule numbers scores len number score i₀ i = len - i
+μ-loop rule names scores len name score i₀ i = len - i
 
 loop-holds : tie.Need-loop-holds Inv-loop μ-loop
 loop-holds c = (
@@ -58,17 +58,17 @@ returns c =
     let at = c .before .before .before .before .before in
     let start = at .before in
     let a = start .args in
-    let ns = a .numbers .now in
+    let ns = a .names .now in
     let ss = a .scores .now in
     let i = at .loop .i in
     let inv = at .loop .inv in
-    let x : Entry = record { number = a .number; score = toZ w32 (ofZ w32 (a .score)) } in
+    let x : Entry = record { name = a .name; score = toZ w32 (ofZ w32 (a .score)) } in
     ranked-here (above (a .rule)) (above-strict (a .rule)) x (lineAt ns ss i) (take (a .len) (linesOf ns ss)) _ i (inv .3)
     (drop-line ns ss (inv .2) (a .len) (inv .1) i (search needs))
-    (ap (λ s. above (a .rule) (record { number = getD ns i 0; score = s }) x) (sym (kept w32 (getD ss i (pos 0)) (c .before .before .above-arg2 .given)))
+    (ap (λ s. above (a .rule) (record { name = getD ns i 0; score = s }) x) (sym (kept w32 (getD ss i (pos 0)) (c .before .before .above-arg2 .given)))
     ∙ sym (c .before .above .ensures)
     ∙ not-true _ (c .if1 .taken))
-    ∙ ap (λ s. rankIn (above (a .rule)) (record { number = a .number; score = s }) (take (a .len) (linesOf ns ss))) (toZ-ofZ (start .fits .score))
+    ∙ ap (λ s. rankIn (above (a .rule)) (record { name = a .name; score = s }) (take (a .len) (linesOf ns ss))) (toZ-ofZ (start .fits .score))
 
 add-i : tie.Need-add-i Inv-loop μ-loop
 add-i c = search needs
@@ -80,17 +80,17 @@ loop-again : tie.Need-loop-again Inv-loop μ-loop
 loop-again c =
     let at = c .before .before .before .before .before in
     let a = at .before .args in
-    let ns = a .numbers .now in
+    let ns = a .names .now in
     let ss = a .scores .now in
     let i = at .loop .i in
     let inv = at .loop .inv in
-    let x : Entry = record { number = a .number; score = toZ w32 (ofZ w32 (a .score)) } in (
+    let x : Entry = record { name = a .name; score = toZ w32 (ofZ w32 (a .score)) } in (
       search needs,
       inv .1,
       inv .2,
       ranked-on (above (a .rule)) (above-strict (a .rule)) x (lineAt ns ss i) (take (a .len) (linesOf ns ss)) i (inv .3)
           (drop-line ns ss (inv .2) (a .len) (inv .1) i (search needs))
-          (ap (λ s. above (a .rule) (record { number = getD ns i 0; score = s }) x) (sym (kept w32 (getD ss i (pos 0)) (c .before .before .above-arg2 .given)))
+          (ap (λ s. above (a .rule) (record { name = getD ns i 0; score = s }) x) (sym (kept w32 (getD ss i (pos 0)) (c .before .before .above-arg2 .given)))
           ∙ sym (c .before .above .ensures)
           ∙ not-false _ (c .if1 .left)),
     )
@@ -100,13 +100,13 @@ returns-2 c =
     let at = c .before in
     let start = at .before in
     let a = start .args in
-    let ns = a .numbers .now in
+    let ns = a .names .now in
     let ss = a .scores .now in
     let inv = at .loop .inv in
     let all : at .loop .i ≡ a .len = omega (arith, inv .0) in
     sym all
     ∙ ranked-end (above (a .rule)) (above-strict (a .rule)) _ (take (a .len) (linesOf ns ss)) (at .loop .i) (inv .3) (none-left ns ss (inv .2) (a .len) (inv .1) (at .loop .i) all)
-    ∙ ap (λ s. rankIn (above (a .rule)) (record { number = a .number; score = s }) (take (a .len) (linesOf ns ss))) (toZ-ofZ (start .fits .score))
+    ∙ ap (λ s. rankIn (above (a .rule)) (record { name = a .name; score = s }) (take (a .len) (linesOf ns ss))) (toZ-ofZ (start .fits .score))
 
 pub rank-in-spec : {M : Type 1} → statement M
 rank-in-spec =

@@ -15,16 +15,16 @@ use Rattle.list.proofs.slide.Statement.{statement}
 use Rattle.list.proofs.slide.Tie as tie
 
 abbrev Inv-loop : tie.InvT-loop
-Inv-loop numbers₀ scores₀ at last number score i₀ numbers scores i =
+Inv-loop names₀ scores₀ at last name score i₀ names scores i =
     (at ≤ i)
     × (i ≤ last)
     × (last < 16)
-    × Roomy numbers₀ scores₀
-    × (numbers ≡ opened i last numbers₀)
+    × Roomy names₀ scores₀
+    × (names ≡ opened i last names₀)
     × (scores ≡ opened i last scores₀)
 
 abbrev μ-loop : tie.MeasureT-loop
-μ-loop numbers₀ scores₀ at last number score i₀ numbers scores i = i
+μ-loop names₀ scores₀ at last name score i₀ names scores i = i
 
 loop-holds : tie.Need-loop-holds Inv-loop μ-loop
 loop-holds c =
@@ -34,24 +34,24 @@ loop-holds c =
       omega arith,
       c .pre .1,
       room,
-      sym (opened-none (a .last) (a .numbers .now) (omega (arith, room .numbers, c .pre .1))),
+      sym (opened-none (a .last) (a .names .now) (omega (arith, room .names, c .pre .1))),
       sym (opened-none (a .last) (a .scores .now) (omega (arith, room .scores, c .pre .1))),
     )
 
 sub-before : tie.Need-sub-before Inv-loop μ-loop
 sub-before c = search needs
 
-mul-numbers : tie.Need-mul-numbers Inv-loop μ-loop
-mul-numbers c = search needs
+mul-names : tie.Need-mul-names Inv-loop μ-loop
+mul-names c = search needs
 
-element-copy-out-numbers : tie.Need-element-copy-out-numbers Inv-loop μ-loop
-element-copy-out-numbers c = search needs
+element-copy-out-names : tie.Need-element-copy-out-names Inv-loop μ-loop
+element-copy-out-names c = search needs
 
-mul-numbers-2 : tie.Need-mul-numbers-2 Inv-loop μ-loop
-mul-numbers-2 c = search needs
+mul-names-2 : tie.Need-mul-names-2 Inv-loop μ-loop
+mul-names-2 c = search needs
 
-element-write-numbers : tie.Need-element-write-numbers Inv-loop μ-loop
-element-write-numbers c = search needs
+element-write-names : tie.Need-element-write-names Inv-loop μ-loop
+element-write-names c = search needs
 
 mul-scores : tie.Need-mul-scores Inv-loop μ-loop
 mul-scores c = search needs
@@ -79,16 +79,16 @@ loop-again c =
       search needs,
       inv .2,
       inv .3,
-      opened-more 0 i (i - 1) (a .last) (a .numbers .now) (at .loop .numbers) one (inv .1) (omega (arith, inv .3 .numbers, inv .2)) (inv .4),
+      opened-more 0 i (i - 1) (a .last) (a .names .now) (at .loop .names) one (inv .1) (omega (arith, inv .3 .names, inv .2)) (inv .4),
       ap (set (at .loop .scores) i) (kept w32 (getD (at .loop .scores) (i - 1) (pos 0)) (c .scores .given))
           ∙ opened-more (pos 0) i (i - 1) (a .last) (a .scores .now) (at .loop .scores) one (inv .1) (omega (arith, inv .3 .scores, inv .2)) (inv .5),
     )
 
-mul-numbers-3 : tie.Need-mul-numbers-3 Inv-loop μ-loop
-mul-numbers-3 c = search needs
+mul-names-3 : tie.Need-mul-names-3 Inv-loop μ-loop
+mul-names-3 c = search needs
 
-element-write-numbers-2 : tie.Need-element-write-numbers-2 Inv-loop μ-loop
-element-write-numbers-2 c = search needs
+element-write-names-2 : tie.Need-element-write-names-2 Inv-loop μ-loop
+element-write-names-2 c = search needs
 
 mul-score : tie.Need-mul-score Inv-loop μ-loop
 mul-score c = search needs
@@ -104,8 +104,8 @@ returns c =
     let inv = at .loop .inv in
     let all : at .loop .i ≡ a .at = omega (arith, inv .0, c .loop-test .left) in
     let in-order : a .at ≤ a .last = start .pre .0 in (
-      ap (λ l. set l (a .at) (a .number)) (inv .4 ∙ ap (λ i. opened i (a .last) (a .numbers .now)) all)
-          ∙ closed (a .number) (a .at) (a .last) (a .numbers .now) in-order (omega (arith, inv .3 .numbers, inv .2)),
+      ap (λ l. set l (a .at) (a .name)) (inv .4 ∙ ap (λ i. opened i (a .last) (a .names .now)) all)
+          ∙ closed (a .name) (a .at) (a .last) (a .names .now) in-order (omega (arith, inv .3 .names, inv .2)),
       ap (set (at .loop .scores) (a .at)) (toZ-ofZ (start .fits .score))
           ∙ ap (λ l. set l (a .at) (a .score)) (inv .5 ∙ ap (λ i. opened i (a .last) (a .scores .now)) all)
           ∙ closed (a .score) (a .at) (a .last) (a .scores .now) in-order (omega (arith, inv .3 .scores, inv .2)),
@@ -119,18 +119,18 @@ slide-spec =
     μ-loop
     loop-holds
     sub-before
-    mul-numbers
-    element-copy-out-numbers
-    mul-numbers-2
-    element-write-numbers
+    mul-names
+    element-copy-out-names
+    mul-names-2
+    element-write-names
     mul-scores
     element-copy-out-scores
     mul-t14
     element-set-from-scores
     loop-less
     loop-again
-    mul-numbers-3
-    element-write-numbers-2
+    mul-names-3
+    element-write-names-2
     mul-score
     element-set-from-score
     returns)

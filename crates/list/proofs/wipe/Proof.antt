@@ -12,11 +12,11 @@ use Rattle.list.specs.Inner.{wiped}
 use Rattle.list.proofs.wipe.Tie as tie
 
 abbrev Inv-loop : tie.InvT-loop
-Inv-loop numbers₀ scores₀ from i₀ numbers scores i =
-    (from ≤ i) × (i ≤ 16) × Roomy numbers₀ scores₀ × (numbers ≡ wiped i 0 numbers₀) × (scores ≡ wiped i (pos 0) scores₀)
+Inv-loop names₀ scores₀ from i₀ names scores i =
+    (from ≤ i) × (i ≤ 16) × Roomy names₀ scores₀ × (names ≡ wiped i 0 names₀) × (scores ≡ wiped i (pos 0) scores₀)
 
 abbrev μ-loop : tie.MeasureT-loop
-μ-loop numbers₀ scores₀ from i₀ numbers scores i = i
+μ-loop names₀ scores₀ from i₀ names scores i = i
 
 loop-holds : tie.Need-loop-holds Inv-loop μ-loop
 loop-holds c =
@@ -25,18 +25,18 @@ loop-holds c =
       c .pre .0,
       omega arith,
       room,
-      sym (wiped-none 0 (a .numbers .now) (room .numbers)),
+      sym (wiped-none 0 (a .names .now) (room .names)),
       sym (wiped-none (pos 0) (a .scores .now) (room .scores)),
     )
 
 sub-i : tie.Need-sub-i Inv-loop μ-loop
 sub-i c = search needs
 
-mul-numbers : tie.Need-mul-numbers Inv-loop μ-loop
-mul-numbers c = search needs
+mul-names : tie.Need-mul-names Inv-loop μ-loop
+mul-names c = search needs
 
-element-write-numbers : tie.Need-element-write-numbers Inv-loop μ-loop
-element-write-numbers c = search needs
+element-write-names : tie.Need-element-write-names Inv-loop μ-loop
+element-write-names c = search needs
 
 mul-scores : tie.Need-mul-scores Inv-loop μ-loop
 mul-scores c = search needs
@@ -57,7 +57,7 @@ loop-again c =
       search needs,
       search needs,
       inv .2,
-      wiped-more 0 i (i - 1) (a .numbers .now) (at .loop .numbers) one (inv .1) (inv .2 .numbers) (inv .3),
+      wiped-more 0 i (i - 1) (a .names .now) (at .loop .names) one (inv .1) (inv .2 .names) (inv .3),
       wiped-more (pos 0) i (i - 1) (a .scores .now) (at .loop .scores) one (inv .1) (inv .2 .scores) (inv .4),
     )
 
@@ -67,7 +67,7 @@ returns c =
     let a = at .before .args in
     let inv = at .loop .inv in
     let all : at .loop .i ≡ a .from = omega (arith, inv .0, c .loop-test .left) in
-    (inv .3 ∙ ap (λ i. wiped i 0 (a .numbers .now)) all, inv .4 ∙ ap (λ i. wiped i (pos 0) (a .scores .now)) all)
+    (inv .3 ∙ ap (λ i. wiped i 0 (a .names .now)) all, inv .4 ∙ ap (λ i. wiped i (pos 0) (a .scores .now)) all)
 
 pub wipe-spec : {M : Type 1} → statement M
 wipe-spec =
@@ -77,8 +77,8 @@ wipe-spec =
     μ-loop
     loop-holds
     sub-i
-    mul-numbers
-    element-write-numbers
+    mul-names
+    element-write-names
     mul-scores
     element-set-of-scores
     loop-less

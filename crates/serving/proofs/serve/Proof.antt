@@ -34,7 +34,7 @@ same-length c = search needs
 returns : tie.Need-returns
 returns c =
     let a = c .before .before .before .before .before .before .before .before .args in
-    serves (served-show (a .tag) (a .item) (now (a .value)) (a .held) (standing (rowsOf (now (a .losses)) (now (a .shakes)) (now (a .numbers))) 1024) (c .before .before .before .before .before .if1 .taken))
+    serves (served-show (a .tag) (a .item) (now (a .value)) (a .held) (standing (rowsOf (now (a .losses)) (now (a .shakes)) (now (a .names))) 1024) (c .before .before .before .before .before .if1 .taken))
     (ap (λ (n : ℕ). shownText (a .item) n (a .held)) (c .before .before .before .byte .ensures)) refl (c .before .before .put-shown .ensures)
 
 emptied-requires : tie.Need-emptied-requires
@@ -49,7 +49,7 @@ same-length-2 c = search needs
 returns-2 : tie.Need-returns-2
 returns-2 c =
     let a = c .before .before .before .before .before .before .before .before .before .before .args in
-    serves (served-remove (a .tag) (a .item) (now (a .value)) (a .held) (standing (rowsOf (now (a .losses)) (now (a .shakes)) (now (a .numbers))) 1024) (c .before .before .before .before .before .before .before .if1 .left) (c .before .before .before .before .before .before .if2 .taken))
+    serves (served-remove (a .tag) (a .item) (now (a .value)) (a .held) (standing (rowsOf (now (a .losses)) (now (a .shakes)) (now (a .names))) 1024) (c .before .before .before .before .before .before .before .if1 .left) (c .before .before .before .before .before .before .if2 .taken))
     refl (c .before .before .before .before .before .emptied .ensures) (c .before .before .put-refusal .ensures)
 
 rule-in-requires : tie.Need-rule-in-requires
@@ -73,7 +73,7 @@ same-length-3 c = search needs
 returns-3 : tie.Need-returns-3
 returns-3 c =
     let a = c .before .before .before .before .before .before .before .before .before .before .before .before .before .args in
-    let rows = standing (rowsOf (now (a .losses)) (now (a .shakes)) (now (a .numbers))) 1024 in
+    let rows = standing (rowsOf (now (a .losses)) (now (a .shakes)) (now (a .names))) 1024 in
     let k = c .before .before .before .before .before .before .before .byte2 .ensures in
     let rule = c .before .before .before .before .before .before .before .before .rule-in .ensures in
     let set = c .before .before .before .before .before .before .set-in in

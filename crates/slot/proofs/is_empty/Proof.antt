@@ -40,7 +40,7 @@ unfolding isEmpty
 returns-5 c =
     let at = c .before .before .before .before .before in
     let q = at .before .before .before .before .before .args .question in
-    rw (eq-eqb _ _ (at .before .before .if1 .left), sym (at .before .is-none .ensures) ∙ not-false _ (at .if2 .left), eq-eqb _ _ (c .before .before .before .if3 .left), eq-eqb _ _ (c .before .if4 .left)) (c .rest-blank .ensures ∙ ap (λ n. allOf blank (drop n (linesOf (q .numbers) (q .scores)))) (c .before .before .before .if3 .left))
+    rw (eq-eqb _ _ (at .before .before .if1 .left), sym (at .before .is-none .ensures) ∙ not-false _ (at .if2 .left), eq-eqb _ _ (c .before .before .before .if3 .left), eq-eqb _ _ (c .before .if4 .left)) (c .rest-blank .ensures ∙ ap (λ n. allOf blank (drop n (linesOf (q .names) (q .scores)))) (c .before .before .before .if3 .left))
 
 pub is-empty-spec : {M : Type 1} → statement M
 is-empty-spec =

@@ -8,10 +8,12 @@ use mir.Val.{toZ, ofZ}
 use Rattle.laws.proofs.Words.{kept}
 use Rattle.values.specs.Range.{low}
 use Rattle.values.proofs.Facts.{low-in}
+use Rattle.values.proofs.Names.{name-back}
 use Rattle.ranking.specs.Cells.{score, isScored, points, cell}
 use Rattle.ranking.specs.Standing.{Held}
 use Rattle.ranking.specs.declared.Score.the-variants.{Scored}
 use Rattle.ranking.proofs.Cells.{counts-order, scored-counts}
+use Rattle.window.specs.Rows.{valuesAt, reportAt}
 use Rattle.question.specs.Lines.{withEntry, cutToK, isPast}
 use Rattle.question.proofs.Marking.{marked-past}
 use Rattle.slot.specs.Turn.{placeOn, takes}
@@ -22,25 +24,32 @@ use Rattle.slot.proofs.listed.Tie as tie
 -- what is known of a report that counts
 module _ (c : tie.After-joins) where
   abbrev start : tie.Start
-  start = c .before .before .before .before .before .before
+  start = c .before .before .before .before .before .before .before
 
   abbrev report : Held
-  report = record { number = start .args .number; values = low (start .args .values) }
+  report = reportAt (start .args .row)
 
-  is : score (start .args .question .rule) (low (start .args .values)) ≡ Scored (c .before .before .before .score2 .given .0 .0)
-  is = sym (c .before .before .before .before .before .score .ensures) ∙ c .before .before .before .score2 .given .1
+  -- the values of the row
+  read : c .before .before .before .before .before .before .values .result ≡ valuesAt (start .args .row)
+  read = c .before .before .before .before .before .before .values .ensures
 
-  own : toZ w32 (ofZ w32 (c .before .before .before .score2 .given .0 .0)) ≡ points (score (start .args .question .rule) (low (start .args .values)))
+  is : score (start .args .question .rule) (report .values) ≡ Scored (c .before .before .before .score2 .given .0 .0)
+  is = sym (c .before .before .before .before .before .score .ensures ∙ ap (λ v. score (start .args .question .rule) (low v)) read) ∙ c .before .before .before .score2 .given .1
+
+  own : toZ w32 (ofZ w32 (c .before .before .before .score2 .given .0 .0)) ≡ points (score (start .args .question .rule) (report .values))
   own = kept w32 (c .before .before .before .score2 .given .0 .0) (c .before .before .known-told .given .0 .1) ∙ sym (ap points is)
 
-  test : c .joins .result ≡ takes (start .args .question) (low (start .args .values))
+  test : c .joins .result ≡ takes (start .args .question) (report .values)
   test =
       let q = start .args .question in
-      let v = low (start .args .values) in
-      let there = counts-order (q .rule) v (low-in (start .args .values)) (sym (scored-counts (q .rule) v) ∙ ap isScored is) in
+      let v = report .values in
+      let there = counts-order (q .rule) v (low-in (valuesAt (start .args .row))) (sym (scored-counts (q .rule) v) ∙ ap isScored is) in
       c .joins .ensures
-      ∙ ap₂ (λ a b. a && b) (ap (isPast q) (c .before .cell .ensures) ∙ sym (marked-past q (cell v) there)) (ap (placeOn q) own)
+      ∙ ap₂ (λ a b. a && b) (ap (isPast q) (c .before .cell .ensures ∙ ap (λ u. cell (low u)) read) ∙ sym (marked-past q (cell v) there)) (ap (placeOn q) own)
       ∙ sym (takes-both q v (ap isScored is))
+
+values-requires : tie.Need-values-requires
+values-requires c κs = search needs
 
 score-requires : tie.Need-score-requires
 score-requires c κs = search needs
@@ -65,7 +74,7 @@ returns c =
     let at = c .before .before in
     let q = start at .args .question in
     c .cut-with .ensures
-    ∙ ap (λ s. cutToK (withEntry q (record { number = start at .args .number; score = s }))) (own at)
+    ∙ ap₂ (λ n s. cutToK (withEntry q (record { name = n; score = s }))) (sym (name-back (start at .args .row .name))) (own at)
     ∙ sym (listed-taking q (report at) (sym (test at) ∙ c .before .if1 .taken))
 
 returns-2 : tie.Need-returns-2
@@ -76,13 +85,15 @@ returns-2 c =
 returns-3 : tie.Need-returns-3
 returns-3 c =
     let one = c .before .before in
-    let a = one .before .args in
-    sym (listed-out (a .question) (record { number = a .number; values = low (a .values) }) (ap isScored (sym (one .score .ensures) ∙ c .enum-told .given .1)))
+    let a = one .before .before .args in
+    let read = ap (λ v. score (a .question .rule) (low v)) (one .before .values .ensures) in
+    sym (listed-out (a .question) (reportAt (a .row)) (ap isScored (sym (one .score .ensures ∙ read) ∙ c .enum-told .given .1)))
 
 pub listed-spec : {M : Type 1} → statement M
 listed-spec =
     tie.close
     (tie.spec
+    values-requires
     score-requires
     enum-known-score
     cell-requires

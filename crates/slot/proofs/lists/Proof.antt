@@ -8,16 +8,19 @@ use lib.Dec.{ltb}
 use lib.ListN.{take, drop}
 use Rattle.list.specs.Lines.{allOf}
 use Rattle.question.proofs.Stored.{roomy}
-use Rattle.slot.proofs.Listing.{lists-numbers, gone-here, gone-later, gone-nowhere}
+use Rattle.slot.proofs.Listing.{lists-names, gone-here, gone-later, gone-nowhere}
 use borrow.Author.Needs.{needs}
 use Rattle.slot.proofs.lists.Statement.{statement}
 use Rattle.slot.proofs.lists.Tie as tie
 
 abbrev Inv-loop : tie.InvT-loop
-Inv-loop gone question n i₀ i = (i ≤ n) × (allOf (ltb gone) (drop i (take n (question .numbers))) ≡ allOf (ltb gone) (take n (question .numbers)))
+Inv-loop gone question limit n i₀ i = (i ≤ n) × (allOf (ltb limit) (drop i (take n (question .names))) ≡ allOf (ltb limit) (take n (question .names)))
 
 abbrev μ-loop : tie.MeasureT-loop
-μ-loop gone question n i₀ i = n - i
+μ-loop gone question limit n i₀ i = n - i
+
+last-name-requires : tie.Need-last-name-requires Inv-loop μ-loop
+last-name-requires c κs = search needs
 
 lines-in-requires : tie.Need-lines-in-requires Inv-loop μ-loop
 lines-in-requires c κs = search needs
@@ -31,17 +34,21 @@ mul-if1 c = omega arith
 element-copy-out-if1 : tie.Need-element-copy-out-if1 Inv-loop μ-loop
 element-copy-out-if1 c = omega arith
 
+cast-if1 : tie.Need-cast-if1 Inv-loop μ-loop
+cast-if1 c = search needs
+
 returns : tie.Need-returns Inv-loop μ-loop
 returns c =
     let l = c .before .before .before in
     let counted = l .before in
-    let start = counted .before in
+    let last = counted .before .last-name in
+    let start = counted .before .before in
     let q = start .args .t1 in
     let good = start .good .0 .1 .1 .1 .1 in
     let r = roomy q (good .0 .1 .0 .1) (good .1 .0 .1 .0 .1) in
-    let here = gone-here (q .numbers) (counted .lines-in .result) (l .loop .i) (omega (arith, r .numbers, counted .lines-in .ensures)) (omega arith) (start .args .gone) (c .if1 .taken) in
+    let here = gone-here (q .names) (counted .lines-in .result) (l .loop .i) (omega (arith, r .names, counted .lines-in .ensures)) (omega arith) (last .result) (c .if1 .taken) in
     ap not (sym here ∙ l .loop .inv .1)
-    ∙ lists-numbers q (start .args .gone) r (counted .lines-in .result) (counted .lines-in .ensures)
+    ∙ lists-names q (start .args .gone) (last .result) (last .ensures) r (counted .lines-in .result) (counted .lines-in .ensures)
 
 add-i : tie.Need-add-i Inv-loop μ-loop
 add-i c = omega arith
@@ -53,23 +60,25 @@ loop-again : tie.Need-loop-again Inv-loop μ-loop
 loop-again c =
     let l = c .before .before .before in
     let counted = l .before in
-    let start = counted .before in
+    let last = counted .before .last-name in
+    let start = counted .before .before in
     let q = start .args .t1 in
     let good = start .good .0 .1 .1 .1 .1 in
     let r = roomy q (good .0 .1 .0 .1) (good .1 .0 .1 .0 .1) in
-    let later = gone-later (q .numbers) (counted .lines-in .result) (l .loop .i) (omega (arith, r .numbers, counted .lines-in .ensures)) (omega arith) (start .args .gone) (c .if1 .left) in
+    let later = gone-later (q .names) (counted .lines-in .result) (l .loop .i) (omega (arith, r .names, counted .lines-in .ensures)) (omega arith) (last .result) (c .if1 .left) in
     (omega arith, sym later ∙ l .loop .inv .1)
 
 returns-2 : tie.Need-returns-2 Inv-loop μ-loop
 returns-2 c =
     let l = c .before in
     let counted = l .before in
-    let start = counted .before in
+    let last = counted .before .last-name in
+    let start = counted .before .before in
     let q = start .args .t1 in
     let good = start .good .0 .1 .1 .1 .1 in
     let r = roomy q (good .0 .1 .0 .1) (good .1 .0 .1 .0 .1) in
-    ap not (sym (gone-nowhere (start .args .gone) (q .numbers) (counted .lines-in .result) (l .loop .i) (omega arith)) ∙ l .loop .inv .1)
-    ∙ lists-numbers q (start .args .gone) r (counted .lines-in .result) (counted .lines-in .ensures)
+    ap not (sym (gone-nowhere (last .result) (q .names) (counted .lines-in .result) (l .loop .i) (omega arith)) ∙ l .loop .inv .1)
+    ∙ lists-names q (start .args .gone) (last .result) (last .ensures) r (counted .lines-in .result) (counted .lines-in .ensures)
 
 pub lists-spec : {M : Type 1} → statement M
 lists-spec =
@@ -77,10 +86,12 @@ lists-spec =
     (tie.spec
     Inv-loop
     μ-loop
+    last-name-requires
     lines-in-requires
     loop-holds
     mul-if1
     element-copy-out-if1
+    cast-if1
     returns
     add-i
     loop-less

@@ -32,11 +32,11 @@ unfolding setIn
 returns-2 c =
     let at = c .before .before .before in
     let a = at .before .before .args in
-    let rows = rowsOf (now (a .losses)) (now (a .shakes)) (now (a .numbers)) in
+    let rows = rowsOf (now (a .losses)) (now (a .shakes)) (now (a .names)) in
     let made = c .before .before .fresh .ensures in
     let found =
     c .before .searched-in .ensures
-    ∙ ap (λ q. searchedFirst (record { k = a .k; rule = a .rule; numbers = q .numbers; scores = q .scores; len = q .len; next = q .next }) rows 1024) made
+    ∙ ap (λ q. searchedFirst (record { k = a .k; rule = a .rule; names = q .names; scores = q .scores; len = q .len; next = q .next }) rows 1024) made
     ∙ first-among _ rows 1024 in
     ap (λ (f : Searched). record { refusal = 0; steps = f .steps; question = f .question }) found
     ∙ sym (zero-is _ _ (sym (at .before .ask-refusal .ensures) ∙ at .if1 .left))

@@ -40,7 +40,7 @@ returns-3 c =
     let known = c .before .before .before .before .answer2 .given in
     let r = known .0 .0 in
     rw (known .1)
-    (ap (λ (a : Arrival). record { refused = not (eqb (a .refusal) 0); code = a .refusal; number = a .number; gone = a .oldest; values = r .values }) (c .before .of .ensures), (refl, refl))
+    (ap (λ (a : Arrival). record { refused = not (eqb (a .refusal) 0); code = a .refusal; number = a .number; gone = a .oldest; row = record { loss = r .values .loss; shake = r .values .shake; name = a .name } }) (c .before .of .ensures), (refl, refl))
 
 pub brings-spec : {M : Type 1} → statement M
 brings-spec =

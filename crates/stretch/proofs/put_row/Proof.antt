@@ -21,22 +21,22 @@ mul-shakes c = search needs
 element-write-shakes : tie.Need-element-write-shakes
 element-write-shakes c = search needs
 
-mul-numbers : tie.Need-mul-numbers
-mul-numbers c = search needs
+mul-names : tie.Need-mul-names
+mul-names c = search needs
 
-element-write-numbers : tie.Need-element-write-numbers
-element-write-numbers c = search needs
+element-write-names : tie.Need-element-write-names
+element-write-names c = search needs
 
 add-result : tie.Need-add-result
 add-result c = search needs
 
 returns : tie.Need-returns
-returns c = record { used = rw (le-leb _ _ (c .if1 .taken)); losses = refl; shakes = refl; numbers = refl }
+returns c = record { used = rw (le-leb _ _ (c .if1 .taken)); losses = refl; shakes = refl; names = refl }
 
 returns-2 : tie.Need-returns-2
-returns-2 c = record { used = rw (lt-leb _ _ (c .if1 .left)); losses = refl; shakes = refl; numbers = refl }
+returns-2 c = record { used = rw (lt-leb _ _ (c .if1 .left)); losses = refl; shakes = refl; names = refl }
 
 pub put-row-spec : {M : Type 1} → statement M
 put-row-spec =
     tie.close
-    (tie.spec cast-row mul-losses element-write-losses mul-shakes element-write-shakes mul-numbers element-write-numbers add-result returns returns-2)
+    (tie.spec cast-row mul-losses element-write-losses mul-shakes element-write-shakes mul-names element-write-names add-result returns returns-2)

@@ -11,10 +11,10 @@ use Rattle.stretch.proofs.rows_in.Statement.{statement}
 use Rattle.stretch.proofs.rows_in.Tie as tie
 
 abbrev Inv-loop : tie.InvT-loop
-Inv-loop numbers rows₀ rows = (rows ≤ 1024) × (rowsUsed 1024 numbers ≡ rowsUsed rows numbers)
+Inv-loop names rows₀ rows = (rows ≤ 1024) × (rowsUsed 1024 names ≡ rowsUsed rows names)
 
 abbrev μ-loop : tie.MeasureT-loop
-μ-loop numbers rows₀ rows = rows
+μ-loop names rows₀ rows = rows
 
 loop-holds : tie.Need-loop-holds Inv-loop μ-loop
 loop-holds c = (omega arith, refl)
@@ -31,7 +31,7 @@ element-copy-out-if1 c = omega arith
 returns : tie.Need-returns Inv-loop μ-loop
 returns c =
     let l = c .before .before .before .loop in
-    sym (l .inv .1 ∙ used-here (λ k. eqb k 0) 0 (c .before .before .before .before .args .numbers .now) (l .rows) (l .rows - 1) (omega arith) (ne-eqb _ _ (c .if1 .taken)))
+    sym (l .inv .1 ∙ used-here (λ k. eqb k 0) 0 (c .before .before .before .before .args .names .now) (l .rows) (l .rows - 1) (omega arith) (ne-eqb _ _ (c .if1 .taken)))
 
 loop-less : tie.Need-loop-less Inv-loop μ-loop
 loop-less c = omega arith
@@ -39,10 +39,10 @@ loop-less c = omega arith
 loop-again : tie.Need-loop-again Inv-loop μ-loop
 loop-again c =
     let l = c .before .before .before .loop in
-    (omega arith, l .inv .1 ∙ used-below (λ k. eqb k 0) 0 (c .before .before .before .before .args .numbers .now) (l .rows) (l .rows - 1) (omega arith) (eq-eqb _ _ (c .if1 .left)))
+    (omega arith, l .inv .1 ∙ used-below (λ k. eqb k 0) 0 (c .before .before .before .before .args .names .now) (l .rows) (l .rows - 1) (omega arith) (eq-eqb _ _ (c .if1 .left)))
 
 returns-2 : tie.Need-returns-2 Inv-loop μ-loop
-returns-2 c = sym (c .before .loop .inv .1 ∙ none-used (λ k. eqb k 0) 0 (c .before .before .args .numbers .now) (c .before .loop .rows) (omega arith))
+returns-2 c = sym (c .before .loop .inv .1 ∙ none-used (λ k. eqb k 0) 0 (c .before .before .args .names .now) (c .before .loop .rows) (omega arith))
 
 pub rows-in-spec : {M : Type 1} → statement M
 rows-in-spec =

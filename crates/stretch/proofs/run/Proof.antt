@@ -27,18 +27,18 @@ use Rattle.stretch.specs.Inner.{windowOf, isFrame, frameSize, frameOf, l
 use Rattle.stretch.proofs.run.Tie as tie
 
 abbrev Inv-loop2 : tie.InvT-loop2
-Inv-loop2 bus known lasts bytes out₀ items at₀ counts losses shakes numbers rows slots₀ gauges₀ used i begun tag brought slot₀ out at slots gauges slot =
-    Turns brought (windowOf counts losses shakes numbers) items rows slots₀ used out₀ at₀ slot slots gauges at out
+Inv-loop2 bus known lasts bytes out₀ items at₀ counts losses shakes names rows slots₀ gauges₀ used i begun tag brought values slot₀ out at slots gauges slot =
+    Turns brought (windowOf counts losses shakes names) items rows slots₀ used out₀ at₀ slot slots gauges at out
 
 abbrev μ-loop2 : tie.MeasureT-loop2
-μ-loop2 bus known lasts bytes out₀ items at₀ counts losses shakes numbers rows slots₀ gauges₀ used i begun tag brought slot₀ out at slots gauges slot = used - slot
+μ-loop2 bus known lasts bytes out₀ items at₀ counts losses shakes names rows slots₀ gauges₀ used i begun tag brought values slot₀ out at slots gauges slot = used - slot
 
 abbrev Inv-loop : tie.InvT-loop
-Inv-loop bus₀ known₀ lasts₀ bytes out₀ items₀ at₀ counts₀ losses₀ shakes₀ numbers₀ rows₀ slots₀ gauges₀ used₀ i₀ begun₀ bus known lasts out items at counts losses shakes numbers rows slots gauges used i begun =
-    Stands (logOf items₀ (windowOf counts₀ losses₀ shakes₀ numbers₀) slots₀ (stationsIn bus₀ known₀ lasts₀)) bytes out₀ at₀ items (windowOf counts losses shakes numbers) rows slots gauges used bus known lasts i at out × Due (length bytes) i (begun .timed)
+Inv-loop bus₀ known₀ lasts₀ bytes out₀ items₀ at₀ counts₀ losses₀ shakes₀ names₀ rows₀ slots₀ gauges₀ used₀ i₀ begun₀ bus known lasts out items at counts losses shakes names rows slots gauges used i begun =
+    Stands (logOf items₀ (windowOf counts₀ losses₀ shakes₀ names₀) slots₀ (stationsIn bus₀ known₀ lasts₀)) bytes out₀ at₀ items (windowOf counts losses shakes names) rows slots gauges used bus known lasts i at out × Due (length bytes) i (begun .timed)
 
 abbrev μ-loop : tie.MeasureT-loop
-μ-loop bus₀ known₀ lasts₀ bytes out₀ items₀ at₀ counts₀ losses₀ shakes₀ numbers₀ rows₀ slots₀ gauges₀ used₀ i₀ begun₀ bus known lasts out items at counts losses shakes numbers rows slots gauges used i begun = length bytes - i
+μ-loop bus₀ known₀ lasts₀ bytes out₀ items₀ at₀ counts₀ losses₀ shakes₀ names₀ rows₀ slots₀ gauges₀ used₀ i₀ begun₀ bus known lasts out items at counts losses shakes names rows slots gauges used i begun = length bytes - i
 
 -- An item comes.
 module _ (g : tie.Then1 Inv-loop2 μ-loop2 Inv-loop μ-loop) where
@@ -110,7 +110,7 @@ loop-holds c =
         all-slots = sym (length-map (a .from .board .slots) _) ∙ c .before .before .before .before .before .before .before .before .before .before .before .before .before .good .0 .1 .1 .1 .0 .1 .1 .1 .0 .1 .0 .1;
         went = went-none (logIn (a .from) (now (a .bus)) (now (a .known)) (now (a .lasts))) (now (a .bytes)) (now (a .out)) (a .from .at) (search needs);
         gauged = gauged-of (a .from .board .slots) (c .before .of-slots .ensures) (c .in-use .ensures);
-        rowed = rowed-of (a .from .board .window .numbers) (c .before .before .before .rows-in .ensures);
+        rowed = rowed-of (a .from .board .window .names) (c .before .before .before .rows-in .ensures);
       },
       inr (omega arith),
     )
@@ -265,24 +265,27 @@ put-row-requires c κs =
     row-there _ _ _ _ (small (for-bus f)) (for-bus f .before .before .loop .inv .0) (for-bus f .before .goes-on .ensures) (for-bus f .if1 .taken) refl (f .before .before .before .next-item .ensures) (a-frame f)
     refl (hears-then (b .begin .ensures) (goes-by h .if3 .left) (frame-is b) (h .hear .ensures)) (c .before .before .before .place .ensures)
 
+values-requires : tie.Need-values-requires Inv-loop2 μ-loop2 Inv-loop μ-loop
+values-requires c κs = search needs
+
 loop2-holds : tie.Need-loop2-holds Inv-loop2 μ-loop2 Inv-loop μ-loop
 loop2-holds c =
-    let h = (c .before .before .before .before .before .before .before .before .before .before .before) in
+    let h = (c .before .before .before .before .before .before .before .before .before .before .before .before) in
     let b = begun-at h in
     let f = begun-for b in
     turns-begin _ _ _ _ (small (for-bus f)) (for-bus f .before .before .loop .inv .0) (for-bus f .before .goes-on .ensures) (for-bus f .if1 .taken) refl (f .before .before .before .next-item .ensures) (a-frame f)
-    refl (hears-then (b .begin .ensures) (goes-by h .if3 .left) (frame-is b) (h .hear .ensures)) (c .before .before .before .before .place .ensures) (c .put-row .ensures) (c .before .before .before .before .before .before .before .before .before .put-refusal2 .ensures)
+    refl (hears-then (b .begin .ensures) (goes-by h .if3 .left) (frame-is b) (h .hear .ensures)) (c .before .before .before .before .before .place .ensures) (c .before .put-row .ensures) (c .before .before .before .before .before .before .before .before .before .before .put-refusal2 .ensures)
 
 loop-less-4 : tie.Need-loop-less-4 Inv-loop2 μ-loop2 Inv-loop μ-loop
-loop-less-4 c = let b = begun-at (c .before .before .before .before .before .before .before .before .before .before .before .before .before) in omega (arith, goes-further b, ends-there b)
+loop-less-4 c = let b = begun-at (c .before .before .before .before .before .before .before .before .before .before .before .before .before .before) in omega (arith, goes-further b, ends-there b)
 
 loop-again-4 : tie.Need-loop-again-4 Inv-loop2 μ-loop2 Inv-loop μ-loop
 loop-again-4 c =
-    let h = (c .before .before .before .before .before .before .before .before .before .before .before .before .before) in
+    let h = (c .before .before .before .before .before .before .before .before .before .before .before .before .before .before) in
     let b = begun-at h in
     let f = begun-for b in (
       stands-enters _ _ _ _ (small (for-bus f)) (for-bus f .before .before .loop .inv .0) (for-bus f .before .goes-on .ensures) (for-bus f .if1 .taken) refl (f .before .before .before .next-item .ensures) (a-frame f)
-          refl (hears-then (b .begin .ensures) (goes-by h .if3 .left) (frame-is b) (h .hear .ensures)) (c .before .before .before .before .before .before .before .if4 .left) (c .before .before .before .before .before .before .place .ensures) (c .before .before .put-row .ensures) (c .before .before .before .before .before .before .before .before .before .before .before .put-refusal2 .ensures) (b .begin .ensures .ends) (c .before .loop2 .inv) (omega arith),
+          refl (hears-then (b .begin .ensures) (goes-by h .if3 .left) (frame-is b) (h .hear .ensures)) (c .before .before .before .before .before .before .before .before .if4 .left) (c .before .before .before .before .before .before .before .place .ensures) (c .before .before .before .put-row .ensures) (c .before .before .before .before .before .before .before .before .before .before .before .before .put-refusal2 .ensures) (b .begin .ensures .ends) (c .before .loop2 .inv) (omega arith),
       due b,
     )
 
@@ -302,7 +305,7 @@ loop2-less : tie.Need-loop2-less Inv-loop2 μ-loop2 Inv-loop μ-loop
 loop2-less c = omega arith
 
 loop2-again : tie.Need-loop2-again Inv-loop2 μ-loop2 Inv-loop μ-loop
-loop2-again c = turns-quiet (c .before .before .before .before .loop2 .inv) (omega arith) _ (c .before .quiet .ensures) (c .if5 .taken)
+loop2-again c = turns-quiet (c .before .before .before .before .loop2 .inv) (omega arith) _ (c .before .before .before .before .before .values .ensures) (c .before .quiet .ensures) (c .if5 .taken)
 
 mul-held-2 : tie.Need-mul-held-2 Inv-loop2 μ-loop2 Inv-loop μ-loop
 mul-held-2 c = search needs
@@ -310,8 +313,8 @@ mul-held-2 c = search needs
 array-copy-out-held-2 : tie.Need-array-copy-out-held-2 Inv-loop2 μ-loop2 Inv-loop μ-loop
 array-copy-out-held-2 c = in-array (c .before .before .before)
 
-turn-of-requires : tie.Need-turn-of-requires Inv-loop2 μ-loop2 Inv-loop μ-loop
-turn-of-requires c κs = search needs
+turn-requires : tie.Need-turn-requires Inv-loop2 μ-loop2 Inv-loop μ-loop
+turn-requires c κs = search needs
 
 cast-put-search : tie.Need-cast-put-search Inv-loop2 μ-loop2 Inv-loop μ-loop
 cast-put-search c = omega (arith, in-array (c .before .before .before .before .before .before .before .before .before))
@@ -341,7 +344,7 @@ loop2-less-2 : tie.Need-loop2-less-2 Inv-loop2 μ-loop2 Inv-loop μ-loop
 loop2-less-2 c = omega (arith, c .before .before .before .before .before .before .before .before .before .before .before .before .before .before .before .loop2 .inv .within)
 
 loop2-again-2 : tie.Need-loop2-again-2 Inv-loop2 μ-loop2 Inv-loop μ-loop
-loop2-again-2 c = turns-more (c .before .before .before .before .before .before .before .before .before .before .before .before .before .before .before .loop2 .inv) (omega arith) (c .before .before .before .before .before .before .turn-of .ensures) (c .before .before .before .before .put-search .ensures) (c .of2 .ensures)
+loop2-again-2 c = turns-more (c .before .before .before .before .before .before .before .before .before .before .before .before .before .before .before .loop2 .inv) (omega arith) (c .before .before .before .before .before .before .turn .ensures) (c .before .before .before .before .put-search .ensures) (c .of2 .ensures)
 
 end-of-run-requires : tie.Need-end-of-run-requires Inv-loop2 μ-loop2 Inv-loop μ-loop
 end-of-run-requires c κs = search needs
@@ -398,6 +401,7 @@ run-spec =
     loop-again-3
     place-requires
     put-row-requires
+    values-requires
     loop2-holds
     loop-less-4
     loop-again-4
@@ -409,7 +413,7 @@ run-spec =
     loop2-again
     mul-held-2
     array-copy-out-held-2
-    turn-of-requires
+    turn-requires
     cast-put-search
     put-search-requires
     mul-slots-2

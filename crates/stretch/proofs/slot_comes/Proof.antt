@@ -1,12 +1,16 @@
--- The tests are those of the definition.
+-- The tag alone tells which length the item must have.
 -- Assumes nothing.
-use mathlib.Core.Path.{_≡_, sym, _∙_}
+use mathlib.Core.Path.{_≡_, sym, ap, ap₂, _∙_}
 use mathlib.Core.Bool.{true, false, and-false, and-true}
 use Prim.Native.Nat.{ℕ, _≤_, _<_}
 use native.Mathlib.Omega.{arith}
-use borrow.Author.Tests.{lt-ltb, le-ltb}
+use denote.Ref.{now}
+use borrow.Author.Tests.{lt-ltb, le-ltb, eq-eqb, ne-eqb}
 use lib.Dec.{ltb}
-use Rattle.stretch.specs.Coming.{slotComes}
+use lib.ListN.{getD}
+use Rattle.stretch.specs.Coming.{itemComes, slotComes}
+use Rattle.stretch.specs.Inner.{slotSize}
+use Rattle.stretch.proofs.Coming.{slot-tag, slot-small}
 use borrow.Author.Needs.{needs}
 use Rattle.stretch.proofs.slot_comes.Statement.{statement}
 use Rattle.stretch.proofs.slot_comes.Tie as tie
@@ -27,39 +31,35 @@ returns : tie.Need-returns
 unfolding slotComes
 returns c = rw (no-slot (c .before .byte .ensures) (c .if1 .taken), and-false)
 
-item-comes-requires : tie.Need-item-comes-requires
-item-comes-requires c κs = search needs
+byte-requires-2 : tie.Need-byte-requires-2
+byte-requires-2 c κs = search needs
+
+slot-size-requires : tie.Need-slot-size-requires
+slot-size-requires c κs = search needs
 
 returns-2 : tie.Need-returns-2
-unfolding slotComes
-returns-2 c = rw (sym (c .before .item-comes .ensures) ∙ c .if2 .taken, a-slot (c .before .before .before .byte .ensures) (c .before .before .if1 .left))
+returns-2 c =
+    let at = c .before .before .before in
+    let a = at .before .before .before .args in
+    let size = c .before .slot-size .ensures ∙ ap slotSize (c .before .before .byte2 .ensures) in
+    rw (slot-tag (now (a .bytes)) (a .i), eq-eqb _ 0 (sym size ∙ c .if2 .taken))
 
-item-comes-requires-2 : tie.Need-item-comes-requires-2
-item-comes-requires-2 c κs = search needs
+item-comes-requires : tie.Need-item-comes-requires
+item-comes-requires c κs =
+    let at = c .before .before .before in
+    (at .before .before .before .pre, rw (c .before .slot-size .ensures) (slot-small (c .before .before .byte2 .result)))
 
 returns-3 : tie.Need-returns-3
-unfolding slotComes
 returns-3 c =
-    rw (sym (c .before .before .before .item-comes .ensures) ∙ c .before .before .if2 .left, sym (c .before .item-comes2 .ensures) ∙ c .if3 .taken, a-slot (c .before .before .before .before .before .byte .ensures) (c .before .before .before .before .if1 .left))
-
-item-comes-requires-3 : tie.Need-item-comes-requires-3
-item-comes-requires-3 c κs = search needs
-
-returns-4 : tie.Need-returns-4
-unfolding slotComes
-returns-4 c =
-    rw (sym (c .before .before .before .before .item-comes .ensures) ∙ c .before .before .before .if2 .left, sym (c .before .before .item-comes2 .ensures) ∙ c .before .if3 .left, a-slot (c .before .before .before .before .before .before .byte .ensures) (c .before .before .before .before .before .if1 .left), and-true) (c .item-comes3 .ensures)
+    let earlier = c .before .before in
+    let at = earlier .before .before in
+    let a = at .before .before .before .args in
+    let tag = earlier .before .byte2 .ensures in
+    let size = earlier .slot-size .ensures ∙ ap slotSize tag in
+    rw (slot-tag (now (a .bytes)) (a .i), ne-eqb _ 0 (λ e. c .before .if2 .left (size ∙ e)), a-slot (at .before .byte .ensures) (at .if1 .left), and-true)
+    (c .item-comes .ensures ∙ ap₂ (itemComes (now (a .bytes)) (a .i)) tag size)
 
 pub slot-comes-spec : {M : Type 1} → statement M
 slot-comes-spec =
     tie.close
-    (tie.spec
-    add-byte
-    byte-requires
-    returns
-    item-comes-requires
-    returns-2
-    item-comes-requires-2
-    returns-3
-    item-comes-requires-3
-    returns-4)
+    (tie.spec add-byte byte-requires returns byte-requires-2 slot-size-requires returns-2 item-comes-requires returns-3)

@@ -1,11 +1,12 @@
 -- The row of the next number takes the report, and every other stays.
 -- Assumes nothing.
+use mathlib.Core.Path.{_∙_}
 use Prim.Native.Nat.{_+_, _-_}
 use native.Mathlib.Nat.{mod-lt}
 use native.Mathlib.Omega.{arith}
 use borrow.Author.Needs.{needs}
-use borrow.Author.Tests.{lt-ltb}
-use Rattle.laws.proofs.Tests.{and-true}
+use borrow.Author.Tests.{lt-ltb, le-leb}
+use Rattle.laws.proofs.Tests.{and-true, if-so}
 use Rattle.window.specs.Rows.{added}
 use Rattle.window.proofs.Fitness.{size-range}
 use Rattle.window.proofs.grown.Statement.{statement}
@@ -35,11 +36,14 @@ mul-next-2 c = search needs
 element-write-next-2 : tie.Need-element-write-next-2
 element-write-next-2 c = element-write-next c
 
+of-requires : tie.Need-of-requires
+of-requires c κs = search needs
+
 mul-next-3 : tie.Need-mul-next-3
 mul-next-3 c = search needs
 
 element-write-next-3 : tie.Need-element-write-next-3
-element-write-next-3 c = element-write-next c
+element-write-next-3 c = element-write-next (c .before)
 
 capped-requires : tie.Need-capped-requires
 capped-requires c κs = search needs
@@ -47,9 +51,11 @@ capped-requires c κs = search needs
 returns : tie.Need-returns
 unfolding added
 returns c =
-    let start = c .before .before .before .before in
+    let at = c .before .before in
+    let start = at .before .before .before in
     let takes = and-true (start .pre .0) (lt-ltb _ _ (start .pre .1)) in
-    rw (takes, c .before .row-of .ensures, c .capped .ensures)
+    let named = c .before .of .ensures ∙ if-so _ _ (le-leb (start .args .w .counts .entered + 1) 1048319 (omega arith)) in
+    rw (takes, at .row-of .ensures, named, c .capped .ensures)
 
 pub grown-spec : {M : Type 1} → statement M
 grown-spec =
@@ -62,6 +68,7 @@ grown-spec =
     element-write-next
     mul-next-2
     element-write-next-2
+    of-requires
     mul-next-3
     element-write-next-3
     capped-requires

@@ -6,8 +6,7 @@ use Prim.Native.Nat.{ℕ, _-_, _≤_, _<_}
 use native.Mathlib.Omega.{arith}
 use native.Mathlib.Numerals.{add-one}
 use borrow.Author.Tests.{not-true, not-false}
-use lib.ListN.{getD}
-use Rattle.window.specs.Rows.{valuesIn, due, holds, rowFit, rowsFit}
+use Rattle.window.specs.Rows.{numberIn, valuesIn, due, holds, rowFit, rowsFit}
 use Rattle.window.specs.declared.Window.{Window}
 use Rattle.laws.proofs.Tests.{and-true}
 use Rattle.window.proofs.Fitness.{ranges-of, unfit-row}
@@ -15,16 +14,16 @@ use Rattle.window.proofs.rows_fit.Statement.{statement}
 use Rattle.window.proofs.rows_fit.Tie as tie
 
 -- what the two calls of a turn say of the row
-judged : (w : Window) (row n : ℕ) {b : Bool} → b ≡ holds n (getD (w .numbers) row 0) (valuesIn w row) → n ≡ due (w .counts) row → rowFit w row ≡ b
-judged w row n p q = sym (p ∙ ap (λ m. holds m (getD (w .numbers) row 0) (valuesIn w row)) q)
+judged : (w : Window) (row n : ℕ) {b : Bool} → b ≡ holds n (numberIn w row) (valuesIn w row) → n ≡ due (w .counts) row → rowFit w row ≡ b
+judged w row n p q = sym (p ∙ ap (λ m. holds m (numberIn w row) (valuesIn w row)) q)
 
 abbrev Inv-loop : tie.InvT-loop
-Inv-loop losses shakes numbers counts last row₀ row =
+Inv-loop losses shakes names counts last row₀ row =
     (row ≤ 1024)
-    × (rowsFit (record { losses = losses; shakes = shakes; numbers = numbers; counts = counts }) row ≡ true)
+    × (rowsFit (record { losses = losses; shakes = shakes; names = names; counts = counts }) row ≡ true)
 
 abbrev μ-loop : tie.MeasureT-loop
-μ-loop losses shakes numbers counts last row₀ row = 1024 - row
+μ-loop losses shakes names counts last row₀ row = 1024 - row
 
 cast-row-of : tie.Need-cast-row-of Inv-loop μ-loop
 cast-row-of c = let start = c .before .before .before .before .before in let k = ranges-of (start .args .w .counts) (start .pre) in omega arith
@@ -60,11 +59,11 @@ mul-t17 c = omega arith
 array-read-t20 : tie.Need-array-read-t20 Inv-loop μ-loop
 array-read-t20 c = omega arith
 
-mul-holds : tie.Need-mul-holds Inv-loop μ-loop
-mul-holds c = omega arith
+mul-t21 : tie.Need-mul-t21 Inv-loop μ-loop
+mul-t21 c = omega arith
 
-array-read-holds : tie.Need-array-read-holds Inv-loop μ-loop
-array-read-holds c = omega arith
+array-read-t24 : tie.Need-array-read-t24 Inv-loop μ-loop
+array-read-t24 c = omega arith
 
 holds-requires : tie.Need-holds-requires Inv-loop μ-loop
 holds-requires c κs = tt
@@ -114,8 +113,8 @@ rows-fit-spec =
     array-read-t13
     mul-t17
     array-read-t20
-    mul-holds
-    array-read-holds
+    mul-t21
+    array-read-t24
     holds-requires
     returns
     add-row

@@ -23,11 +23,11 @@ returns-2 c = let a = c .before .before .before .before .before .args in faulty 
 size-requires : tie.Need-size-requires
 size-requires c κs = search needs
 
--- What is not faulty fits 84 bytes.
-within : (c : tie.After-size) → c .size .result ≤ 84
+-- What is not faulty fits 89 bytes.
+within : (c : tie.After-size) → c .size .result ≤ 89
 within c =
-    let a = c .before .before .before .before .before .before .args in
-    omega (arith, size-bound (a .report) (given (a .noted) (now (a .note))) (sym (c .before .before .fault .ensures) ∙ c .before .if2 .left), c .size .ensures)
+    let a = c .before .before .before .before .before .before .before .args in
+    omega (arith, size-bound (a .report) (given (a .noted) (now (a .note))) (sym (c .before .before .before .fault .ensures) ∙ c .before .before .if2 .left), c .size .ensures)
 
 cast-packets : tie.Need-cast-packets
 cast-packets c = omega (arith, within c)
@@ -46,8 +46,8 @@ mul-needed c = search needs
 
 returns-3 : tie.Need-returns-3
 returns-3 c =
-    let a = c .before .before .before .before .before .before .before .before .args in
-    short (now (a .room)) (a .sender) (a .report) (given (a .noted) (now (a .note))) (c .before .before .before .before .before .if1 .left) (sym (c .before .before .before .before .fault .ensures) ∙ c .before .before .before .if2 .left) (c .before .before .size .ensures) (c .before .packets .ensures) (c .if3 .taken)
+    let a = c .before .before .before .before .before .before .before .before .before .args in
+    short (now (a .room)) (a .sender) (a .report) (given (a .noted) (now (a .note))) (c .before .before .before .before .before .before .if1 .left) (sym (c .before .before .before .before .before .fault .ensures) ∙ c .before .before .before .before .if2 .left) (c .before .before .size .ensures) (c .before .packets .ensures) (c .if3 .taken)
 
 slice-aggregate-write : tie.Need-slice-aggregate-write
 slice-aggregate-write c = search needs
@@ -69,9 +69,9 @@ same-length c = search needs
 
 returns-4 : tie.Need-returns-4
 returns-4 c =
-    let a = c .before .before .before .before .before .before .before .before .before .before .before .before .before .before .before .before .args in
-    let sound = sym (c .before .before .before .before .before .before .before .before .before .before .before .before .fault .ensures) ∙ c .before .before .before .before .before .before .before .before .before .before .before .if2 .left in
-    fits (now (a .room)) (a .sender) (a .report) (given (a .noted) (now (a .note))) (c .before .before .before .before .before .before .before .before .before .before .before .before .before .if1 .left) sound (c .before .before .before .before .before .before .before .before .before .before .size .ensures) (c .before .before .before .before .before .before .before .before .before .packets .ensures) (c .before .before .before .before .before .before .before .before .if3 .left)
+    let a = c .before .before .before .before .before .before .before .before .before .before .before .before .before .before .before .before .before .args in
+    let sound = sym (c .before .before .before .before .before .before .before .before .before .before .before .before .before .fault .ensures) ∙ c .before .before .before .before .before .before .before .before .before .before .before .before .if2 .left in
+    fits (now (a .room)) (a .sender) (a .report) (given (a .noted) (now (a .note))) (c .before .before .before .before .before .before .before .before .before .before .before .before .before .before .if1 .left) sound (c .before .before .before .before .before .before .before .before .before .before .size .ensures) (c .before .before .before .before .before .before .before .before .before .packets .ensures) (c .before .before .before .before .before .before .before .before .if3 .left)
     (written-front (a .report) (given (a .noted) (now (a .note))) sound (c .before .before .before .before .before .before .write .ensures .1) (c .before .before .before .before .before .before .before .before .before .before .size .ensures)) (c .before .before .fill .ensures)
 
 pub send-spec : {M : Type 1} → statement M

@@ -68,6 +68,18 @@ untimed-line-requires c κs = search needs
 enum-told-10 : tie.Need-enum-told-10
 enum-told-10 c = search needs
 
+heated-line-requires : tie.Need-heated-line-requires
+heated-line-requires c κs = search needs
+
+enum-told-11 : tie.Need-enum-told-11
+enum-told-11 c = search needs
+
+heated-line-requires-2 : tie.Need-heated-line-requires-2
+heated-line-requires-2 c κs = search needs
+
+enum-told-12 : tie.Need-enum-told-12
+enum-told-12 c = search needs
+
 returns : tie.Need-returns
 returns c =
     let t = c in
@@ -133,10 +145,24 @@ returns-9 c =
 
 returns-10 : tie.Need-returns-10
 returns-10 c =
+    let t = c .before in
+    let k = t .before .before in
+    let w = k .before in
+    c .heated-line .ensures ∙ by-first (now (w .before .before .args .line)) (now (w .word .result)) (k .of .result) kind.Heated (w .word .ensures) (k .of .ensures) (t .enum-told10 .given .1)
+
+returns-11 : tie.Need-returns-11
+returns-11 c =
+    let t = c .before in
+    let k = t .before .before in
+    let w = k .before in
+    c .heated-line2 .ensures ∙ by-first (now (w .before .before .args .line)) (now (w .word .result)) (k .of .result) kind.HeatedNoted (w .word .ensures) (k .of .ensures) (t .enum-told11 .given .1)
+
+returns-12 : tie.Need-returns-12
+returns-12 c =
     let t = c in
     let k = t .before .before in
     let w = k .before in
-    by-first (now (w .before .before .args .line)) (now (w .word .result)) (k .of .result) kind.Unknown (w .word .ensures) (k .of .ensures) (t .enum-told10 .given .1)
+    by-first (now (w .before .before .args .line)) (now (w .word .result)) (k .of .result) kind.Unknown (w .word .ensures) (k .of .ensures) (t .enum-told12 .given .1)
 
 pub of-spec : {M : Type 1} → statement M
 of-spec =
@@ -162,6 +188,10 @@ of-spec =
     enum-told-9
     untimed-line-requires
     enum-told-10
+    heated-line-requires
+    enum-told-11
+    heated-line-requires-2
+    enum-told-12
     returns
     returns-2
     returns-3
@@ -171,4 +201,6 @@ of-spec =
     returns-7
     returns-8
     returns-9
-    returns-10)
+    returns-10
+    returns-11
+    returns-12)

@@ -10,15 +10,21 @@ use borrow.Author.Tests.{eq-eqb, ne-eqb}
 use Rattle.wire.specs.Bytes.{same}
 use Rattle.commands.specs.declared.Kind.{Kind}
 use Rattle.commands.specs.declared.Kind.the-variants as kind
-use Rattle.commands.specs.Lines.{windowWord, questionWord, removeWord, showWord, reportWord, notedWord, timeWord, untimedWord, kindOf}
+use Rattle.commands.specs.Lines.{windowWord, questionWord, removeWord, showWord, reportWord, notedWord, timeWord, untimedWord, heatedWord, heatedNotedWord, kindOf}
 use borrow.Author.Needs.{needs}
 use Rattle.commands.proofs.Kind.of.Statement.{statement}
 use Rattle.commands.proofs.Kind.of.Tie as tie
 
 -- What is left of the definition behind its first tests.
 module _ (w : List ℕ) where
+  abbrev at-heated-noted : Kind
+  at-heated-noted = cond (same w heatedNotedWord) kind.HeatedNoted kind.Unknown
+
+  abbrev at-heated : Kind
+  at-heated = cond (same w heatedWord) kind.Heated at-heated-noted
+
   abbrev at-untimed : Kind
-  at-untimed = cond (same w untimedWord) kind.Untimed kind.Unknown
+  at-untimed = cond (same w untimedWord) kind.Untimed at-heated
 
   abbrev at-time : Kind
   at-time = cond (same w timeWord) kind.Time at-untimed
@@ -71,6 +77,12 @@ no-noted c = no-report (c .before .before .before) ∙ rw (sym (c .before .same6
 
 no-time : (c : tie.Else9) → let t = c .before .before .before .before .before .before .before .before .before .before .before .before .before .before .before .before .before .before .before .before .before .before .before in kindOf (word-of t) ≡ at-untimed (word-of t)
 no-time c = no-noted (c .before .before .before) ∙ rw (sym (c .before .same7 .ensures) ∙ c .if9 .left)
+
+no-untimed : (c : tie.Else10) → let t = c .before .before .before .before .before .before .before .before .before .before .before .before .before .before .before .before .before .before .before .before .before .before .before .before .before .before in kindOf (word-of t) ≡ at-heated (word-of t)
+no-untimed c = no-time (c .before .before .before) ∙ rw (sym (c .before .same8 .ensures) ∙ c .if10 .left)
+
+no-heated : (c : tie.Else11) → let t = c .before .before .before .before .before .before .before .before .before .before .before .before .before .before .before .before .before .before .before .before .before .before .before .before .before .before .before .before .before in kindOf (word-of t) ≡ at-heated-noted (word-of t)
+no-heated c = no-untimed (c .before .before .before) ∙ rw (sym (c .before .same9 .ensures) ∙ c .if11 .left)
 
 returns : tie.Need-returns
 unfolding kindOf
@@ -157,8 +169,26 @@ same-requires-8 c κs = search needs
 returns-10 : tie.Need-returns-10
 returns-10 c = rw (no-time (c .before .before .before), sym (c .before .same8 .ensures) ∙ c .if10 .taken)
 
+slice-aggregate-same-9 : tie.Need-slice-aggregate-same-9
+slice-aggregate-same-9 c = search needs
+
+same-requires-9 : tie.Need-same-requires-9
+same-requires-9 c κs = search needs
+
 returns-11 : tie.Need-returns-11
-returns-11 c = rw (no-time (c .before .before .before), sym (c .before .same8 .ensures) ∙ c .if10 .left)
+returns-11 c = rw (no-untimed (c .before .before .before), sym (c .before .same9 .ensures) ∙ c .if11 .taken)
+
+slice-aggregate-same-10 : tie.Need-slice-aggregate-same-10
+slice-aggregate-same-10 c = search needs
+
+same-requires-10 : tie.Need-same-requires-10
+same-requires-10 c κs = search needs
+
+returns-12 : tie.Need-returns-12
+returns-12 c = rw (no-heated (c .before .before .before), sym (c .before .same10 .ensures) ∙ c .if12 .taken)
+
+returns-13 : tie.Need-returns-13
+returns-13 c = rw (no-heated (c .before .before .before), sym (c .before .same10 .ensures) ∙ c .if12 .left)
 
 pub of-spec : {M : Type 1} → statement M
 of-spec =
@@ -191,4 +221,10 @@ of-spec =
     slice-aggregate-same-8
     same-requires-8
     returns-10
-    returns-11)
+    slice-aggregate-same-9
+    same-requires-9
+    returns-11
+    slice-aggregate-same-10
+    same-requires-10
+    returns-12
+    returns-13)

@@ -7,9 +7,9 @@ use denote.Ref.{now}
 use lib.ListN.{length}
 use Rattle.wire.specs.Bytes.{bytes}
 use Rattle.wire.proofs.Fields.{length-field}
-use Rattle.items.specs.declared.Item.the-variants.{Window, Set, Frame, Remove, Show, Timed, Unknown}
-use Rattle.items.specs.Items.{settingBytes}
-use Rattle.items.proofs.Writing.{frame-long, timed-long, put-is}
+use Rattle.items.specs.declared.Item.the-variants.{Window, Set, Frame, Remove, Show, Timed, SetHeat, Unknown}
+use Rattle.items.specs.Items.{settingBytes, heatBytes}
+use Rattle.items.proofs.Writing.{frame-long, timed-long, six-of, eight-of, put-is}
 use borrow.Author.Needs.{needs}
 use Rattle.items.proofs.Item.put.Statement.{statement}
 use Rattle.items.proofs.Item.put.Tie as tie
@@ -80,6 +80,15 @@ add-result-8 c = search needs
 add-result-9 : tie.Need-add-result-9
 add-result-9 c = search needs
 
+enum-known-self-7 : tie.Need-enum-known-self-7
+enum-known-self-7 c = search needs
+
+put-setting-requires-2 : tie.Need-put-setting-requires-2
+put-setting-requires-2 c κs = search needs
+
+add-result-10 : tie.Need-add-result-10
+add-result-10 c = search needs
+
 enum-told : tie.Need-enum-told
 enum-told c = search needs
 
@@ -109,7 +118,7 @@ returns-2 c =
     let p = c .before .before in
     let m = p .before .before .before in
     let a = m .before .before .before .before .args in
-    put-is (a .self) (Set (m .self2 .given .0 .0)) (now (a .data)) (now (a .room)) (a .at) (m .self2 .given .1) (sym (length-field 17 (settingBytes (m .self2 .given .0 .0))), p .put-setting .ensures)
+    put-is (a .self) (Set (m .self2 .given .0 .0)) (now (a .data)) (now (a .room)) (a .at) (m .self2 .given .1) (sym (length-field 17 (settingBytes (m .self2 .given .0 .0))), p .put-setting .ensures ∙ rw (six-of (m .self2 .given .0 .0)))
 
 same-length-3 : tie.Need-same-length-3
 same-length-3 c = search needs
@@ -158,7 +167,18 @@ same-length-7 : tie.Need-same-length-7
 same-length-7 c = search needs
 
 returns-7 : tie.Need-returns-7
+unfolding bytes settingBytes heatBytes
 returns-7 c =
+    let p = c .before .before in
+    let m = p .before .before .before in
+    let a = m .before .before .before .before .args in
+    put-is (a .self) (SetHeat (m .self7 .given .0 .0)) (now (a .data)) (now (a .room)) (a .at) (m .self7 .given .1) (sym (length-field 22 (heatBytes (m .self7 .given .0 .0))), p .put-setting2 .ensures ∙ rw (eight-of (m .self7 .given .0 .0)))
+
+same-length-8 : tie.Need-same-length-8
+same-length-8 c = search needs
+
+returns-8 : tie.Need-returns-8
+returns-8 c =
     let p = c .before .before in
     let m = p .before .before .before in
     let a = m .before .before .before .before .args in
@@ -190,6 +210,9 @@ put-spec =
     add-result-7
     add-result-8
     add-result-9
+    enum-known-self-7
+    put-setting-requires-2
+    add-result-10
     enum-told
     front-requires-2
     put-field-requires
@@ -206,4 +229,6 @@ put-spec =
     same-length-6
     returns-6
     same-length-7
-    returns-7)
+    returns-7
+    same-length-8
+    returns-8)

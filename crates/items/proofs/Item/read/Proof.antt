@@ -8,7 +8,7 @@ use denote.Ref.{now}
 use lib.ListN.{getD}
 use Rattle.wire.specs.Bytes.{number, part}
 use Rattle.items.specs.declared.Item.{Item}
-use Rattle.items.specs.declared.Item.the-variants.{Window, Set, Frame, Remove, Show, Timed, Unknown}
+use Rattle.items.specs.declared.Item.the-variants.{Window, Set, Frame, Remove, Show, Timed, SetHeat, Unknown}
 use Rattle.items.specs.Items.{isItem, settingIn, itemIn}
 use borrow.Author.Needs.{needs}
 use Rattle.items.proofs.Item.read.Statement.{statement}
@@ -16,8 +16,11 @@ use Rattle.items.proofs.Item.read.Tie as tie
 
 -- What is left of the definition behind its first tests.
 module _ (tag : ℕ) (v : List ℕ) where
+  abbrev heated : Item
+  heated = cond (isItem tag v 22 8) (SetHeat (settingIn v)) Unknown
+
   abbrev timed : Item
-  timed = cond (isItem tag v 21 16) (Timed (number (part 0 4 v)) (number (part 4 4 v))) Unknown
+  timed = cond (isItem tag v 21 16) (Timed (number (part 0 4 v)) (number (part 4 4 v))) heated
 
   abbrev shown : Item
   shown = cond (isItem tag v 20 1) (Show (getD v 0 0)) timed
@@ -56,6 +59,9 @@ no-remove c = no-frame (c .before .before) ∙ rw (sym (c .before .is-item4 .ens
 
 no-show : (c : tie.Else5) → let s = c .before .before .before .before .before .before .before .before .before .before in all s ≡ timed (tag s) (value s)
 no-show c = no-remove (c .before .before) ∙ rw (sym (c .before .is-item5 .ensures) ∙ c .if5 .left)
+
+no-timed : (c : tie.Else6) → let s = c .before .before .before .before .before .before .before .before .before .before .before .before in all s ≡ heated (tag s) (value s)
+no-timed c = no-show (c .before .before) ∙ rw (sym (c .before .is-item6 .ensures) ∙ c .if6 .left)
 
 is-item-requires : tie.Need-is-item-requires
 is-item-requires c κs = search needs
@@ -117,8 +123,17 @@ returns-6 c =
     let t = c .before in
     rw (no-show (t .before .before .before), sym (t .before .before .is-item6 .ensures) ∙ t .before .if6 .taken) (ap₂ Timed (t .read322 .ensures) (c .read323 .ensures))
 
+is-item-requires-7 : tie.Need-is-item-requires-7
+is-item-requires-7 c κs = search needs
+
+read-requires-2 : tie.Need-read-requires-2
+read-requires-2 c κs = search needs
+
 returns-7 : tie.Need-returns-7
-returns-7 c = rw (no-show (c .before .before), sym (c .before .is-item6 .ensures) ∙ c .if6 .left)
+returns-7 c = rw (no-timed (c .before .before .before), sym (c .before .before .is-item7 .ensures) ∙ c .before .if7 .taken) (ap SetHeat (c .read2 .ensures))
+
+returns-8 : tie.Need-returns-8
+returns-8 c = rw (no-timed (c .before .before), sym (c .before .is-item7 .ensures) ∙ c .if7 .left)
 
 pub read-spec : {M : Type 1} → statement M
 read-spec =
@@ -143,4 +158,7 @@ read-spec =
     read32-requires-2
     read32-requires-3
     returns-6
-    returns-7)
+    is-item-requires-7
+    read-requires-2
+    returns-7
+    returns-8)

@@ -25,14 +25,22 @@ read16-requires-2 c κs = search needs
 signed16-requires-2 : tie.Need-signed16-requires-2
 signed16-requires-2 c κs = search needs
 
+read16-requires-3 : tie.Need-read16-requires-3
+read16-requires-3 c κs = search needs
+
+signed16-requires-3 : tie.Need-signed16-requires-3
+signed16-requires-3 c κs = search needs
+
 returns : tie.Need-returns
 returns c =
-    let r = c .before .before .before in
-    let loss = signed-kept (r .read16 .result) (search needs) (c .before .before .signed16 .ensures) ∙ ap signed16 (r .read16 .ensures) in
-    let shake = signed-kept (c .before .read162 .result) (search needs) (c .signed162 .ensures) ∙ ap signed16 (c .before .read162 .ensures) in
+    let s = c .before .before in
+    let r = s .before .before .before in
+    let loss = signed-kept (r .read16 .result) (search needs) (s .before .before .signed16 .ensures) ∙ ap signed16 (r .read16 .ensures) in
+    let shake = signed-kept (s .before .read162 .result) (search needs) (s .signed162 .ensures) ∙ ap signed16 (s .before .read162 .ensures) in
+    let heat = signed-kept (c .before .read163 .result) (search needs) (c .signed163 .ensures) ∙ ap signed16 (c .before .read163 .ensures) in
     let slot = r .before .before .byte .ensures in
     let k = r .before .byte2 .ensures in
-    λ i. record { slot = slot i; k = k i; loss = loss i; shake = shake i }
+    λ i. record { slot = slot i; k = k i; loss = loss i; shake = shake i; heat = heat i }
 
 pub read-spec : {M : Type 1} → statement M
 read-spec =
@@ -44,4 +52,6 @@ read-spec =
     signed16-requires
     read16-requires-2
     signed16-requires-2
+    read16-requires-3
+    signed16-requires-3
     returns)

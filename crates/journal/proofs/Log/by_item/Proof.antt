@@ -54,6 +54,12 @@ enum-known-item-6 c = search needs
 timed-item-requires : tie.Need-timed-item-requires
 timed-item-requires c κs = search needs
 
+enum-known-item-7 : tie.Need-enum-known-item-7
+enum-known-item-7 c = search needs
+
+set-item-requires-2 : tie.Need-set-item-requires-2
+set-item-requires-2 c κs = search needs
+
 enum-told : tie.Need-enum-told
 enum-told c = search needs
 
@@ -117,9 +123,19 @@ returns-6 c =
     let m = p .before .before .before in
     said (m .before .before) (m .item6 .given .1) (p .timed-item .ensures)
 
+same-length-7 : tie.Need-same-length-7
+same-length-7 c = search needs
+
 returns-7 : tie.Need-returns-7
 unfolding byItem
 returns-7 c =
+    let p = c .before .before in
+    let m = p .before .before .before in
+    said (m .before .before) (m .item7 .given .1) (p .set-item2 .ensures)
+
+returns-8 : tie.Need-returns-8
+unfolding byItem
+returns-8 c =
     let a = c .before .before .before .before .args in
     said (c .before .before) (c .enum-told .given .1) (silent (now (a .out)) (a .at) (a .self) (search needs) refl)
 
@@ -139,6 +155,8 @@ by-item-spec =
     show-item-requires
     enum-known-item-6
     timed-item-requires
+    enum-known-item-7
+    set-item-requires-2
     enum-told
     same-length
     returns
@@ -152,4 +170,6 @@ by-item-spec =
     returns-5
     same-length-6
     returns-6
-    returns-7)
+    same-length-7
+    returns-7
+    returns-8)

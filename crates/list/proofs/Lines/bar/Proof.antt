@@ -17,7 +17,7 @@ returns : tie.Need-returns
 returns c =
     let counted = c .before .before .before .before in
     let a = counted .before .args in
-    c .bar-in .ensures ∙ ap (λ n. barAt (a .t1 .numbers) (a .t1 .scores) n (eqb (a .t1 .len) (a .k))) (counted .line-count .ensures)
+    c .bar-in .ensures ∙ ap (λ n. barAt (a .t1 .names) (a .t1 .scores) n (eqb (a .t1 .len) (a .k))) (counted .line-count .ensures)
 
 pub bar-spec : {M : Type 1} → statement M
 bar-spec = tie.close (tie.spec line-count-requires bar-in-requires returns)

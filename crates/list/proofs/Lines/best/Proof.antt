@@ -18,14 +18,14 @@ use Rattle.list.proofs.Lines.best.Statement.{statement}
 use Rattle.list.proofs.Lines.best.Tie as tie
 
 abbrev Inv-loop : tie.InvT-loop
-Inv-loop rule k n numbers scores list₀ i₀ list i =
+Inv-loop rule k n names scores list₀ i₀ list i =
     (i ≤ n)
     × (n ≤ 16)
-    × Roomy numbers scores
-    × (list ≡ columnsOf (best (above rule) (min k 16) (take i (take n (linesOf numbers scores)))))
+    × Roomy names scores
+    × (list ≡ columnsOf (best (above rule) (min k 16) (take i (take n (linesOf names scores)))))
 
 abbrev μ-loop : tie.MeasureT-loop
-μ-loop rule k n numbers scores list₀ i₀ list i = n - i
+μ-loop rule k n names scores list₀ i₀ list i = n - i
 
 line-count-requires : tie.Need-line-count-requires Inv-loop μ-loop
 line-count-requires c κs = search needs
@@ -40,7 +40,7 @@ loop-holds c =
     let good = start .good .0 .1 .1 in (
       search needs,
       search needs,
-      roomy-known (l .numbers) (l .scores) (good .0 .1 .0 .1) (good .1 .0 .1 .0 .1),
+      roomy-known (l .names) (l .scores) (good .0 .1 .0 .1) (good .1 .0 .1 .0 .1),
       c .none .ensures ∙ best-none (above (start .args .rule)) (min (start .args .k) 16),
     )
 
@@ -79,8 +79,8 @@ loop-again c =
       inv .1,
       inv .2,
       c .placed .ensures
-          ∙ ap (λ s. columnsOf (take (min (a .k) 16) (placed (above (a .rule)) (record { number = getD (l .numbers) i 0; score = s }) (linesIn (at .loop .list))))) back
-          ∙ best-more (above (a .rule)) (above-strict (a .rule)) (l .numbers) (l .scores) (inv .2) n (inv .1) i (search needs) (min (a .k) 16) (omega arith) (at .loop .list) (inv .3),
+          ∙ ap (λ s. columnsOf (take (min (a .k) 16) (placed (above (a .rule)) (record { name = getD (l .names) i 0; score = s }) (linesIn (at .loop .list))))) back
+          ∙ best-more (above (a .rule)) (above-strict (a .rule)) (l .names) (l .scores) (inv .2) n (inv .1) i (search needs) (min (a .k) 16) (omega arith) (at .loop .list) (inv .3),
     )
 
 returns : tie.Need-returns Inv-loop μ-loop

@@ -12,7 +12,7 @@ use Rattle.list.proofs.Lines.falls.Statement.{statement}
 use Rattle.list.proofs.Lines.falls.Tie as tie
 
 abbrev Inv-loop : tie.InvT-loop
-Inv-loop rule self n i₀ i = Descent (above rule) (falls (above rule) (linesIn self)) (self .numbers) (self .scores) n i
+Inv-loop rule self n i₀ i = Descent (above rule) (falls (above rule) (linesIn self)) (self .names) (self .scores) n i
 
 abbrev μ-loop : tie.MeasureT-loop
 μ-loop rule self n i₀ i = n - i
@@ -24,7 +24,7 @@ loop-holds : tie.Need-loop-holds Inv-loop μ-loop
 loop-holds c =
     let l = c .before .args .t1 in
     let good = c .before .good .0 .1 .1 in
-    let room = roomy-known (l .numbers) (l .scores) (good .0 .1 .0 .1) (good .1 .0 .1 .0 .1) in
+    let room = roomy-known (l .names) (l .scores) (good .0 .1 .0 .1) (good .1 .0 .1 .0 .1) in
     record {
       up-to = search needs;
       within = search needs;

@@ -27,8 +27,8 @@ returns c =
     let a = counted .before .args in
     let l = a .self in
     let good = counted .before .good .0 .1 .1 in
-    let room = roomy-known (l .numbers) (l .scores) (good .0 .1 .0 .1) (good .1 .0 .1 .0 .1) in
-    wiped-stored (l .numbers) (l .scores) room (chosen .smaller .result) (search needs) (c .wipe .ensures .0) (c .wipe .ensures .1)
+    let room = roomy-known (l .names) (l .scores) (good .0 .1 .0 .1) (good .1 .0 .1 .0 .1) in
+    wiped-stored (l .names) (l .scores) room (chosen .smaller .result) (search needs) (c .wipe .ensures .0) (c .wipe .ensures .1)
     ∙ ap columnsOf (cut-lines l room (chosen .smaller .result) (a .m) (chosen .smaller .ensures ∙ ap (min (a .m)) (counted .line-count .ensures)))
 
 pub first-lines-spec : {M : Type 1} → statement M

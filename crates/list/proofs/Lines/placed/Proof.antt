@@ -45,13 +45,13 @@ returns c =
     let a = start .args in
     let l = a .self in
     let good = start .good .0 .1 .1 in
-    let room = roomy-known (l .numbers) (l .scores) (good .0 .1 .0 .1) (good .1 .0 .1 .0 .1) in
+    let room = roomy-known (l .names) (l .scores) (good .0 .1 .0 .1) (good .1 .0 .1 .0 .1) in
     let few = placing-few (put .put-in .ensures .0) (omega (arith, chosen .smaller .ensures)) in
     wiped-stored _ _ (put .put-in .ensures .1) (put .put-in .result) few (c .wipe .ensures .0) (c .wipe .ensures .1)
     ∙ ap columnsOf (put .put-in .ensures .0 .front)
-    ∙ ap₂ (λ n s. columnsOf (take n (placed (above (a .rule)) (record { number = a .number; score = s }) (take (counted .line-count .result) (linesOf (l .numbers) (l .scores))))))
+    ∙ ap₂ (λ n s. columnsOf (take n (placed (above (a .rule)) (record { name = a .name; score = s }) (take (counted .line-count .result) (linesOf (l .names) (l .scores))))))
     (chosen .smaller .ensures) (toZ-ofZ (start .fits .score))
-    ∙ ap (λ m. columnsOf (take (min (a .most) 16) (placed (above (a .rule)) (record { number = a .number; score = a .score }) m)))
+    ∙ ap (λ m. columnsOf (take (min (a .most) 16) (placed (above (a .rule)) (record { name = a .name; score = a .score }) m)))
     (front-lines l room (counted .line-count .result) (counted .line-count .ensures))
 
 pub placed-spec : {M : Type 1} → statement M

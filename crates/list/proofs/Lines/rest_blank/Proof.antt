@@ -7,13 +7,13 @@ use borrow.Author.Needs.{needs}
 use lib.ListN.{drop}
 use Rattle.list.specs.Lines.{linesOf, allOf, blank}
 use Rattle.list.proofs.Stored.{lineAt, roomy-known, drop-shown}
-use Rattle.list.proofs.Walking.{Walk, walk-on, walk-fails, walk-ends, blank-number, blank-score}
+use Rattle.list.proofs.Walking.{Walk, walk-on, walk-fails, walk-ends, blank-name, blank-score}
 use Rattle.list.proofs.Lines.rest_blank.Statement.{statement}
 use Rattle.list.proofs.Lines.rest_blank.Tie as tie
 
 abbrev Inv-loop : tie.InvT-loop
 Inv-loop self i₀ i =
-    Walk blank (allOf blank (drop (self .len) (linesOf (self .numbers) (self .scores)))) (self .numbers) (self .scores) 16 i
+    Walk blank (allOf blank (drop (self .len) (linesOf (self .names) (self .scores)))) (self .names) (self .scores) 16 i
 
 abbrev μ-loop : tie.MeasureT-loop
 μ-loop self i₀ i = 16 - i
@@ -26,12 +26,12 @@ loop-holds c =
     let start = c .before in
     let l = start .args .t1 in
     let good = start .good .0 .1 .1 in
-    let room = roomy-known (l .numbers) (l .scores) (good .0 .1 .0 .1) (good .1 .0 .1 .0 .1) in
+    let room = roomy-known (l .names) (l .scores) (good .0 .1 .0 .1) (good .1 .0 .1 .0 .1) in
     record {
       up-to = search needs;
       within = search needs;
       room = room;
-      decides = ap (allOf blank) (drop-shown (l .numbers) (l .scores) room (l .len) (c .line-count .result) (c .line-count .ensures));
+      decides = ap (allOf blank) (drop-shown (l .names) (l .scores) room (l .len) (c .line-count .result) (c .line-count .ensures));
     }
 
 mul-if1 : tie.Need-mul-if1 Inv-loop μ-loop
@@ -44,7 +44,7 @@ returns : tie.Need-returns Inv-loop μ-loop
 returns c =
     let turn = c .before .before in
     let l = turn .before .before .before .args .t1 in
-    walk-fails (turn .before .loop .inv) (turn .loop-test .taken) (blank-number (lineAt (l .numbers) (l .scores) (turn .before .loop .i)) (c .if1 .taken)) refl
+    walk-fails (turn .before .loop .inv) (turn .loop-test .taken) (blank-name (lineAt (l .names) (l .scores) (turn .before .loop .i)) (c .if1 .taken)) refl
 
 mul-if2 : tie.Need-mul-if2 Inv-loop μ-loop
 mul-if2 c = search needs
@@ -58,7 +58,7 @@ returns-2 c =
     let turn = none .before .before in
     let l = turn .before .before .before .args .t1 in
     walk-fails (turn .before .loop .inv) (turn .loop-test .taken)
-    (blank-score (lineAt (l .numbers) (l .scores) (turn .before .loop .i)) (none .if1 .left) (c .before .if22 .given) (ne-eqb _ 0 (c .if2 .taken)))
+    (blank-score (lineAt (l .names) (l .scores) (turn .before .loop .i)) (none .if1 .left) (c .before .if22 .given) (ne-eqb _ 0 (c .if2 .taken)))
     refl
 
 add-i : tie.Need-add-i Inv-loop μ-loop
@@ -73,7 +73,7 @@ loop-again c =
     let turn = none .before .before in
     let l = turn .before .before .before .args .t1 in
     walk-on (turn .before .loop .inv) (turn .loop-test .taken)
-    (blank-score (lineAt (l .numbers) (l .scores) (turn .before .loop .i)) (none .if1 .left) (c .before .if22 .given) (eq-eqb _ 0 (c .if2 .left)))
+    (blank-score (lineAt (l .names) (l .scores) (turn .before .loop .i)) (none .if1 .left) (c .before .if22 .given) (eq-eqb _ 0 (c .if2 .left)))
     refl
 
 returns-3 : tie.Need-returns-3 Inv-loop μ-loop

@@ -24,8 +24,8 @@ returns c =
     let a = start .args in
     let q = a .self in
     c .placed-within .ensures
-    ∙ ap (λ s. withList q (take (min (q .k) 16) (placed (above (q .rule)) (record { number = a .number; score = s }) (lines q)))) (toZ-ofZ (start .fits .score))
-    ∙ within-joined q (record { number = a .number; score = a .score })
+    ∙ ap (λ s. withList q (take (min (q .k) 16) (placed (above (q .rule)) (record { name = a .name; score = s }) (lines q)))) (toZ-ofZ (start .fits .score))
+    ∙ within-joined q (record { name = a .name; score = a .score })
 
 pub cut-with-spec : {M : Type 1} → statement M
 cut-with-spec = tie.close (tie.spec cast-placed-within placed-within-requires returns)

@@ -33,7 +33,7 @@ returns c =
     let first = second .before .before in
     let start = first .before .before .before in
     c .rest-blank .ensures
-    ∙ ap (λ (l : Lines). allOf blank (drop (l .len) (linesOf (l .numbers) (l .scores)))) (list .list .ensures)
+    ∙ ap (λ (l : Lines). allOf blank (drop (l .len) (linesOf (l .names) (l .scores)))) (list .list .ensures)
     ∙ sym
     (fit-rest (start .args .window) (start .args .self) (sym (first .before .ranges-fit .ensures) ∙ first .if1 .taken) (sym (second .before .lines-held .ensures) ∙ second .if2 .taken)
     (ap (λ l. falls (above (start .args .self .rule)) (linesIn l)) (sym (list .list .ensures)) ∙ sym (third .before .falls .ensures) ∙ third .if3 .taken))

@@ -15,7 +15,7 @@ use Rattle.question.proofs.Question.lines_held.Tie as tie
 
 abbrev Inv-loop : tie.InvT-loop
 Inv-loop window self n i₀ i =
-    Walk (heldAs window (self .rule)) (allOf (heldAs window (self .rule)) (lines self)) (self .numbers) (self .scores) n i
+    Walk (heldAs window (self .rule)) (allOf (heldAs window (self .rule)) (lines self)) (self .names) (self .scores) n i
 
 abbrev μ-loop : tie.MeasureT-loop
 μ-loop window self n i₀ i = n - i
@@ -59,7 +59,7 @@ returns c =
     let turn = c .before .before .before .before .before in
     let q = turn .before .before .before .before .args .t1 in
     walk-fails (turn .before .loop .inv) (turn .loop-test .taken)
-    (as-read (heldAs (turn .before .before .before .before .args .window) (q .rule)) (q .numbers) (q .scores) (turn .before .loop .i) (c .before .before .held-as-arg3 .given) (c .before .held-as .ensures))
+    (as-read (heldAs (turn .before .before .before .before .args .window) (q .rule)) (q .names) (q .scores) (turn .before .loop .i) (c .before .before .held-as-arg3 .given) (c .before .held-as .ensures))
     (not-true _ (c .if1 .taken))
 
 add-i : tie.Need-add-i Inv-loop μ-loop
@@ -73,7 +73,7 @@ loop-again c =
     let turn = c .before .before .before .before .before in
     let q = turn .before .before .before .before .args .t1 in
     walk-on (turn .before .loop .inv) (turn .loop-test .taken)
-    (as-read (heldAs (turn .before .before .before .before .args .window) (q .rule)) (q .numbers) (q .scores) (turn .before .loop .i) (c .before .before .held-as-arg3 .given) (c .before .held-as .ensures))
+    (as-read (heldAs (turn .before .before .before .before .args .window) (q .rule)) (q .names) (q .scores) (turn .before .loop .i) (c .before .before .held-as-arg3 .given) (c .before .held-as .ensures))
     (not-false _ (c .if1 .left))
 
 returns-2 : tie.Need-returns-2 Inv-loop μ-loop

@@ -39,11 +39,11 @@ mul-shake c = search needs
 element-copy-out-shake : tie.Need-element-copy-out-shake Inv-loop μ-loop
 element-copy-out-shake c = search needs
 
-mul-taking : tie.Need-mul-taking Inv-loop μ-loop
-mul-taking c = search needs
+mul-name : tie.Need-mul-name Inv-loop μ-loop
+mul-name c = search needs
 
-element-copy-out-taking : tie.Need-element-copy-out-taking Inv-loop μ-loop
-element-copy-out-taking c = search needs
+element-copy-out-name : tie.Need-element-copy-out-name Inv-loop μ-loop
+element-copy-out-name c = search needs
 
 taking-requires : tie.Need-taking-requires Inv-loop μ-loop
 taking-requires c κs = search needs
@@ -87,8 +87,8 @@ list-taken-spec =
     element-copy-out-loss
     mul-shake
     element-copy-out-shake
-    mul-taking
-    element-copy-out-taking
+    mul-name
+    element-copy-out-name
     taking-requires
     add-row
     loop-less

@@ -29,7 +29,7 @@ returns c =
     c .holding .ensures
     ∙ ap (holding (a .self))
     (then .placed .ensures
-    ∙ ap₂ (λ s l. columnsOf (take (min (a .most) 16) (placed (above (a .self .rule)) (record { number = a .number; score = s }) (linesIn l)))) (toZ-ofZ (start .fits .score))
+    ∙ ap₂ (λ s l. columnsOf (take (min (a .most) 16) (placed (above (a .self .rule)) (record { name = a .name; score = s }) (linesIn l)))) (toZ-ofZ (start .fits .score))
     (then .before .list .ensures))
 
 pub placed-within-spec : {M : Type 1} → statement M

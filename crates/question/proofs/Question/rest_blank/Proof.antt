@@ -15,7 +15,7 @@ rest-blank-requires : tie.Need-rest-blank-requires
 rest-blank-requires c κs = search needs
 
 returns : tie.Need-returns
-returns c = c .rest-blank .ensures ∙ ap (λ (l : Lines). allOf blank (drop (l .len) (linesOf (l .numbers) (l .scores)))) (c .before .list .ensures)
+returns c = c .rest-blank .ensures ∙ ap (λ (l : Lines). allOf blank (drop (l .len) (linesOf (l .names) (l .scores)))) (c .before .list .ensures)
 
 pub rest-blank-spec : {M : Type 1} → statement M
 rest-blank-spec = tie.close (tie.spec list-requires rest-blank-requires returns)

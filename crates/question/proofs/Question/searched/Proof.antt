@@ -13,7 +13,7 @@ searched-in-requires c κs = search needs
 returns : tie.Need-returns
 returns c =
     let a = c .before .before .before .before .before .args in
-    c .searched-in .ensures ∙ searched-rows (a .self) (rowsOf (a .t2 .losses) (a .t2 .shakes) (a .t2 .numbers)) 1024 refl ∙ searched-arrays (a .self) (a .t2)
+    c .searched-in .ensures ∙ searched-rows (a .self) (rowsOf (a .t2 .losses) (a .t2 .shakes) (a .t2 .names)) 1024 refl ∙ searched-arrays (a .self) (a .t2)
 
 pub searched-spec : {M : Type 1} → statement M
 searched-spec = tie.close (tie.spec searched-in-requires returns)

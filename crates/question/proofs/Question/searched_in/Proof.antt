@@ -15,7 +15,7 @@ use Rattle.question.proofs.Question.searched_in.Tie as tie
 returns : tie.Need-returns
 returns c =
     let a = c .before .before .args in
-    sym (first-wide (a .self) (rowsOf (a .losses .now) (a .shakes .now) (a .numbers .now)) (c .if1 .taken) (min (a .rows) 1024))
+    sym (first-wide (a .self) (rowsOf (a .losses .now) (a .shakes .now) (a .names .now)) (c .if1 .taken) (min (a .rows) 1024))
 
 gathered-requires : tie.Need-gathered-requires
 gathered-requires c κs = search needs
@@ -31,7 +31,7 @@ returns-2 c =
     let found = c .before .before in
     let left = found .before in
     let a = left .before .before .args in
-    let w = rowsOf (a .losses .now) (a .shakes .now) (a .numbers .now) in
+    let w = rowsOf (a .losses .now) (a .shakes .now) (a .names .now) in
     let small : min (a .self .k) 16 ≡ a .self .k = omega (arith, left .if1 .left) in
     c .ended .ensures
     ∙ ap endedOf

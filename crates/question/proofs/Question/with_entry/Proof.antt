@@ -13,7 +13,7 @@ placed-within-requires c κs = search needs
 returns : tie.Need-returns
 returns c =
     let a = c .before .args in
-    c .placed-within .ensures ∙ ap (λ s. withEntry (a .self) (record { number = a .number; score = s })) (toZ-ofZ (c .before .fits .score))
+    c .placed-within .ensures ∙ ap (λ s. withEntry (a .self) (record { name = a .name; score = s })) (toZ-ofZ (c .before .fits .score))
 
 pub with-entry-spec : {M : Type 1} → statement M
 with-entry-spec = tie.close (tie.spec placed-within-requires returns)

@@ -17,7 +17,7 @@ unfolding above goesFirst
 returns c =
     let start = c .before in
     c .greater .ensures
-    ∙ ap₂ (λ x y. greater x y (ltb (start .args .other-number) (start .args .number)))
+    ∙ ap₂ (λ x y. greater x y (ltb (start .args .other-name) (start .args .name)))
     (toZ-ofZ (start .fits .score)) (toZ-ofZ (start .fits .other-score))
 
 pub above-spec : {M : Type 1} → statement M

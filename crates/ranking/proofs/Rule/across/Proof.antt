@@ -17,7 +17,7 @@ use Rattle.ranking.proofs.Rule.across.Tie as tie
 
 abbrev Inv-loop : tie.InvT-loop
 Inv-loop self parts₀ column₀ parts column =
-    (column ≤ 16) × (length parts ≡ 16) × ((i : ℕ) → i < column → getD parts i (pos 0) ≡ lossPart self i) × (1 ≤ column → Words self)
+    (column ≤ 16) × (length parts ≡ 16) × ((i : ℕ) → i < column → getD parts i (pos 0) ≡ lossPart self i) × (1 ≤ column → Words (self .weights))
 
 abbrev μ-loop : tie.MeasureT-loop
 μ-loop self parts₀ column₀ parts column = 16 - column

@@ -1,40 +1,52 @@
--- The best possible score is the sum at the corner in cell and ranges, whose values have 12 bits.
+-- The best possible score is its column's part and its row's.
 -- Assumes nothing.
-use mathlib.Core.Path.{ap, ap₂, _∙_}
-use Prim.Native.Nat.{_%_, _/_}
+use mathlib.Core.Path.{_≡_, sym, ap, ap₂, _∙_}
+use Prim.Native.Nat.{ℕ, _+_, _*_, _/_, _%_}
+use native.Mathlib.Omega.{arith}
 use borrow.Author.Needs.{needs}
-use mir.Syntax.{w16, w32}
+use lib.IntN.{_+ℤ_}
+use mir.Facts.{toZ-ofZ}
+use mir.Syntax.{w32}
+use mir.Val.{SFits, toZ, ofZ}
 use Rattle.laws.proofs.Words.{kept}
-use Rattle.values.specs.Range.{low}
-use Rattle.values.proofs.Facts.{low-same}
-use Rattle.ranking.specs.Cells.{sum, corner, cornerOf}
-use Rattle.ranking.proofs.Cells.{corner-in, corner-best}
+use Rattle.ranking.specs.Cells.{bestScore}
+use Rattle.ranking.proofs.Columns.{best-parts}
+use Rattle.ranking.proofs.Reaching.{best-fits}
 use Rattle.ranking.proofs.Rule.best_score.Statement.{statement}
 use Rattle.ranking.proofs.Rule.best_score.Tie as tie
 
-corner-requires : tie.Need-corner-requires
-corner-requires c κs = search needs
+module _ (c : tie.After-row-part) where
+  abbrev start : tie.Start
+  start = c .before .before
 
-corner-requires-2 : tie.Need-corner-requires-2
-corner-requires-2 c κs = search needs
+  abbrev cell : ℕ
+  cell = start .args .cell
 
-sum-requires : tie.Need-sum-requires
-sum-requires c κs = search needs
+  is : toZ w32 (ofZ w32 (c .before .loss-part .result)) +ℤ toZ w32 (ofZ w32 (c .row-part .result)) ≡ bestScore (start .args .self) cell
+  is =
+      ap₂ (λ x y. x +ℤ y)
+      (kept w32 (c .before .loss-part .result) (c .before .loss-part .ok) ∙ c .before .loss-part .ensures .0)
+      (kept w32 (c .row-part .result) (c .row-part .ok) ∙ c .row-part .ensures)
+      ∙ sym (best-parts (start .args .self) (cell / 16) (cell % 16) (omega arith))
+      ∙ ap (bestScore (start .args .self)) whole
+    where
+      whole : 16 * (cell / 16) + cell % 16 ≡ cell
+      whole = omega arith
+
+  fits : SFits w32 (bestScore (start .args .self) cell)
+  fits = best-fits (start .args .self) (c .before .loss-part .ensures .1) cell (start .fits .cell .fits)
+
+loss-part-requires : tie.Need-loss-part-requires
+loss-part-requires c κs = search needs
+
+row-part-requires : tie.Need-row-part-requires
+row-part-requires c κs = search needs
+
+add-result : tie.Need-add-result
+add-result c = rw (is c) (fits c)
 
 returns : tie.Need-returns
-returns c =
-    let earlier = c .before .before .before .before in
-    let start = earlier .before .before .before in
-    let rule = start .args .self in
-    let n = start .args .cell in
-    let told = earlier .struct-told .given in
-    let x = c .before .before .before .corner .ensures ∙ ap (λ z. corner z (rule .ranges .loss) (n % 16)) (kept w16 (rule .weights .loss) (told .0 .1)) in
-    let y = c .before .corner2 .ensures ∙ ap (λ z. corner z (rule .ranges .shake) (n / 16)) (kept w16 (rule .weights .shake) (told .1 .0 .1)) in
-    kept w32 (c .sum .result) (c .sum .ok)
-    ∙ c .sum .ensures
-    ∙ ap₂ (λ l s. sum rule (low (record { loss = l; shake = s }))) x y
-    ∙ ap (sum rule) (low-same (cornerOf rule n) (corner-in rule n (start .fits .cell .fits)))
-    ∙ corner-best rule n
+returns c = rw (is c) (toZ-ofZ (fits c))
 
 pub best-score-spec : {M : Type 1} → statement M
-best-score-spec = tie.close (tie.spec corner-requires corner-requires-2 sum-requires returns)
+best-score-spec = tie.close (tie.spec loss-part-requires row-part-requires add-result returns)

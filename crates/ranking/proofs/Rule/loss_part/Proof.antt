@@ -25,7 +25,7 @@ returns c =
       kept w32 (c .weighted .result) (c .weighted .ok)
           ∙ c .weighted .ensures
           ∙ part-read (rule .ranges .loss) (start .args .column) (start .pre) (kept w16 (rule .weights .loss) (told .0 .1)) (c .before .before .corner .ensures),
-      record { loss = record { sfits = told .0 .1 }; shake = record { sfits = told .1 .0 .1 } },
+      record { loss = record { sfits = told .0 .1 }; shake = record { sfits = told .1 .0 .1 }; heat = record { sfits = told .1 .1 .0 .1 } },
     )
 
 pub loss-part-spec : {M : Type 1} → statement M

@@ -39,19 +39,19 @@ returns c =
     row-none (a .self) (a .score) (a .sought) (a .row)
     ∙ row-skips (a .self) (a .score) (a .sought) (a .row) 0 16 (λ i h l. row-out-all (a .self) (a .row) (sym (c .before .meets .ensures) ∙ not-true _ (c .if1 .taken)) i (omega arith))
 
-shake-part-requires : tie.Need-shake-part-requires Inv-loop μ-loop
-shake-part-requires c κs = c .before .before .before .pre .0
+row-part-requires : tie.Need-row-part-requires Inv-loop μ-loop
+row-part-requires c κs = c .before .before .before .pre .0
 
 stripes-requires : tie.Need-stripes-requires Inv-loop μ-loop
 stripes-requires c κs = search needs
 
 -- the rule that is handed in is one that the columns and the row are of
-own : (c : tie.After-stripes Inv-loop μ-loop) → Along (c .before .before .before .before .before .args .row) (c .before .before .before .before .before .args .t2) (toZ w32 (ofZ w32 (c .before .shake-part .result))) (c .stripes .result .first) (c .stripes .result .end) (c .before .before .before .before .before .args .self)
+own : (c : tie.After-stripes Inv-loop μ-loop) → Along (c .before .before .before .before .before .args .row) (c .before .before .before .before .before .args .t2) (toZ w32 (ofZ w32 (c .before .row-part .result))) (c .stripes .result .first) (c .stripes .result .end) (c .before .before .before .before .before .args .self)
 own c =
     let start = c .before .before .before .before .before in
     record {
       parts = start .pre .2;
-      down = kept w32 (c .before .shake-part .result) (c .before .shake-part .ok) ∙ c .before .shake-part .ensures;
+      down = kept w32 (c .before .row-part .result) (c .before .row-part .ok) ∙ c .before .row-part .ensures;
       met = sym (c .before .before .before .meets .ensures) ∙ not-false _ (c .before .before .if1 .left);
       stripes = sym (c .stripes .ensures);
     }
@@ -103,7 +103,7 @@ add-met c =
     let rule = at .before .before .before .before .before .before .args .self in
     let n = at .loop .column in
     let small : n < 16 = omega arith in
-    subst (SFits w32) (sym (ap (λ z. z +ℤ toZ w32 (ofZ w32 (at .before .before .shake-part .result))) (whole c) ∙ along-best _ _ _ _ _ rule along n small))
+    subst (SFits w32) (sym (ap (λ z. z +ℤ toZ w32 (ofZ w32 (at .before .before .row-part .result))) (whole c) ∙ along-best _ _ _ _ _ rule along n small))
     (best-fits rule (along .parts .words) (16 * _ + n) (omega arith))
 
 met-requires : tie.Need-met-requires Inv-loop μ-loop
@@ -126,7 +126,7 @@ loop-again c =
     let inv = at .loop .inv in
     let small : n < 16 = omega arith in
     let cell = 16 * a .row + n in
-    let part = toZ w32 (ofZ w32 (at .before .before .shake-part .result)) in
+    let part = toZ w32 (ofZ w32 (at .before .before .row-part .result)) in
     let is : (rule : Rule) → Along (a .row) (a .t2) part (at .before .stripes .result .first) (at .before .stripes .result .end) rule → c .met .result ≡ met (at .loop .found) cell (bestScore rule cell) s =
     λ rule along.
     c .met .ensures
@@ -167,7 +167,7 @@ row-met-spec =
     μ-loop
     meets-requires
     returns
-    shake-part-requires
+    row-part-requires
     stripes-requires
     loop-holds
     mul-cell

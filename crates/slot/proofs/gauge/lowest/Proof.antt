@@ -7,16 +7,16 @@ use lib.ListN.{getD, take, drop}
 use Rattle.question.proofs.Stored.{roomy}
 use Rattle.slot.specs.Gauges.{lowest}
 use Rattle.slot.proofs.Listing.{none-left}
-use Rattle.slot.proofs.Gauges.{low-room, low-numbers, low-more}
+use Rattle.slot.proofs.Gauges.{low-room, low-names, low-more}
 use borrow.Author.Needs.{needs}
 use Rattle.slot.proofs.gauge.lowest.Statement.{statement}
 use Rattle.slot.proofs.gauge.lowest.Tie as tie
 
 abbrev Inv-loop : tie.InvT-loop
-Inv-loop len numbers low₀ i₀ low i = (i ≤ i₀) × (i₀ ≤ 16) × (low ≡ lowest (drop i (take i₀ numbers)))
+Inv-loop len names low₀ i₀ low i = (i ≤ i₀) × (i₀ ≤ 16) × (low ≡ lowest (drop i (take i₀ names)))
 
 abbrev μ-loop : tie.MeasureT-loop
-μ-loop len numbers low₀ i₀ low i = i
+μ-loop len names low₀ i₀ low i = i
 
 returns : tie.Need-returns Inv-loop μ-loop
 returns c = sym (low-room (c .before .before .args .question) (c .if1 .taken))
@@ -44,14 +44,17 @@ loop-less c = omega arith
 
 loop-again : tie.Need-loop-again Inv-loop μ-loop
 loop-again c =
-    let l = c .before .before .loop in
-    let n = c .before .before .before .lines-in .result in
-    let q = c .before .before .before .before .before .before .before .args .question in
-    let good = c .before .before .before .before .before .before .before .good .0 .1 .1 .1 .1 in
+    let at = c .before .before in
+    let l = at .loop in
+    let n = at .before .lines-in .result in
+    let start = at .before .before .before .before .before in
+    let q = start .args .question in
+    let good = start .good .0 .1 .1 .1 .1 in
     let r = roomy q (good .0 .1 .0 .1) (good .1 .0 .1 .0 .1) in
     let up : l .i - 1 + 1 ≡ l .i = omega arith in
-    let more = low-more (q .numbers) n (l .i - 1) (omega (arith, r .numbers, l .inv .1)) (omega arith) in
-    (omega arith, l .inv .1, c .lower .ensures ∙ ap (min (getD (q .numbers) (l .i - 1) 0)) (l .inv .2 ∙ ap (λ m. lowest (drop m (take n (q .numbers)))) (sym up)) ∙ sym more)
+    let more = low-more (q .names) n (l .i - 1) (omega (arith, r .names, l .inv .1)) (omega arith) in
+    let low = l .inv .2 ∙ ap (λ m. lowest (drop m (take n (q .names)))) (sym up) in
+    (omega arith, l .inv .1, c .lower .ensures ∙ ap (min (getD (q .names) (l .i - 1) 0)) low ∙ sym more)
 
 returns-2 : tie.Need-returns-2 Inv-loop μ-loop
 returns-2 c =
@@ -62,7 +65,7 @@ returns-2 c =
     let good = start .good .0 .1 .1 .1 .1 in
     let r = roomy q (good .0 .1 .0 .1) (good .1 .0 .1 .0 .1) in
     let done : l .i ≡ 0 = omega arith in
-    l .inv .2 ∙ ap (λ m. lowest (drop m (take (n .result) (q .numbers)))) done ∙ sym (low-numbers q (c .before .before .before .before .if1 .left) r (n .result) (n .ensures))
+    l .inv .2 ∙ ap (λ m. lowest (drop m (take (n .result) (q .names)))) done ∙ sym (low-names q (c .before .before .before .before .if1 .left) r (n .result) (n .ensures))
 
 pub lowest-spec : {M : Type 1} → statement M
 lowest-spec =

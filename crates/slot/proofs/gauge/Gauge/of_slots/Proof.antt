@@ -19,10 +19,14 @@ abbrev μ-loop : tie.MeasureT-loop
 all-slots : (c : tie.Start Inv-loop μ-loop) → length (c .args .t1) ≡ 32
 all-slots c = c .good .0 .1 .0 .1
 
+none-requires : tie.Need-none-requires Inv-loop μ-loop
+none-requires c κs = search needs
+
 loop-holds : tie.Need-loop-holds Inv-loop μ-loop
 loop-holds c =
-    let all = all-slots c in
-    (omega arith, all, filled-none gaugeOf (c .args .t1) _ (sym all))
+    let start = c .before .before in
+    let all = all-slots start in
+    (omega arith, all, filled-none gaugeOf (start .args .t1) _ (sym all))
 
 mul-of : tie.Need-mul-of Inv-loop μ-loop
 mul-of c = search needs
@@ -48,12 +52,12 @@ loop-less c = omega arith
 loop-again : tie.Need-loop-again Inv-loop μ-loop
 loop-again c =
     let l = c .before .before .before .loop in
-    (omega arith, l .inv .1, filled-more gaugeOf (c .before .before .before .before .args .t1) (l .i) (l .gauges) noQuestion (c .of .result) (omega (arith, l .inv .1)) (l .inv .2) (c .of .ensures))
+    (omega arith, l .inv .1, filled-more gaugeOf (c .before .before .before .before .before .before .args .t1) (l .i) (l .gauges) noQuestion (c .of .result) (omega (arith, l .inv .1)) (l .inv .2) (c .of .ensures))
 
 returns : tie.Need-returns Inv-loop μ-loop
 returns c =
     let l = c .before .loop in
-    filled-all gaugeOf (c .before .before .args .t1) (l .i) (l .gauges) (omega (arith, l .inv .1)) (l .inv .2)
+    filled-all gaugeOf (c .before .before .before .before .args .t1) (l .i) (l .gauges) (omega (arith, l .inv .1)) (l .inv .2)
 
 pub of-slots-spec : {M : Type 1} → statement M
 of-slots-spec =
@@ -61,6 +65,7 @@ of-slots-spec =
     (tie.spec
     Inv-loop
     μ-loop
+    none-requires
     loop-holds
     mul-of
     array-copy-out-of

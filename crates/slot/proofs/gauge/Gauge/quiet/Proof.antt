@@ -27,9 +27,16 @@ returns : tie.Need-returns
 unfolding isQuiet
 returns c = rw (sym (test (c .before)) ∙ c .if1 .taken)
 
+last-name-requires : tie.Need-last-name-requires
+last-name-requires c κs = search needs
+
+cast-result : tie.Need-cast-result
+cast-result c = search needs
+
 returns-2 : tie.Need-returns-2
 unfolding isQuiet
-returns-2 c = rw (sym (test (c .before .before)) ∙ c .before .if1 .left)
+returns-2 c = rw (sym (test (c .before .before .before)) ∙ c .before .before .if1 .left, c .before .last-name .ensures)
 
 pub quiet-spec : {M : Type 1} → statement M
-quiet-spec = tie.close (tie.spec might-pass-requires returns returns-2)
+quiet-spec =
+    tie.close (tie.spec might-pass-requires returns last-name-requires cast-result returns-2)
