@@ -32,8 +32,9 @@ const FEWEST: usize = 64;
 const MOST: usize = 1 << 20;
 const TELLS: f64 = 0.004;
 const TIMES: f64 = 0.25;
-/// Rounds of which the median counts.
+/// Rounds of which the median counts, and those where two builds of `cart` are compared.
 const ROUNDS: usize = 5;
+const BESIDE: usize = 15;
 
 fn median(mut times: Vec<f64>) -> f64 {
     times.sort_by(|x, y| x.partial_cmp(y).expect("a time"));
@@ -166,6 +167,20 @@ impl Bench {
         Row { name, units, nanoseconds }
     }
 
+    /// Measures ours and the program after it, another build of `cart`, on one workload in turn: what a unit takes each, and the median of the
+    /// rounds' ratios.
+    fn beside(&self, make: &dyn Fn(usize) -> Workload, fixed: Option<usize>) {
+        let units = fixed.unwrap_or_else(|| self.sizes(&|units| Workload { who: vec![OURS], ..make(units) })[OURS]);
+        let w = make(units);
+        let files = self.files("beside", &w);
+        self.agree(&w.name, self.programs[1..2].iter(), &files);
+        let rounds: Vec<(f64, f64)> = (0..BESIDE).map(|_| (self.once(1, &files).1, self.once(OURS, &files).1)).collect();
+        let unit = |seconds: Vec<f64>| median(seconds) * 1e9 / files.units as f64;
+        let (other, ours) = (unit(rounds.iter().map(|r| r.0).collect()), unit(rounds.iter().map(|r| r.1).collect()));
+        let ratio = median(rounds.iter().map(|r| r.1 / r.0).collect());
+        println!("| {} | {} | {:.1} | {:.1} | {:.3} |", w.name, files.units, other, ours, ratio);
+    }
+
     /// Instructions for each unit of a fixed workload, which repeat.
     fn count(&self, w: &Workload) {
         let files = self.files("short", w);
@@ -213,8 +228,24 @@ fn summary(rows: &[Row]) {
     println!("| an entry with no search, N 1024 / N 16, ours | 1 | {:.2} |", rising(1024) / rising(16));
 }
 
+/// Two builds of `cart` beside each other: the times of each workload, and the memory.
+fn two_builds(bench: &Bench) {
+    println!("\nCPU time for one unit, in nanoseconds; {} rounds that take the two in turn, the median of each and of their ratios\n", BESIDE);
+    println!("| workload | units | the other cart | this one | ratio |\n|---|---|---|---|---|");
+    for (make, fixed) in workloads::all() {
+        bench.beside(&*make, fixed);
+    }
+    let idle = Program { name: "idle", words: vec![format!("{}/idle", bench.room)] };
+    let log = workloads::memory_log();
+    let most = |p: &Program| median((0..BESIDE).map(|_| memory(p, &log) as f64).collect());
+    let [least, other, ours] = [&idle, &bench.programs[1], &bench.programs[OURS]].map(most);
+    let (other, ours) = (other - least, ours - least);
+    println!("| memory above an idle program's, kB | | {} | {} | {:.3} |", other, ours, ours / other);
+}
+
 /// bench ROOM MODE CART-COMMAND... [-- COMMAND...]
-/// The second command runs the program that the first one has to print the same as, where that is too slow to be measured.
+/// The second command runs the program that the first one has to print the same as, where that is too slow to be measured; in the mode
+/// `beside` it is another build of `cart`, and the two are compared.
 fn main() {
     let words: Vec<String> = std::env::args().skip(1).collect();
     let room = words[0].clone();
@@ -229,8 +260,12 @@ fn main() {
         program("naive", &[&contender, "naive"]),
         program("C", &[&session]),
     ];
-    let bench = Bench { programs, room };
+    let mut bench = Bench { programs, room };
     same_addresses();
+    if words[1] == "beside" {
+        bench.programs[1] = Program { name: "the other cart", words: commands.next().expect("the command of the other cart") };
+        return two_builds(&bench);
+    }
     if let Some(words) = commands.next() {
         let proved = Program { name: "target/bin/cart", words };
         for w in workloads::counted() {

@@ -365,12 +365,19 @@ pub fn store(bytes: &mut [u8], size: u8, sent: u8, data: &[u8])
     wire::put_all(bytes, at, wire::front(&data[1..], end - at));
 }
 
-// What a whole payload is answered: its report, or the reader's refusal.
+// What a whole payload is answered: its report, or the reader's refusal. The values go over as one, so that a caller reads in one what was
+// stored in one (docs/SPEED.md).
 pub fn answered(payload: &[u8]) -> Answer
     ensures { λ r. ⌜ r ≡ yields (readPayload (now (payload .entry))) ⌝ }
 {
     match Payload::read(payload) {
-        Reading::Accepted(report) => Answer::Complete(report),
+        Reading::Accepted(report) => {
+            let values = report.values;
+            Answer::Complete(Report {
+                values,
+                own: report.own,
+            })
+        }
         Reading::Refused(number) => Answer::Refused(number),
     }
 }

@@ -22,14 +22,15 @@ use window::Row;
 use window::Window;
 
 // `next` is the cell that the search takes next, 256 where none is left: the cells before it in the visiting order are the
-// marked ones. An empty slot has k 0 and everything else 0, and so has every line past the first `len`.
+// marked ones. An empty slot has k 0 and everything else 0, and so has every line past the first `len`. The fields' order is
+// for speed (docs/SPEED.md).
 pub struct Question {
-    pub k: u8,
-    pub rule: Rule,
     pub names: [u32; Lines::MOST],
+    pub rule: Rule,
     pub scores: [i32; Lines::MOST],
-    pub len: u8,
+    pub k: u8,
     pub next: u16,
+    pub len: u8,
 }
 
 // A question whose search has ended, and the steps that it took.

@@ -14,7 +14,7 @@ enum-known-number : tie.Need-enum-known-number
 enum-known-number c = search needs
 
 returns : tie.Need-returns
-returns c = rw (← c .before .before .before .read .ensures, c .before .report .given .1)
+returns c = rw (← c .before .before .before .before .read .ensures, c .before .before .report .given .1)
 
 returns-2 : tie.Need-returns-2
 returns-2 c = rw (← c .before .before .before .read .ensures, c .before .number .given .1)

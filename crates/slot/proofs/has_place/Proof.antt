@@ -21,11 +21,11 @@ returns : tie.Need-returns
 returns c =
     let start = c .before .before .before in
     let q = start .args .question in
-    let good = start .good .0 .1 .1 .1 .1 in
+    let good = start .good .0 .1 .1 in
     let last = c .before .least in
     c .has-place .ensures
     ∙ ap₂ (placeBy (q .rule) (q .k) (q .len)) (kept w32 (last .result) (last .ok) ∙ last .ensures) (toZ-ofZ (start .fits .score))
-    ∙ place-by q (roomy q (good .0 .1 .0 .1) (good .1 .0 .1 .0 .1)) (start .args .score)
+    ∙ place-by q (roomy q (good .0 .1 .0 .1) (good .1 .1 .0 .1 .0 .1)) (start .args .score)
 
 pub has-place-spec : {M : Type 1} → statement M
 has-place-spec = tie.close (tie.spec least-requires has-place-requires returns)

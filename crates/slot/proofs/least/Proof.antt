@@ -31,10 +31,10 @@ returns-2 : tie.Need-returns-2
 returns-2 c =
     let at = c .before .before .before in
     let q = at .before .args .question in
-    let good = at .before .good .0 .1 .1 .1 .1 in
+    let good = at .before .good .0 .1 .1 in
     let i = at .lines-in .result - 1 in
     kept w32 (getD (q .scores) i (pos 0)) (c .result .given)
-    ∙ sym (least-last q (roomy q (good .0 .1 .0 .1) (good .1 .0 .1 .0 .1)) i (search needs))
+    ∙ sym (least-last q (roomy q (good .0 .1 .0 .1) (good .1 .1 .0 .1 .0 .1)) i (search needs))
 
 pub least-spec : {M : Type 1} → statement M
 least-spec =

@@ -44,8 +44,8 @@ returns c =
     let last = counted .before .last-name in
     let start = counted .before .before in
     let q = start .args .t1 in
-    let good = start .good .0 .1 .1 .1 .1 in
-    let r = roomy q (good .0 .1 .0 .1) (good .1 .0 .1 .0 .1) in
+    let good = start .good .0 .1 .1 in
+    let r = roomy q (good .0 .1 .0 .1) (good .1 .1 .0 .1 .0 .1) in
     let here = gone-here (q .names) (counted .lines-in .result) (l .loop .i) (omega (arith, r .names, counted .lines-in .ensures)) (omega arith) (last .result) (c .if1 .taken) in
     ap not (sym here ∙ l .loop .inv .1)
     ∙ lists-names q (start .args .gone) (last .result) (last .ensures) r (counted .lines-in .result) (counted .lines-in .ensures)
@@ -63,8 +63,8 @@ loop-again c =
     let last = counted .before .last-name in
     let start = counted .before .before in
     let q = start .args .t1 in
-    let good = start .good .0 .1 .1 .1 .1 in
-    let r = roomy q (good .0 .1 .0 .1) (good .1 .0 .1 .0 .1) in
+    let good = start .good .0 .1 .1 in
+    let r = roomy q (good .0 .1 .0 .1) (good .1 .1 .0 .1 .0 .1) in
     let later = gone-later (q .names) (counted .lines-in .result) (l .loop .i) (omega (arith, r .names, counted .lines-in .ensures)) (omega arith) (last .result) (c .if1 .left) in
     (omega arith, sym later ∙ l .loop .inv .1)
 
@@ -75,8 +75,8 @@ returns-2 c =
     let last = counted .before .last-name in
     let start = counted .before .before in
     let q = start .args .t1 in
-    let good = start .good .0 .1 .1 .1 .1 in
-    let r = roomy q (good .0 .1 .0 .1) (good .1 .0 .1 .0 .1) in
+    let good = start .good .0 .1 .1 in
+    let r = roomy q (good .0 .1 .0 .1) (good .1 .1 .0 .1 .0 .1) in
     ap not (sym (gone-nowhere (last .result) (q .names) (counted .lines-in .result) (l .loop .i) (omega arith)) ∙ l .loop .inv .1)
     ∙ lists-names q (start .args .gone) (last .result) (last .ensures) r (counted .lines-in .result) (counted .lines-in .ensures)
 

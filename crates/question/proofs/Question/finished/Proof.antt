@@ -42,12 +42,12 @@ returns-2 c =
     let first = earlier .before .before in
     let start = first .before .before in
     let q = start .args .self in
-    let good = start .good .0 .1 .1 .1 .1 in
+    let good = start .good .0 .1 .1 in
     let is = earlier .bar .ensures ∙ ap (λ l. bars.barOf l (q .k)) (earlier .before .list .ensures) in
     ap₂ ltZ (kept w32 (c .before .before .best-score .result) (c .before .before .best-score .ok) ∙ c .before .before .best-score .ensures)
     (kept w32 (earlier .bar .result .score) (c .struct-told .given .1 .1 .0 .1) ∙ ap (λ (b : Bar). b .score) is)
     ∙ sym
-    (finished-full q (sym (first .before .in-order .ensures) ∙ not-false _ (first .if1 .left)) (roomy q (good .0 .1 .0 .1) (good .1 .0 .1 .0 .1))
+    (finished-full q (sym (first .before .in-order .ensures) ∙ not-false _ (first .if1 .left)) (roomy q (good .0 .1 .0 .1) (good .1 .1 .0 .1 .0 .1))
     (sym (ap (λ (b : Bar). b .full) is) ∙ then .if2 .taken))
 
 returns-3 : tie.Need-returns-3

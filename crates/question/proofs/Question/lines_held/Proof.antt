@@ -30,8 +30,8 @@ loop-holds : tie.Need-loop-holds Inv-loop μ-loop
 loop-holds c =
     let start = c .before .before in
     let q = start .args .t1 in
-    let good = start .good .0 .1 .1 .1 .1 in
-    let room = roomy q (good .0 .1 .0 .1) (good .1 .0 .1 .0 .1) in
+    let good = start .good .0 .1 .1 in
+    let room = roomy q (good .0 .1 .0 .1) (good .1 .1 .0 .1 .0 .1) in
     record {
       up-to = search needs;
       within = search needs;

@@ -49,8 +49,8 @@ loop-again c =
     let n = at .before .lines-in .result in
     let start = at .before .before .before .before .before in
     let q = start .args .question in
-    let good = start .good .0 .1 .1 .1 .1 in
-    let r = roomy q (good .0 .1 .0 .1) (good .1 .0 .1 .0 .1) in
+    let good = start .good .0 .1 .1 in
+    let r = roomy q (good .0 .1 .0 .1) (good .1 .1 .0 .1 .0 .1) in
     let up : l .i - 1 + 1 ≡ l .i = omega arith in
     let more = low-more (q .names) n (l .i - 1) (omega (arith, r .names, l .inv .1)) (omega arith) in
     let low = l .inv .2 ∙ ap (λ m. lowest (drop m (take n (q .names)))) (sym up) in
@@ -62,8 +62,8 @@ returns-2 c =
     let n = c .before .before .lines-in in
     let start = c .before .before .before .before .before .before in
     let q = start .args .question in
-    let good = start .good .0 .1 .1 .1 .1 in
-    let r = roomy q (good .0 .1 .0 .1) (good .1 .0 .1 .0 .1) in
+    let good = start .good .0 .1 .1 in
+    let r = roomy q (good .0 .1 .0 .1) (good .1 .1 .0 .1 .0 .1) in
     let done : l .i ≡ 0 = omega arith in
     l .inv .2 ∙ ap (λ m. lowest (drop m (take (n .result) (q .names)))) done ∙ sym (low-names q (c .before .before .before .before .if1 .left) r (n .result) (n .ensures))
 
