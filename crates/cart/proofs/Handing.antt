@@ -14,7 +14,7 @@ use Rattle.pieces.specs.declared.Waiting.{Waiting}
 use Rattle.pieces.specs.declared.Fed.{Fed}
 use Rattle.pieces.specs.Machine.{nothing, Feeds, endLine}
 use Rattle.pieces.specs.Program.{Handed}
-use Rattle.stretch.proofs.Parts.{drop-take}
+use Rattle.coming.proofs.Parts.{drop-take}
 use Rattle.pieces.proofs.Program.{handed-none, tells, ends}
 use Rattle.cart.specs.declared.Printed.{Printed}
 use Rattle.cart.specs.declared.Turn.{Turn}

@@ -19,8 +19,8 @@ use Rattle.text.proofs.Places.{Put, then, said}
 use Rattle.journal.specs.declared.Log.{Log}
 use Rattle.pieces.specs.declared.Waiting.{Waiting}
 use Rattle.journal.specs.Log.{Outcome, itemDone}
-use Rattle.stretch.specs.Coming.{hasRoom}
-use Rattle.stretch.proofs.Parts.{part-part}
+use Rattle.coming.specs.Coming.{hasRoom}
+use Rattle.coming.proofs.Parts.{part-part}
 use Rattle.pieces.specs.Machine.{Came, nothing, withByte, isWhole, sizeIn, valueEnd, valueIn, bytesCame, frontCame}
 use Rattle.pieces.proofs.Waits.{Holds, holds-more, holds-size}
 use Rattle.pieces.proofs.Feeding.{Ran, step, run-more, run-append, came-whole, came-not}

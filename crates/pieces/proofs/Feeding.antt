@@ -17,7 +17,7 @@ use Rattle.text.proofs.Places.{Put, then, said, none}
 use Rattle.journal.specs.declared.Log.{Log}
 use Rattle.pieces.specs.declared.Waiting.{Waiting}
 use Rattle.journal.specs.Log.{itemDone}
-use Rattle.stretch.specs.Coming.{hasRoom}
+use Rattle.coming.specs.Coming.{hasRoom}
 use Rattle.pieces.specs.Machine.{Came, nothing, withByte, isWhole, valueIn, came, bytesCame, frontCame, Feeds}
 
 -- What came, and what more bytes bring then.

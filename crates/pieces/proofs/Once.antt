@@ -14,7 +14,7 @@ use Rattle.text.proofs.Decimal.{below-or}
 use Rattle.journal.specs.declared.Log.{Log}
 use Rattle.pieces.specs.declared.Waiting.{Waiting}
 use Rattle.pieces.specs.declared.Fed.{Fed}
-use Rattle.stretch.specs.Coming.{hasRoom}
+use Rattle.coming.specs.Coming.{hasRoom}
 use Rattle.pieces.specs.Machine.{Came, frontCame, Feeds}
 
 module _ {log : Log} {w : Waiting} {piece room : List ℕ} where

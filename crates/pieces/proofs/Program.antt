@@ -22,7 +22,7 @@ use Rattle.journal.specs.declared.Log.{Log}
 use Rattle.pieces.specs.declared.Waiting.{Waiting}
 use Rattle.pieces.specs.declared.Fed.{Fed}
 use Rattle.journal.specs.Log.{nextItem, freshLog, logText}
-use Rattle.stretch.specs.Coming.{hasRoom}
+use Rattle.coming.specs.Coming.{hasRoom}
 use Rattle.pieces.specs.Machine.{Came, nothing, withByte, isWhole, came, bytesCame, frontCame, Feeds, endLine}
 use Rattle.journal.specs.Reached.{Reached, fresh, item}
 use Rattle.pieces.specs.Program.{Handed, Program, feeds, finishes}

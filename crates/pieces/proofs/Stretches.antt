@@ -16,9 +16,9 @@ use Rattle.text.proofs.Places.{Put, then, none}
 use Rattle.journal.specs.declared.Log.{Log}
 use Rattle.journal.specs.Log.{itemDone}
 use Rattle.stretch.specs.declared.Stretch.{Stretch}
-use Rattle.stretch.specs.Coming.{sizeAt, comes, hasRoom}
+use Rattle.coming.specs.Coming.{sizeAt, comes, hasRoom}
 use Rattle.stretch.specs.Doing.{Did, itemAt, after, did, didAll, Does}
-use Rattle.stretch.proofs.Coming.{whole-there}
+use Rattle.coming.proofs.Coming.{whole-there}
 use Rattle.stretch.proofs.Going.{did-zero, did-more, did-none, did-within}
 use Rattle.pieces.specs.declared.Waiting.{Waiting}
 use Rattle.pieces.specs.Machine.{nothing}

@@ -12,7 +12,7 @@ use Rattle.journal.specs.declared.Log.{Log}
 use Rattle.pieces.specs.declared.Waiting.{Waiting}
 use Rattle.pieces.specs.declared.Fed.{Fed}
 use Rattle.journal.specs.Log.{nextItem, itemDone}
-use Rattle.stretch.specs.Coming.{hasRoom}
+use Rattle.coming.specs.Coming.{hasRoom}
 
 -- What is kept of an item: its first 19 bytes.
 abbrev pub keptBytes : ℕ

@@ -7,7 +7,7 @@ ghost use lib.ListN.{getD, drop};
 ghost use lib.Seq.{sets};
 ghost use Rattle.text.specs.Text.{behind};
 ghost use Rattle.journal.specs.Log.{Stores, itemDone};
-ghost use Rattle.stretch.specs.Coming.{comes, hasRoom};
+ghost use Rattle.coming.specs.Coming.{comes, hasRoom};
 ghost use Rattle.pieces.specs.Machine.{nothing, withByte, isWhole, valueEnd, valueIn, Feeds, endLine};
 use items::Item;
 use journal::Done;
@@ -158,7 +158,7 @@ fn goes_on(len: usize, i: usize, room: usize, at: usize) -> bool
     ensures { λ r. ⌜ r ≡ (ltb i len && hasRoom room at) ⌝ }
 {
     if i < len {
-        return stretch::has_room(room, at);
+        return coming::has_room(room, at);
     }
     false
 }
@@ -170,5 +170,5 @@ fn starts(have: u32, rows: u16, bytes: &[u8]) -> bool
     if have != 0 {
         return false;
     }
-    stretch::comes(rows, bytes)
+    coming::comes(rows, bytes, 0)
 }

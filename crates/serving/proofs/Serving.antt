@@ -28,11 +28,8 @@ use Rattle.text.specs.Text.{rLine, sLine}
 use Rattle.journal.specs.declared.Log.{Log}
 use Rattle.journal.specs.Log.{Outcome, nextItem, withItem, withBoard, unless, ruleIn, setItem, removeItem, showItem, itemDone}
 use Rattle.journal.proofs.Items as items
+use Rattle.coming.proofs.Coming.{Known}
 use Rattle.serving.specs.Serving.{Served, shownText, seatedText, served}
-
--- The tag and the length of an item for a slot.
-abbrev pub Known : ℕ → List ℕ → Type 0
-Known tag v = ((tag ≡ 20) × (length v ≡ 1)) ⊎ (((tag ≡ 19) × (length v ≡ 1)) ⊎ (((tag ≡ 17) × (length v ≡ 6)) ⊎ ((tag ≡ 22) × (length v ≡ 8))))
 
 -- ---- by the tag
 

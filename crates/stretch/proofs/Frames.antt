@@ -41,7 +41,8 @@ use Rattle.journal.specs.declared.Log.{Log}
 use Rattle.journal.specs.Log.{nextItem, stationsOf, withItem, withBoard, refused, unless, sLines, enterItem, answerItem, frameItem, itemDone}
 use Rattle.journal.proofs.Items as items
 use Rattle.stretch.specs.declared.Brought.{Brought}
-use Rattle.stretch.specs.Inner.{brought, frameSize, frameOf}
+use Rattle.coming.specs.Inner.{frameSize}
+use Rattle.stretch.specs.Inner.{brought, frameOf}
 use Rattle.serving.proofs.Serving.{some-rows}
 use Rattle.stretch.proofs.Turns.{Turning, searchLines}
 

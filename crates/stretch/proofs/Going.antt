@@ -10,8 +10,8 @@ use Rattle.laws.proofs.Tests.{Tested, passed, failed, tested, and-both, if-so, 
 use Rattle.text.specs.Text.{behind}
 use Rattle.text.proofs.Places.{Put, then, none}
 use Rattle.journal.specs.declared.Log.{Log}
-use Rattle.stretch.specs.Coming.{sizeAt, comes, hasRoom}
-use Rattle.stretch.proofs.Coming.{whole-there}
+use Rattle.coming.specs.Coming.{sizeAt, comes, hasRoom}
+use Rattle.coming.proofs.Coming.{whole-there}
 use Rattle.stretch.specs.Doing.{Did, itemAt, after, did, didAll}
 
 module _ (room : ℕ) (bytes : List ℕ) where

@@ -1,6 +1,4 @@
 -- Laws that the crates above cite.
-pub mod Parts
-pub mod Coming
 pub mod Going
 pub mod Turns
 pub mod Frames

@@ -5,18 +5,8 @@ use mathlib.Core.List.{List}
 use Prim.Native.Nat.{ℕ}
 use denote.Ref.{now}
 use Rattle.laws.proofs.Outcomes.{OneAnswer, OneLeft}
-use Rattle.stretch.proofs.comes.Kinds as comes-kinds
-use Rattle.stretch.proofs.comes.Reads as comes-reads
-use Rattle.stretch.proofs.has_room.Kinds as has-room-kinds
-use Rattle.stretch.proofs.has_room.Reads as has-room-reads
 use Rattle.stretch.proofs.take.Kinds as take-kinds
 use Rattle.stretch.proofs.take.Reads as take-reads
-
-comes-once : OneAnswer 1 comes-kinds.ps comes-kinds.r comes-reads.Post
-comes-once κs a x y s t p q = p ∙ sym q
-
-has-room-once : OneAnswer 0 has-room-kinds.ps has-room-kinds.r has-room-reads.Post
-has-room-once κs a x y s t p q = p ∙ sym q
 
 take-once : OneAnswer 2 take-kinds.ps take-kinds.r take-reads.Post
 take-once κs a x y s t p q =

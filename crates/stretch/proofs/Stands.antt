@@ -32,11 +32,12 @@ use Rattle.journal.specs.Log.{nextItem, withItem, frameItem, itemDone}
 use Rattle.stretch.specs.declared.Brought.{Brought}
 use Rattle.stretch.specs.declared.Standing.{Standing}
 use Rattle.slot.specs.declared.Turned.{Turned}
-use Rattle.stretch.specs.Coming.{sizeAt, comes, hasRoom}
+use Rattle.coming.specs.Coming.{sizeAt, comes, hasRoom, isFrame}
 use Rattle.serving.specs.Serving.{served, Serves}
-use Rattle.stretch.specs.Inner.{brought, Stored, windowOf, isFrame, frameSize, frameOf, Hears, logIn, Runs}
+use Rattle.coming.specs.Inner.{frameSize}
+use Rattle.stretch.specs.Inner.{brought, Stored, windowOf, frameOf, Hears, logIn, Runs}
 use Rattle.stretch.specs.Doing.{Did, itemAt}
-use Rattle.stretch.proofs.Coming.{Framed, Slot, has-window, a-frame, for-slot, whole-there}
+use Rattle.coming.proofs.Coming.{Framed, Slot, has-window, a-frame, for-slot, whole-there}
 use Rattle.serving.proofs.Serving.{slot-here}
 use Rattle.stretch.proofs.Frames.{report, values, turn, turned-is, turn-stays, turn-idle, frame-is, frame-none, row-fits, row-takes, frame-enters}
 use Rattle.stretch.proofs.Turns.{Turning, turning-none, turning-more, turning-still, turning-rest, still-old}

@@ -24,8 +24,9 @@ use Rattle.times.proofs.Lent.{met-refused, met-taken, untimed-takes}
 use Rattle.journal.specs.Log.{frameIn, timedIn}
 use Rattle.stretch.specs.declared.Brought.{Brought}
 use Rattle.stretch.specs.declared.Begun.{Begun}
-use Rattle.stretch.proofs.Parts.{drop-take}
-use Rattle.stretch.specs.Inner.{notBrought, frameSize, frameOf, timesBy, Hears, Begins, HearsAt}
+use Rattle.coming.proofs.Parts.{drop-take}
+use Rattle.coming.specs.Inner.{frameSize}
+use Rattle.stretch.specs.Inner.{notBrought, frameOf, timesBy, Hears, Begins, HearsAt}
 
 pub sixteen : {tag : ℕ} → tag ≡ 21 → frameSize tag ≡ 16
 unfolding frameSize

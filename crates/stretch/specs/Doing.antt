@@ -10,7 +10,7 @@ use Rattle.text.specs.Text.{behind}
 use Rattle.journal.specs.declared.Log.{Log}
 use Rattle.journal.specs.Log.{Outcome, itemDone}
 use Rattle.stretch.specs.declared.Stretch.{Stretch}
-use Rattle.stretch.specs.Coming.{sizeAt, comes, hasRoom}
+use Rattle.coming.specs.Coming.{sizeAt, comes, hasRoom}
 
 -- What the whole item at a place does.
 abbrev pub itemAt : Log → List ℕ → ℕ → Outcome

@@ -65,17 +65,7 @@ brought (Complete r) c =
 abbrev pub windowOf : Counts → (losses shakes names : List ℕ) → Window
 windowOf c losses shakes names = record { losses = losses; shakes = shakes; names = names; counts = c }
 
--- A tag is a frame's; the length of such an item's value, and the frame in it.
-unfoldable pub isFrame : ℕ → Bool
-isFrame tag = eqb tag 18 || eqb tag 21
-
-unfoldable pub frameSize : ℕ → ℕ
-frameSize tag = cond (eqb tag 21) 16 12
-
--- The length of an item for a slot; 0 where a tag is no such item's.
-unfoldable pub slotSize : ℕ → ℕ
-slotSize tag = cond (eqb tag 20) 1 (cond (eqb tag 19) 1 (cond (eqb tag 17) 6 (cond (eqb tag 22) 8 0)))
-
+-- The frame in the value of such an item.
 unfoldable pub frameOf : ℕ → List ℕ → Timed
 frameOf tag v = cond (eqb tag 21) (timedIn v) (frameIn v)
 

@@ -12,8 +12,9 @@ ghost use Rattle.bus.specs.Room.{roomBytes};
 ghost use Rattle.times.specs.Run.{stationsIn, Meets};
 ghost use Rattle.window.specs.Rows.{rowCount};
 ghost use Rattle.journal.specs.Log.{frameIn};
-ghost use Rattle.stretch.specs.Coming.{sizeAt, itemComes, frameComes, slotComes, comes, hasRoom};
-ghost use Rattle.stretch.specs.Inner.{rowsUsed, Stored, notBrought, brought, windowOf, isFrame, frameSize, slotSize, frameOf, putBack, timesBy, Begins, HearsAt, logIn, Runs};
+ghost use Rattle.coming.specs.Coming.{sizeAt};
+ghost use Rattle.coming.specs.Inner.{frameSize};
+ghost use Rattle.stretch.specs.Inner.{rowsUsed, Stored, notBrought, brought, windowOf, frameOf, putBack, timesBy, Begins, HearsAt, logIn, Runs};
 ghost use Rattle.stretch.specs.Doing.{Does};
 use board::Arrival;
 use board::Board;
@@ -67,11 +68,6 @@ struct Standing {
     at: usize,
 }
 
-impl Stretch {
-    // The most that one item prints: a line for the search of each slot.
-    pub const MOST: usize = 1056;
-}
-
 // Does the items that the bytes start with, as long as the next is done in place and `out` has room for whatever it prints,
 // and stores their text from `at` on. The sessions stand in bytes meanwhile.
 pub fn take(log: Log, bytes: &[u8], out: &mut [u8], at: usize) -> Stretch
@@ -103,23 +99,6 @@ pub fn take(log: Log, bytes: &[u8], out: &mut [u8], at: usize) -> Stretch
         taken: run.taken,
         at: run.at,
     }
-}
-
-// Whether the bytes start with an item that is done in place, where the window has that size.
-pub fn comes(rows: u16, bytes: &[u8]) -> bool
-    ensures { λ r. ⌜ r ≡ comes rows (now (bytes .entry)) 0 ⌝ }
-{
-    comes_at(rows, bytes, 0)
-}
-
-// Whether a room has space for what one item prints, from `at` on.
-pub fn has_room(room: usize, at: usize) -> bool
-    ensures { λ r. ⌜ r ≡ hasRoom room at ⌝ }
-{
-    if room < Stretch::MOST {
-        return false;
-    }
-    at <= room - Stretch::MOST
 }
 
 // The same with the sessions in bytes. The window and the slots are locals here, and their rows are lent, so that a frame
@@ -155,10 +134,10 @@ fn run(
         known: false,
         at: 0,
     };
-    while goes_on(counts.size, bytes, i, out.len(), at) {
+    while coming::goes_on(counts.size, bytes, i, out.len(), at) {
         items = journal::next_item(items);
         let tag = bytes[i];
-        if !is_frame(tag) {
+        if !coming::is_frame(tag) {
             let value = value_at(bytes, i);
             let s = wire::byte(value, 0) as usize;
             let held = slots[s];
@@ -249,95 +228,6 @@ fn end_of_run(
     }
 }
 
-// Whether an item that is done in place comes at a place, and a room of that length has space for what it prints.
-fn goes_on(rows: u16, bytes: &[u8], i: usize, room: usize, at: usize) -> bool
-    requires { ⌜ i ≤ length (now bytes) ⌝ }
-    ensures { λ r. ⌜ r ≡ (comes rows (now (bytes .entry)) i && hasRoom room at) ⌝ }
-{
-    if has_room(room, at) {
-        return comes_at(rows, bytes, i);
-    }
-    false
-}
-
-// Whether there is a window, and a frame or an item for a slot comes at a place.
-fn comes_at(rows: u16, bytes: &[u8], i: usize) -> bool
-    requires { ⌜ i ≤ length (now bytes) ⌝ }
-    ensures { λ r. ⌜ r ≡ comes rows (now (bytes .entry)) i ⌝ }
-{
-    if rows < Window::SMALLEST {
-        return false;
-    }
-    if Window::LARGEST < rows {
-        return false;
-    }
-    if frame_comes(bytes, i) {
-        return true;
-    }
-    slot_comes(bytes, i)
-}
-
-// Whether a frame comes at a place, without a time or with one.
-fn frame_comes(bytes: &[u8], i: usize) -> bool
-    requires { ⌜ i ≤ length (now bytes) ⌝ }
-    ensures { λ r. ⌜ r ≡ frameComes (now (bytes .entry)) i ⌝ }
-{
-    if item_comes(bytes, i, Item::FRAME, Item::FRAME_SIZE) {
-        return true;
-    }
-    item_comes(bytes, i, Item::TIMED, Item::TIMED_SIZE)
-}
-
-// Whether a whole item of that tag and length stands at a place.
-fn item_comes(bytes: &[u8], i: usize, tag: u8, size: usize) -> bool
-    requires { ⌜ (i ≤ length (now bytes)) × (size ≤ 16) ⌝ }
-    ensures { λ r. ⌜ r ≡ itemComes (now (bytes .entry)) i tag size ⌝ }
-{
-    if bytes.len() - i < Field::HEAD + size {
-        return false;
-    }
-    if wire::byte(bytes, i) != tag {
-        return false;
-    }
-    (wire::read16(bytes, i + 1) as usize) == size
-}
-
-// Whether an item for a slot that there is comes at a place.
-fn slot_comes(bytes: &[u8], i: usize) -> bool
-    requires { ⌜ i ≤ length (now bytes) ⌝ }
-    ensures { λ r. ⌜ r ≡ slotComes (now (bytes .entry)) i ⌝ }
-{
-    if Board::SLOTS <= wire::byte(bytes, i + Field::HEAD) {
-        return false;
-    }
-    let tag = wire::byte(bytes, i);
-    let size = slot_size(tag);
-    if size == 0 {
-        return false;
-    }
-    item_comes(bytes, i, tag, size)
-}
-
-// The length of an item of that tag, if it is for a slot; 0, where it isn't.
-fn slot_size(tag: u8) -> usize
-    ensures { λ r. ⌜ r ≡ slotSize tag ⌝ }
-{
-    if tag == Item::SHOW {
-        return Item::SHOW_SIZE;
-    }
-    if tag == Item::REMOVE {
-        return Item::REMOVE_SIZE;
-    }
-    if tag == Item::SET {
-        return Item::SET_SIZE;
-    }
-    if tag == Item::SET_HEAT {
-        Item::SET_HEAT_SIZE
-    } else {
-        0
-    }
-}
-
 // The value of the whole item at a place.
 fn value_at(bytes: &[u8], i: usize) -> &[u8]
     requires { ⌜ i + (3 + sizeAt (now bytes) i) ≤ length (now bytes) ⌝ }
@@ -380,13 +270,6 @@ fn put_row(
     shakes[row] = report.shake;
     names[row] = report.name;
     if rows <= row { row + 1 } else { rows }
-}
-
-// Whether a tag is a frame's.
-fn is_frame(tag: u8) -> bool
-    ensures { λ r. ⌜ r ≡ isFrame tag ⌝ }
-{
-    tag == Item::FRAME || tag == Item::TIMED
 }
 
 // Begins with the frame at a place: a time in it is met.

@@ -10,20 +10,21 @@ use mathlib.Core.Logic.{inr}
 use mathlib.Core.List.{List}
 use lib.ListN.{length, getD, length-map}
 use Rattle.wire.proofs.Fields.{length-part}
-use Rattle.stretch.specs.Coming.{sizeAt}
+use Rattle.coming.specs.Coming.{sizeAt, isFrame}
 use Rattle.times.specs.Run.{stationsIn}
 use Rattle.wire.specs.Bytes.{part}
 use Rattle.journal.specs.Log.{frameIn}
 use Rattle.stretch.proofs.Times.{Due, due-other, due-later, due-next, hears-stopped, hears-then}
 use Rattle.stretch.proofs.Times as times
-use Rattle.stretch.proofs.Coming.{Framed, Slot}
+use Rattle.coming.proofs.Coming.{Framed, Slot}
 use Rattle.stretch.proofs.Going.{went-none}
 use Rattle.stretch.proofs.Gauging.{gauged-of}
 use Rattle.stretch.proofs.Rowing.{rowed-of}
 use Rattle.stretch.proofs.Stands.{Stands, Turns, logOf, turns-quiet, turns-more, item-there, slot-there, frame-there, row-there, stands-slot, stands-none, turns-begin, stands-enters, stands-runs}
 use borrow.Author.Needs.{needs}
 use Rattle.stretch.proofs.run.Statement.{statement}
-use Rattle.stretch.specs.Inner.{windowOf, isFrame, frameSize, frameOf, logIn}
+use Rattle.coming.specs.Inner.{frameSize}
+use Rattle.stretch.specs.Inner.{windowOf, frameOf, logIn}
 use Rattle.stretch.proofs.run.Tie as tie
 
 abbrev Inv-loop2 : tie.InvT-loop2

@@ -13,7 +13,7 @@ use lib.Seq.{length-sets, take-all}
 use Rattle.laws.proofs.Tests.{and-both}
 use Rattle.text.proofs.Places.{none}
 use Rattle.journal.specs.Log.{itemDone}
-use Rattle.stretch.specs.Coming.{hasRoom}
+use Rattle.coming.specs.Coming.{hasRoom}
 use Rattle.pieces.specs.Machine.{nothing, valueIn}
 use Rattle.pieces.specs.declared.Waiting.{Waiting}
 use Rattle.pieces.proofs.Feeding.{Ran, ran-none, ran-more, ran-feeds, place-fits, came-whole, came-not}

@@ -8,12 +8,12 @@ use denote.Ref.{now}
 use borrow.Author.Tests.{lt-ltb, le-ltb, eq-eqb, ne-eqb}
 use lib.Dec.{ltb}
 use lib.ListN.{getD}
-use Rattle.stretch.specs.Coming.{itemComes, slotComes}
-use Rattle.stretch.specs.Inner.{slotSize}
-use Rattle.stretch.proofs.Coming.{slot-tag, slot-small}
+use Rattle.coming.specs.Coming.{itemComes, slotComes}
+use Rattle.coming.specs.Inner.{slotSize}
+use Rattle.coming.proofs.Coming.{slot-tag, slot-small}
 use borrow.Author.Needs.{needs}
-use Rattle.stretch.proofs.slot_comes.Statement.{statement}
-use Rattle.stretch.proofs.slot_comes.Tie as tie
+use Rattle.coming.proofs.slot_comes.Statement.{statement}
+use Rattle.coming.proofs.slot_comes.Tie as tie
 
 no-slot : {s n : ℕ} → s ≡ n → 32 ≤ s → ltb n 32 ≡ false
 no-slot {s} {n} e h = le-ltb n 32 (omega arith)

@@ -31,3 +31,7 @@ comes rows bytes i = sized rows && (frameComes bytes i || slotComes bytes i)
 -- A room of that length has space from `at` on for the most that one item prints: 32 S lines of 33 bytes.
 unfoldable pub hasRoom : ℕ → ℕ → Bool
 hasRoom room at = leb (at + 1056) room
+
+-- A tag is a frame's.
+unfoldable pub isFrame : ℕ → Bool
+isFrame tag = eqb tag 18 || eqb tag 21

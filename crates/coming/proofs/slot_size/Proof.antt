@@ -1,9 +1,9 @@
 -- A test for each tag, in the definition's order.
 -- Assumes nothing.
 use borrow.Author.Tests.{eq-eqb, ne-eqb}
-use Rattle.stretch.specs.Inner.{slotSize}
-use Rattle.stretch.proofs.slot_size.Statement.{statement}
-use Rattle.stretch.proofs.slot_size.Tie as tie
+use Rattle.coming.specs.Inner.{slotSize}
+use Rattle.coming.proofs.slot_size.Statement.{statement}
+use Rattle.coming.proofs.slot_size.Tie as tie
 
 returns : tie.Need-returns
 unfolding slotSize

@@ -1,9 +1,9 @@
 -- The tests are those of the definition, in its order.
 -- Assumes nothing.
 use borrow.Author.Tests.{eq-eqb, ne-eqb}
-use Rattle.stretch.specs.Inner.{isFrame}
-use Rattle.stretch.proofs.is_frame.Statement.{statement}
-use Rattle.stretch.proofs.is_frame.Tie as tie
+use Rattle.coming.specs.Coming.{isFrame}
+use Rattle.coming.proofs.is_frame.Statement.{statement}
+use Rattle.coming.proofs.is_frame.Tie as tie
 
 returns : tie.Need-returns
 unfolding isFrame

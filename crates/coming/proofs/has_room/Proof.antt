@@ -1,4 +1,4 @@
--- `stretch::has_room` meets its contract: what is taken off one side is put to the other.
+-- `coming::has_room` meets its contract: what is taken off one side is put to the other.
 -- Assumes nothing.
 use mathlib.Core.Path.{_≡_, refl, sym}
 use mathlib.Core.Bool.{Bool, true, false}
@@ -6,9 +6,9 @@ use Prim.Native.Nat.{ℕ, _+_, _-_, _≤_}
 use native.Mathlib.Omega.{arith}
 use borrow.Author.Tests.{leb-true, leb-false, le-leb, lt-leb}
 use lib.Dec.{leb}
-use Rattle.stretch.specs.Coming.{hasRoom}
-use Rattle.stretch.proofs.has_room.Statement.{statement}
-use Rattle.stretch.proofs.has_room.Tie as tie
+use Rattle.coming.specs.Coming.{hasRoom}
+use Rattle.coming.proofs.has_room.Statement.{statement}
+use Rattle.coming.proofs.has_room.Tie as tie
 
 moved : (a n r : ℕ) → n ≤ r → (b : Bool) → leb a (r - n) ≡ b → b ≡ leb (a + n) r
 moved a n r h true e = sym (le-leb (a + n) r (omega (arith, leb-true a (r - n) e)))

@@ -1,10 +1,10 @@
 -- The tests are those of the definition, in its order.
 -- Assumes nothing.
 use mathlib.Core.Path.{sym, _∙_}
-use Rattle.stretch.specs.Coming.{frameComes}
+use Rattle.coming.specs.Coming.{frameComes}
 use borrow.Author.Needs.{needs}
-use Rattle.stretch.proofs.frame_comes.Statement.{statement}
-use Rattle.stretch.proofs.frame_comes.Tie as tie
+use Rattle.coming.proofs.frame_comes.Statement.{statement}
+use Rattle.coming.proofs.frame_comes.Tie as tie
 
 item-comes-requires : tie.Need-item-comes-requires
 item-comes-requires c κs = search needs

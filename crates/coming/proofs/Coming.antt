@@ -6,7 +6,7 @@ use mathlib.Core.Logic.{_⊎_, inl, inr, ⊎-elim}
 use mathlib.Core.List.{List}
 use Prim.Native.Nat.{ℕ, _+_, _≤_, _<_}
 use native.Mathlib.Omega.{arith}
-use borrow.Author.Tests.{eqb-true, eqb-false, ne-eqb, leb-true, ltb-true}
+use borrow.Author.Tests.{eqb-true, eqb-false, ne-eqb, leb-true, ltb-true, lt-leb}
 use lib.Dec.{eqb, leb, ltb}
 use lib.ListN.{length, getD, drop}
 use lib.Seq.{getD-take, getD-drop}
@@ -14,9 +14,12 @@ use Rattle.wire.specs.Bytes.{part}
 use Rattle.wire.proofs.Fields.{length-part}
 use Rattle.laws.proofs.Tests.{Tested, passed, failed, tested, and-both, or-either, either}
 use Rattle.window.specs.Rows.{sized}
-use Rattle.stretch.specs.Coming.{sizeAt, itemComes, frameComes, slotComes, comes}
-use Rattle.stretch.specs.Inner.{isFrame, frameSize, slotSize}
-use Rattle.serving.proofs.Serving.{Known}
+use Rattle.coming.specs.Coming.{sizeAt, itemComes, frameComes, slotComes, comes, isFrame}
+use Rattle.coming.specs.Inner.{frameSize, slotSize}
+
+-- The tag and the length of an item for a slot.
+abbrev pub Known : ℕ → List ℕ → Type 0
+Known tag v = ((tag ≡ 20) × (length v ≡ 1)) ⊎ (((tag ≡ 19) × (length v ≡ 1)) ⊎ (((tag ≡ 17) × (length v ≡ 6)) ⊎ ((tag ≡ 22) × (length v ≡ 8))))
 
 -- A whole item of that tag and length stands there.
 pub record Item (bytes : List ℕ) (i tag size : ℕ) : Type 0 where
@@ -197,3 +200,10 @@ module _ (bytes : List ℕ) (i : ℕ) where
       short l (inr (inl (e, n))) = omega arith
       short l (inr (inr (inl (e, n)))) = omega arith
       short l (inr (inr (inr (e, n)))) = omega arith
+
+-- None stands behind the bytes' end.
+pub none-past : (rows : ℕ) (bytes : List ℕ) (i : ℕ) → length bytes < i → comes rows bytes i ≡ false
+unfolding comes frameComes slotComes itemComes
+none-past rows bytes i h =
+    let past : (size : ℕ) → leb (i + (3 + size)) (length bytes) ≡ false = λ size. lt-leb (i + (3 + size)) (length bytes) (omega arith) in
+    rw (past 12, past 16, past 1, past 6, past 8, and-false)

@@ -7,10 +7,10 @@ use denote.Ref.{now}
 use borrow.Author.Tests.{eq-eqb, ne-eqb, le-leb, lt-leb}
 use lib.Dec.{eqb}
 use lib.ListN.{length, getD}
-use Rattle.stretch.specs.Coming.{itemComes}
+use Rattle.coming.specs.Coming.{itemComes}
 use borrow.Author.Needs.{needs}
-use Rattle.stretch.proofs.item_comes.Statement.{statement}
-use Rattle.stretch.proofs.item_comes.Tie as tie
+use Rattle.coming.proofs.item_comes.Statement.{statement}
+use Rattle.coming.proofs.item_comes.Tie as tie
 
 sub-if1 : tie.Need-sub-if1
 sub-if1 c = search needs
