@@ -6,10 +6,12 @@ use mathlib.Core.List.{List, [], _∷_, _++_}
 use lib.ListN.{length, take, drop, replicate}
 use lib.IntN.{ℤ, negsuc}
 use lib.Dec.{eqb}
+use Rattle.laws.specs.Whole.{equal}
 use Rattle.search.specs.Best.{placed}
 use Rattle.values.specs.Names.{editions}
-use Rattle.ranking.specs.Standing.{Entry}
-use Rattle.list.specs.Lines.{mostLines}
+use Rattle.ranking.specs.declared.Rule.{Rule}
+use Rattle.ranking.specs.Standing.{Held, Entry, top}
+use Rattle.list.specs.Lines.{mostLines, columnsOf}
 use Rattle.list.specs.declared.Bar.{Bar}
 
 -- The columns have their room.
@@ -42,6 +44,10 @@ module _ {E : Type 0} (above : E → E → Bool) where
 unfoldable pub leastAt : Bar → ℤ
 leastAt bar = cond (bar .full) (bar .score) (negsuc 2147483647)
 
+-- A full list's last line has that score.
+unfoldable pub ties : Bar → ℤ → Bool
+ties bar s = bar .full && equal s (bar .score)
+
 -- An entry passes the bar: the number in its name isn't 0, and where the list is full it ranks above the last line.
 unfoldable pub admits : (Entry → Entry → Bool) → Bar → Entry → Bool
 admits above bar e =
@@ -50,3 +56,7 @@ admits above bar e =
 -- The first n of a column, and d in the places past them.
 abbrev pub wiped : {A : Type 0} → ℕ → A → List A → List A
 wiped n d l = take mostLines (take n l ++ replicate mostLines d)
+
+-- Two columns and a length are the best k of some reports, as a list stores them.
+abbrev pub Gathered : Rule → ℕ → List Held → List ℕ → List ℤ → ℕ → Type 0
+Gathered rule k hs ns ss len = record { names = ns; scores = ss; len = len } ≡ columnsOf (top rule k hs)

@@ -11,7 +11,7 @@ ghost use Rattle.window.specs.Rows.{rowCount, standing};
 ghost use Rattle.list.specs.Lines.{mostLines, linesOf, linesIn, columnsOf, allOf, falls, blank, numbersIn, editionsIn};
 ghost use Rattle.list.specs.Bars.{barAt, barOf};
 ghost use Rattle.list.specs.Rows.{rowsOf};
-ghost use Rattle.list.specs.Inner.{Roomy, rankIn, newIn, slid, Placing, leastAt, admits, wiped};
+ghost use Rattle.list.specs.Inner.{Roomy, rankIn, newIn, slid, Placing, leastAt, ties, admits, wiped, Gathered};
 use ranking::Rule;
 use ranking::Score;
 use values::Name;
@@ -29,6 +29,12 @@ pub struct Bar {
     pub full: bool,
     pub name: u32,
     pub score: i32,
+}
+
+// How many lines a pass over rows has left, and how many rows it took.
+struct Passed {
+    len: usize,
+    rows: usize,
 }
 
 impl Lines {
@@ -156,6 +162,16 @@ impl Bar {
         -2147483648
     }
 
+    // A full list's last line has that score.
+    fn ties(self, score: i32) -> bool
+        ensures { λ r. ⌜ r ≡ ties self score ⌝ }
+    {
+        if self.full {
+            return score == self.score;
+        }
+        false
+    }
+
     // A report passes: the number in its name isn't 0, and the list isn't full or it ranks above the last line.
     fn admits(self, rule: Rule, name: u32, score: i32) -> bool
         ensures { λ r. ⌜ r ≡ admits (above rule) self (record { name = name; score = score }) ⌝ }
@@ -188,11 +204,54 @@ pub fn gathered<'a>(
     let end = smaller(rows, Window::ROWS);
     let mut found = [0u32; Lines::MOST];
     let mut by = [0i32; Lines::MOST];
+    let up = upward(rule, most, losses, shakes, names, end, &mut found, &mut by);
+    let mut len = up.len;
+    if up.rows < end {
+        len = downward(
+            rule,
+            most,
+            losses,
+            shakes,
+            names,
+            up.rows,
+            end,
+            &mut found,
+            &mut by,
+            len,
+        );
+    }
+    let count = len as u8;
+    Lines {
+        names: found,
+        scores: by,
+        len: count,
+    }
+}
+
+// The best of the rows from the first on, up to one whose report would displace a line of its own score, which isn't
+// taken: of equal scores the newer goes first, so the rows from there on displace less if they are read from the last down.
+fn upward<'a, 'b>(
+    rule: Rule,
+    most: usize,
+    losses: &'a [u16; Window::ROWS],
+    shakes: &'a [u16; Window::ROWS],
+    names: &'a [u32; Window::ROWS],
+    end: usize,
+    found: &'b mut [u32; Lines::MOST],
+    by: &'b mut [i32; Lines::MOST],
+) -> Passed
+    requires { ⌜ (most ≤ mostLines) × (end ≤ rowCount) × Gathered rule most [] (now found) (now by) 0 ⌝ }
+    ensures { λ r. ⌜
+        (r .rows ≤ end)
+        × Gathered rule most (standing (rowsOf (now (losses .entry)) (now (shakes .entry)) (now (names .entry))) (r .rows)) (now (found .exit)) (now (by .exit)) (r .len)
+        ⌝ }
+{
     let mut len: usize = 0;
-    let mut bar = bar_in(&found, &by, len, len == most);
+    let mut bar = bar_in(found, by, len, len == most);
     let mut least = bar.least();
     let mut row: usize = 0;
-    while row < end {
+    let mut stop = end;
+    while row < stop {
         let here = row;
         row += 1;
         let loss = losses[here];
@@ -205,16 +264,60 @@ pub fn gathered<'a>(
         if !bar.admits(rule, name, score) {
             continue;
         }
-        len = put_in(rule, &mut found, &mut by, len, most, name, score);
-        bar = bar_in(&found, &by, len, len == most);
+        if bar.ties(score) {
+            stop = here;
+            continue;
+        }
+        len = put_in(rule, found, by, len, most, name, score);
+        bar = bar_in(found, by, len, len == most);
         least = bar.least();
     }
-    let count = len as u8;
-    Lines {
-        names: found,
-        scores: by,
-        len: count,
+    Passed { len, rows: stop }
+}
+
+// The best of the first `low` rows, which the arrays have, and of those from there to `high`, read from the last down: how
+// many lines there are.
+fn downward<'a, 'b>(
+    rule: Rule,
+    most: usize,
+    losses: &'a [u16; Window::ROWS],
+    shakes: &'a [u16; Window::ROWS],
+    names: &'a [u32; Window::ROWS],
+    low: usize,
+    high: usize,
+    found: &'b mut [u32; Lines::MOST],
+    by: &'b mut [i32; Lines::MOST],
+    had: usize,
+) -> usize
+    requires { ⌜
+        (most ≤ mostLines) × (low ≤ high) × (high ≤ rowCount)
+        × Gathered rule most (standing (rowsOf (now losses) (now shakes) (now names)) low) (now found) (now by) had
+        ⌝ }
+    ensures { λ r. ⌜
+        Gathered rule most (standing (rowsOf (now (losses .entry)) (now (shakes .entry)) (now (names .entry))) high) (now (found .exit)) (now (by .exit)) r
+        ⌝ }
+{
+    let mut len = had;
+    let mut bar = bar_in(found, by, len, len == most);
+    let mut least = bar.least();
+    let mut row = high;
+    while low < row {
+        row -= 1;
+        let loss = losses[row];
+        let shake = shakes[row];
+        let name = names[row];
+        let scored = rule.score_from(loss, shake, name, least);
+        let Score::Scored(score) = scored else {
+            continue;
+        };
+        if !bar.admits(rule, name, score) {
+            continue;
+        }
+        len = put_in(rule, found, by, len, most, name, score);
+        bar = bar_in(found, by, len, len == most);
+        least = bar.least();
     }
+    len
 }
 
 // The numbers in the names of a list.
