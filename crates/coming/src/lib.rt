@@ -38,6 +38,13 @@ pub fn has_room(room: usize, at: usize) -> bool
     at <= room - Room::MOST
 }
 
+// Whether a tag is a frame's.
+pub fn is_frame(tag: u8) -> bool
+    ensures { λ r. ⌜ r ≡ isFrame tag ⌝ }
+{
+    tag == Item::FRAME || tag == Item::TIMED
+}
+
 // Whether there is a window, of that many rows, and a frame or an item for a slot comes at a place: such an item is done in place.
 pub fn comes(rows: u16, bytes: &[u8], i: usize) -> bool
     ensures { λ r. ⌜ r ≡ comes rows (now (bytes .entry)) i ⌝ }
@@ -55,13 +62,6 @@ pub fn comes(rows: u16, bytes: &[u8], i: usize) -> bool
         return true;
     }
     slot_comes(bytes, i)
-}
-
-// Whether a tag is a frame's.
-pub fn is_frame(tag: u8) -> bool
-    ensures { λ r. ⌜ r ≡ isFrame tag ⌝ }
-{
-    tag == Item::FRAME || tag == Item::TIMED
 }
 
 // Whether a frame comes at a place, without a time or with one.
