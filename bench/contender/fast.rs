@@ -7,12 +7,13 @@ use crate::log::{Board, Out, Report};
 #[derive(Clone, Copy)]
 struct Question {
     k: usize,
+    first: bool,
     len: usize,
     scores: [i32; 16],
     numbers: [u32; 16],
 }
 
-const EMPTY: Question = Question { k: 0, len: 0, scores: [0; 16], numbers: [0; 16] };
+const EMPTY: Question = Question { k: 0, first: false, len: 0, scores: [0; 16], numbers: [0; 16] };
 
 pub struct Fast {
     n: usize,
@@ -32,9 +33,10 @@ pub struct Fast {
 }
 
 impl Question {
-    /// Puts a report newer than all in its rank, and answers the number that fell off the end, or 0.
+    /// Puts a report newer than all in its rank, and answers the number that fell off the end, or 0. MORE is 1 under first-come, where the
+    /// report ranks below those of its score, and 0 under newest.
     #[inline]
-    fn put(&mut self, number: u32, score: i32) -> u32 {
+    fn put<const MORE: i32>(&mut self, number: u32, score: i32) -> u32 {
         let mut off = 0;
         let mut at = self.len;
         if at == self.k {
@@ -43,7 +45,7 @@ impl Question {
         } else {
             self.len += 1;
         }
-        while at > 0 && self.scores[at - 1] <= score {
+        while at > 0 && self.scores[at - 1] + MORE <= score {
             self.scores[at] = self.scores[at - 1];
             self.numbers[at] = self.numbers[at - 1];
             at -= 1;
@@ -53,11 +55,11 @@ impl Question {
         off
     }
 
-    fn least(&self) -> i32 {
+    fn least<const MORE: i32>(&self) -> i32 {
         if self.len < self.k {
             i32::MIN
         } else {
-            self.scores[self.k - 1]
+            self.scores[self.k - 1] + MORE
         }
     }
 }
@@ -132,6 +134,14 @@ impl Fast {
 
     /// Searches a question over the rows, oldest first, and answers the steps.
     fn search(&mut self, slot: usize) -> u32 {
+        if self.questions[slot].first {
+            self.search_by::<1>(slot)
+        } else {
+            self.search_by::<0>(slot)
+        }
+    }
+
+    fn search_by<const MORE: i32>(&mut self, slot: usize) -> u32 {
         self.unlist(slot);
         let (a, b, c) = (self.a[slot], self.b[slot], self.c[slot]);
         let q = &mut self.questions[slot];
@@ -148,8 +158,8 @@ impl Fast {
             };
             let score = a * i32::from(self.losses[row]) + b * i32::from(self.shakes[row]) + part;
             if score >= least {
-                q.put(number, score);
-                least = q.least();
+                q.put::<MORE>(number, score);
+                least = q.least::<MORE>();
             }
         }
         self.least[slot] = least;
@@ -161,7 +171,7 @@ impl Fast {
         if least == i32::MIN {
             256
         } else {
-            cells(a, b, c, least)
+            cells(a, b, c, least - MORE)
         }
     }
 }
@@ -179,12 +189,12 @@ impl Board for Fast {
         self.used >> slot & 1 == 1
     }
 
-    fn set(&mut self, item: u64, slot: usize, k: usize, weights: [i32; 3], out: &mut Out) {
+    fn set(&mut self, item: u64, slot: usize, k: usize, weights: [i32; 3], first: bool, out: &mut Out) {
         self.used |= 1 << slot;
         self.a[slot] = weights[0];
         self.b[slot] = weights[1];
         self.c[slot] = weights[2];
-        self.questions[slot] = Question { k, ..EMPTY };
+        self.questions[slot] = Question { k, first, ..EMPTY };
         let steps = self.search(slot);
         out.searched(item, slot, steps);
     }
@@ -225,8 +235,10 @@ impl Board for Fast {
             if score < self.least[slot] {
                 continue;
             }
-            let off = self.questions[slot].put(number, score);
-            self.least[slot] = self.questions[slot].least();
+            let q = &mut self.questions[slot];
+            let (off, least) =
+                if q.first { (q.put::<1>(number, score), q.least::<1>()) } else { (q.put::<0>(number, score), q.least::<0>()) };
+            self.least[slot] = least;
             self.listing[row] |= 1 << slot;
             if off != 0 {
                 if full && off == oldest {

@@ -5,6 +5,7 @@ use crate::log::{Board, Out, Report};
 struct Question {
     k: usize,
     weights: [i32; 3],
+    first: bool,
     list: Vec<(i32, u32)>,
 }
 
@@ -17,7 +18,11 @@ impl Question {
                 all.push((a * i32::from(r.loss) + b * i32::from(r.shake) + c * (i32::from(r.heat) - 1), *n));
             }
         }
-        all.sort_unstable_by(|x, y| y.cmp(x));
+        if self.first {
+            all.sort_unstable_by(|x, y| (y.0, x.1).cmp(&(x.0, y.1)));
+        } else {
+            all.sort_unstable_by(|x, y| y.cmp(x));
+        }
         all.truncate(self.k);
         self.list = all;
     }
@@ -60,8 +65,8 @@ impl Board for Naive {
         self.slots[slot].is_some()
     }
 
-    fn set(&mut self, item: u64, slot: usize, k: usize, weights: [i32; 3], out: &mut Out) {
-        let mut q = Question { k, weights, list: Vec::new() };
+    fn set(&mut self, item: u64, slot: usize, k: usize, weights: [i32; 3], first: bool, out: &mut Out) {
+        let mut q = Question { k, weights, first, list: Vec::new() };
         q.sort(&self.held);
         out.searched(item, slot, q.steps());
         self.slots[slot] = Some(q);

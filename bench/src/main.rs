@@ -10,6 +10,9 @@ mod logs;
 #[path = "../../tests/compare/src/rules.rs"]
 mod rules;
 mod timing;
+#[allow(dead_code)]
+#[path = "../../tests/compare/src/tying.rs"]
+mod tying;
 mod workloads;
 #[allow(dead_code)]
 #[path = "../../tests/compare/src/wrong.rs"]
@@ -168,11 +171,14 @@ impl Bench {
     }
 
     /// Measures ours and the program after it, another build of `cart`, on one workload in turn: what a unit takes each, and the median of the
-    /// rounds' ratios.
+    /// rounds' ratios. A workload with items that the other doesn't know isn't measured.
     fn beside(&self, make: &dyn Fn(usize) -> Workload, fixed: Option<usize>) {
         let units = fixed.unwrap_or_else(|| self.sizes(&|units| Workload { who: vec![OURS], ..make(units) })[OURS]);
         let w = make(units);
         let files = self.files("beside", &w);
+        if unknown(&text(&self.programs[1], &files.log)) {
+            return println!("| {} | {} | - | - | items that it doesn't know |", w.name, files.units);
+        }
         self.agree(&w.name, self.programs[1..2].iter(), &files);
         let rounds: Vec<(f64, f64)> = (0..BESIDE).map(|_| (self.once(1, &files).1, self.once(OURS, &files).1)).collect();
         let unit = |seconds: Vec<f64>| median(seconds) * 1e9 / files.units as f64;
@@ -205,6 +211,11 @@ impl Bench {
         }
         println!("{}", line);
     }
+}
+
+/// A text that refuses an item 22, as one that no log knows: no workload has one that this `cart` doesn't know.
+fn unknown(text: &[u8]) -> bool {
+    text.split(|&b| b == b'\n').any(|line| line.starts_with(b"R ") && line.ends_with(b" 22"))
 }
 
 fn worst(rows: &[Row], part: &str, other: usize) -> f64 {

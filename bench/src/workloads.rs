@@ -1,6 +1,6 @@
 //! The workloads, each from a seed: what is read first and not counted (`base`), and the whole log, which begins with it.
 
-use crate::logs::{bytes, carry, item, payload, remove, report, set, show, window, Item, Rng};
+use crate::logs::{bytes, carry, item, payload, remove, report, set, set_rule, show, window, Item, Rng};
 use crate::{C, FAST, NAIVE, OURS};
 
 pub struct Workload {
@@ -116,7 +116,7 @@ fn entries(values: Values, questions: usize, n: usize, k: u8, units: usize) -> W
 }
 
 /// A full window of uniform values, and a question that is set and removed again and again.
-fn searches(a: i32, b: i32, n: usize, k: u8, units: usize) -> Workload {
+fn searches(a: i32, b: i32, first: bool, n: usize, k: u8, units: usize) -> Workload {
     let rng = &mut Rng(13);
     let mut log = window(n);
     for i in 0..n {
@@ -125,10 +125,12 @@ fn searches(a: i32, b: i32, n: usize, k: u8, units: usize) -> Workload {
     }
     let base = log.clone();
     for _ in 0..units {
-        log.extend(set(0, k, a, b));
+        log.extend(if first { set_rule(0, k, [a, b, 0], 1) } else { set(0, k, a, b) });
         log.extend(remove(0));
     }
-    Workload { name: format!("(c) weights {}, {}, N {}, k {}, a search", a, b, n, k), base, log, units, who: vec![OURS, FAST, NAIVE] }
+    let rule = if first { ", first-come" } else { "" };
+    let name = format!("(c) weights {}, {}{}, N {}, k {}, a search", a, b, rule, n, k);
+    Workload { name, base, log, units, who: vec![OURS, FAST, NAIVE] }
 }
 
 /// Scores that fall with every report, so that the report that leaves is always listed.
@@ -201,8 +203,8 @@ pub fn all() -> Vec<(Make, Option<usize>)> {
     for n in [16, 128, 1024] {
         out.push((Box::new(move |u| entries(Values::Rising, 8, n, 16, u)), None));
     }
-    for (a, b) in [(1, 2), (0, 0), (-1, 0)] {
-        out.push((Box::new(move |u| searches(a, b, 1024, 16, u)), None));
+    for (a, b, first) in [(1, 2, false), (0, 0, false), (-1, 0, false), (1, 2, true), (0, 0, true)] {
+        out.push((Box::new(move |u| searches(a, b, first, 1024, 16, u)), None));
     }
     for n in [16, 1024] {
         for k in [1, 16] {
@@ -223,9 +225,11 @@ pub fn counted() -> Vec<Workload> {
         entries(Values::Rising, 8, 16, 16, 500),
         entries(Values::Rising, 8, 1024, 16, 500),
         entries(Values::Uniform, 32, 1024, 16, 20),
-        searches(1, 2, 1024, 16, 10),
-        searches(0, 0, 1024, 16, 10),
-        searches(-1, 0, 1024, 16, 10),
+        searches(1, 2, false, 1024, 16, 10),
+        searches(0, 0, false, 1024, 16, 10),
+        searches(-1, 0, false, 1024, 16, 10),
+        searches(1, 2, true, 1024, 16, 10),
+        searches(0, 0, true, 1024, 16, 10),
         leaving(1024, 1, 10),
         whole(4000),
     ]

@@ -2,8 +2,8 @@
 
 A board is a window with its slots beside it (lists.py). Each call answers its fields, and the board where it hands one back.
 """
-from lists import (EMPTY, LARGEST, SLOTS, cell_of, ended, entries_of, fresh_window, is_range, is_weight, meaning, ranked, score, search,
-                   standing, stored_question, visiting, with_report, with_slot)
+from lists import (EMPTY, LARGEST, SLOTS, cell_of, ended, entries_of, fresh_window, is_first_come, is_range, is_tie_rule, is_weight, meaning,
+                   ranked, score, search, standing, stored_question, visiting, with_report, with_slot)
 
 
 def fresh(n):
@@ -11,14 +11,14 @@ def fresh(n):
     return refusal, dict(empty, slots=[EMPTY] * SLOTS)
 
 
-def call_set(board, slot, k, weights, loss, shake):
+def call_set(board, slot, k, weights, loss, shake, ties):
     meant = meaning(board)
     refusal = (24 if meant is None else 13 if slot > 31 else 14 if not 1 <= k <= 16
                else 15 if not all(map(is_weight, weights)) else 30 if not (is_range(loss) and is_range(shake))
-               else 16 if meant[1][slot] else 0)
+               else 33 if not is_tie_rule(ties) else 16 if meant[1][slot] else 0)
     if refusal:
         return refusal, 0, board
-    rule = *weights, loss, shake
+    rule = *weights, loss, shake, ties
     entries, taken = search(k, rule, meant[0])
     return 0, taken, with_slot(board, slot, stored_question(k, rule, entries, taken))
 
@@ -41,9 +41,11 @@ def call_read(board, slot):
 def added(k, rule, entries, taken, number, report):
     """The list once the report was offered to it."""
     own = score(rule, report)
-    if own is None or cell_of(report) not in visiting(rule)[:taken] or len(entries) == k and own < entries[-1][1]:
+    if own is None or cell_of(report) not in visiting(rule)[:taken]:
         return entries
-    return ranked(entries + [(number, own, report[2])])[:k]
+    if len(entries) == k and own < entries[-1][1] + is_first_come(rule):
+        return entries
+    return ranked(rule, entries + [(number, own, report[2])])[:k]
 
 
 def call_enter(board, loss, shake, heat):
@@ -80,7 +82,7 @@ def step(reports, q):
     if ended(*meant):
         return 25, q
     cell = entries_of(rule, {m: r for m, r in reports.items() if cell_of(r) == q["next"]})
-    return 0, stored_question(k, rule, ranked(entries + cell)[:k], taken + 1)
+    return 0, stored_question(k, rule, ranked(rule, entries + cell)[:k], taken + 1)
 
 
 def begin(reports, q):

@@ -2,9 +2,10 @@
 
 A window and a question are kept as they are stored; a call reads what that means, works on the meaning and stores it again. Stored
 are, for the window, N, the last number, how many are held, and 1,024 rows of which report m has the row (m - 1) mod N; for a question
-k, the weights, the two ranges, 16 lines, how many of them are used, and the first cell that is not marked, 256 for none. What is
-unused is 0. A question's rule is its weights and its ranges: (a, b, c, loss, shake), a range being its two ends. A report is its loss,
-its shake and its heat, None where it has none; so has a row, behind its number; and a line is a number, a score and a heat or None.
+k, the weights, the two ranges, the tie rule, 16 lines, how many of them are used, and the first cell that is not marked, 256 for none.
+What is unused is 0. A question's rule is its weights, its ranges and its tie rule: (a, b, c, loss, shake, ties), a range being its two
+ends, and ties 0 for newest and 1 for first-come. A report is its loss, its shake and its heat, None where it has none; so has a row,
+behind its number; and a line is a number, a score and a heat or None.
 """
 from functools import lru_cache
 
@@ -12,14 +13,14 @@ LINES, ROWS, SLOTS, CELLS = 16, 1024, 32, 256
 LARGEST = 4095
 WHOLE = (0, LARGEST)
 NO_LINE, NO_ROW = (0, 0, None), (0, 0, 0, None)
-EMPTY = dict(k=0, a=0, b=0, c=0, loss=(0, 0), shake=(0, 0), len=0, next=0, lines=[NO_LINE] * LINES)
+EMPTY = dict(k=0, a=0, b=0, c=0, loss=(0, 0), shake=(0, 0), ties=0, len=0, next=0, lines=[NO_LINE] * LINES)
 
 
 # ---- the rules
 
 def score(rule, report):
     """The report's score, None where it does not count."""
-    a, b, c, *ranges = rule
+    a, b, c, *ranges, _ = rule
     loss, shake, heat = report
     counts = all(low <= value <= high for (low, high), value in zip(ranges, report)) and (c == 0 or heat is not None)
     return a * loss + b * shake + (c * heat if c else 0) if counts else None
@@ -39,7 +40,7 @@ def values_in(ends, index):
 @lru_cache(None)
 def best_possible(rule, cell):
     """A cell's best possible score, None where it holds no value inside both ranges."""
-    a, b, c, loss, shake = rule
+    a, b, c, loss, shake, _ = rule
     row, column = divmod(cell, 16)
     sides = [(a, values_in(loss, column)), (b, values_in(shake, row)), (c, range(LARGEST + 1))]
     if not all(values for _, values in sides):
@@ -57,9 +58,13 @@ def cell_of(report):
     return 16 * (report[1] // 256) + report[0] // 256
 
 
-def ranked(entries):
-    """Entries, the greatest score first, then the greatest number."""
-    return sorted(set(entries), key=lambda e: (-e[1], -e[0]))
+def is_first_come(rule):
+    return rule[-1] == 1
+
+
+def ranked(rule, entries):
+    """Entries, the greatest score first, then the greatest number, or under first-come the smallest."""
+    return sorted(set(entries), key=lambda e: (-e[1], e[0] if is_first_come(rule) else -e[0]))
 
 
 def ended(k, rule, entries, taken):
@@ -74,7 +79,7 @@ def search(k, rule, reports):
     for entry in entries_of(rule, reports):
         cells.setdefault(cell_of(reports[entry[0]]), []).append(entry)
     while not ended(k, rule, entries, taken):
-        entries = ranked(entries + cells.get(visiting(rule)[taken], []))[:k]
+        entries = ranked(rule, entries + cells.get(visiting(rule)[taken], []))[:k]
         taken += 1
     return entries, taken
 
@@ -82,7 +87,7 @@ def search(k, rule, reports):
 # ---- what is stored, and what it means
 
 def rule_of(q):
-    return q["a"], q["b"], q["c"], q["loss"], q["shake"]
+    return q["a"], q["b"], q["c"], q["loss"], q["shake"], q["ties"]
 
 
 def marked(q):
@@ -92,8 +97,8 @@ def marked(q):
 
 
 def stored_question(k, rule, entries, taken):
-    a, b, c, loss, shake = rule
-    return dict(k=k, a=a, b=b, c=c, loss=loss, shake=shake, len=len(entries), next=(visiting(rule) + [CELLS])[taken],
+    a, b, c, loss, shake, ties = rule
+    return dict(k=k, a=a, b=b, c=c, loss=loss, shake=shake, ties=ties, len=len(entries), next=(visiting(rule) + [CELLS])[taken],
                 lines=entries + [NO_LINE] * (LINES - len(entries)))
 
 
@@ -105,18 +110,24 @@ def is_range(ends):
     return ends[0] <= ends[1] <= LARGEST
 
 
+def is_tie_rule(ties):
+    return ties in (0, 1)
+
+
 def standing(q, reports):
     """(k, rule, list, how many cells are marked), None where it is unfit for a step."""
     k, rule = q["k"], rule_of(q)
-    *weights, loss, shake = rule
-    if not (1 <= k <= 16 and all(map(is_weight, weights)) and is_range(loss) and is_range(shake)):
+    *weights, loss, shake, ties = rule
+    if not (1 <= k <= 16 and all(map(is_weight, weights)) and is_range(loss) and is_range(shake) and is_tie_rule(ties)):
         return None
     if q["next"] != CELLS and q["next"] not in visiting(rule):
         return None
     entries, rest = q["lines"][:q["len"]], q["lines"][q["len"]:]
     if q["len"] > min(k, len(reports)) or any(line != NO_LINE for line in rest):
         return None
-    if any(m not in reports or (s, heat) != (score(rule, reports[m]), reports[m][2]) for m, s, heat in entries) or entries != ranked(entries):
+    if any(m not in reports or (s, heat) != (score(rule, reports[m]), reports[m][2]) for m, s, heat in entries):
+        return None
+    if entries != ranked(rule, entries):
         return None
     return k, rule, entries, len(marked(q))
 

@@ -1,4 +1,4 @@
--- P9 to P11, P16, P21 and P22 through the calls. What an entry answers of a slot is said by what was entered before, so that each example is a short computation over two reports.
+-- P9 to P11, P16, P21 and P22 through the calls, and what others of their kind are worked by (`third-says`). What an entry answers of a slot is said by what was entered before, so that each example is a short computation over two reports.
 -- Assumes nothing.
 use mathlib.Core.Path.{_≡_, refl, sym, ap, ap₂, _∙_, subst}
 use mathlib.Core.Logic.{inl}
@@ -9,7 +9,7 @@ use native.Mathlib.Omega.{arith}
 use lib.IntN.{pos}
 use lib.ListN.{length, getD, replicate, length-map, getD-replicate}
 use lib.Seq.{getD-set-same, getD-set-other, ext-getD}
-use Rattle.ranking.specs.Cells.{ruleOf, ruleWithin, wholeRange, weightsFit, rangesProper, counts, sum, score, cell, cellCounts, bestScore, before, visiting}
+use Rattle.ranking.specs.Cells.{ruleOf, ruleWithin, wholeRange, weightsFit, rangesProper, tiesKnown, counts, sum, score, cell, cellCounts, bestScore, before, visiting}
 use Rattle.search.specs.Search.{steps}
 use Rattle.ranking.specs.Standing.{Held, Entry, goesFirst, above, entries, top, searchOf}
 use Rattle.values.specs.declared.Values.{Values}
@@ -50,11 +50,11 @@ use Rattle.board.proofs.Demands.{reached-window, reached-fit, demand-2,
 use Rattle.board.proofs.Fit.{fit-set, fit-enter}
 
 -- The counts of a window of that size into which so many were entered.
-abbrev countsAt : ℕ → ℕ → Counts
+abbrev pub countsAt : ℕ → ℕ → Counts
 countsAt n entered = record { size = n; entered = entered; held = min n entered }
 
 -- Whether one that has gone is on the list after the addition, by what was entered.
-abbrev listsGone : ℕ → List Values → Values → ℕ → Rule → Bool
+abbrev pub listsGone : ℕ → List Values → Values → ℕ → Rule → Bool
 listsGone n past v k rule =
     not
     (allOf (later (leaving (countsAt n (length past))))
@@ -70,11 +70,11 @@ record Stage (n : ℕ) (past : List Values) (k : ℕ) (rule : Rule) (b : Board) 
   alone : (slot : ℕ) → slot < 32 → 1 ≤ slot → slotAt b slot ≡ emptySlot
 
 -- What the next entry answers of slot 0, and that it searches no other.
-record Says (n : ℕ) (past : List Values) (v : Values) (k : ℕ) (rule : Rule) (r : Entered) : Type 0 where
-  taken : r .refusal ≡ 0
-  searched-is : r .searched ≡ listsGone n past v k rule ∷ replicate 31 false
-  steps-are : listsGone n past v k rule ≡ true → getD (r .steps) 0 0 ≡ steps (searchOf rule) k (latest n (numbered 1 (past ++ (v ∷ []))))
-  list-is : lines (slotAt (r .board) 0) ≡ top rule k (latest n (numbered 1 (past ++ (v ∷ []))))
+pub record Says (n : ℕ) (past : List Values) (v : Values) (k : ℕ) (rule : Rule) (r : Entered) : Type 0 where
+  pub taken : r .refusal ≡ 0
+  pub searched-is : r .searched ≡ listsGone n past v k rule ∷ replicate 31 false
+  pub steps-are : listsGone n past v k rule ≡ true → getD (r .steps) 0 0 ≡ steps (searchOf rule) k (latest n (numbered 1 (past ++ (v ∷ []))))
+  pub list-is : lines (slotAt (r .board) 0) ≡ top rule k (latest n (numbered 1 (past ++ (v ∷ []))))
 
 module _ {n : ℕ} {past : List Values} {k : ℕ} {rule : Rule} (b : Board) (g : Stage n past k rule b) (v : Values) (t : enterRefusal (countsAt n (length past)) v ≡ 0) where
   counts-are : b .window .counts ≡ countsAt n (length past)
@@ -237,10 +237,10 @@ record Placed-so (rule : Rule) (r : Placed) : Type 0 where
   at-rule : slotAt (r .board) 0 .rule ≡ rule
   alone : (slot : ℕ) → slot < 32 → 1 ≤ slot → slotAt (r .board) slot ≡ emptySlot
 
-module _ (rule : Rule) (weighs : weightsFit rule ≡ true) (ranges : rangesProper rule ≡ true) where
+module _ (rule : Rule) (weighs : weightsFit rule ≡ true) (ranges : rangesProper rule ≡ true) (known : tiesKnown rule ≡ true) where
   can-set : setIn (slotAt (freshBoard 2 .board) 0) 1 rule (inRows (freshBoard 2 .board .window)) .refusal ≡ 0
   unfolding freshBoard
-  can-set = set-refusal (slotAt (freshBoard 2 .board) 0) 1 rule (inRows (freshBoard 2 .board .window)) ∙ ap₂ (λ a b. cond a (cond b 0 30) 15) weighs ranges
+  can-set = set-refusal (slotAt (freshBoard 2 .board) 0) 1 rule (inRows (freshBoard 2 .board .window)) ∙ (λ i. cond (weighs i) (cond (ranges i) (cond (known i) 0 33) 30) 15)
 
   placed-so : Placed-so rule (setCall (freshBoard 2 .board) 0 1 rule)
   unfolding searched
@@ -274,7 +274,7 @@ module _ (rule : Rule) (weighs : weightsFit rule ≡ true) (ranges : rangesPrope
         alone = placed-so .alone;
       }
 
-  third-says : (u v w : Values) → enterRefusal (countsAt 2 0) u ≡ 0 → enterRefusal (countsAt 2 1) v ≡ 0 → enterRefusal (countsAt 2 2) w ≡ 0 → Says 2 (u ∷ v ∷ []) w 1 rule (third rule u v w)
+  pub third-says : (u v w : Values) → enterRefusal (countsAt 2 0) u ≡ 0 → enterRefusal (countsAt 2 1) v ≡ 0 → enterRefusal (countsAt 2 2) w ≡ 0 → Says 2 (u ∷ v ∷ []) w 1 rule (third rule u v w)
   third-says u v w a b c =
       let one = stage-next (bench rule) stage-bench u a in
       let two = stage-next (enterCall (bench rule) u .board) one v b in
@@ -323,14 +323,14 @@ pub record Examples : Type 0 where
   pub p22-list : lines (slotAt (third ones (pair 10 10) (triple 5 5 7) (pair 1 1) .board) 0) ≡ heat-line 2 7 10 ∷ []
 
 pub examples : Examples
-unfolding steps visiting before bestScore sum score counts cellCounts cell above goesFirst entries leaving enterRefusal inRange weightsFit rangesProper equal
+unfolding steps visiting before bestScore sum score counts cellCounts cell above goesFirst entries leaving enterRefusal inRange weightsFit rangesProper tiesKnown equal
 examples =
-    let p9 = third-says ones refl refl (pair 10 10) (pair 5 5) (pair 1 1) refl refl refl in
-    let ten = third-says ones refl refl (pair 1 1) (pair 5 5) (pair 1 2) refl refl refl in
-    let eleven = third-says ones refl refl (pair 9 9) (pair 1 1) (pair 9 9) refl refl refl in
-    let sixteen = third-says threshing refl refl (pair 600 10) (pair 100 4000) (pair 700 5) refl refl refl in
-    let heated = third-says heating refl refl (triple 4000 0 4000) (pair 4095 0) (triple 3000 0 4000) refl refl refl in
-    let either = third-says ones refl refl (pair 10 10) (triple 5 5 7) (pair 1 1) refl refl refl in
+    let p9 = third-says ones refl refl refl (pair 10 10) (pair 5 5) (pair 1 1) refl refl refl in
+    let ten = third-says ones refl refl refl (pair 1 1) (pair 5 5) (pair 1 2) refl refl refl in
+    let eleven = third-says ones refl refl refl (pair 9 9) (pair 1 1) (pair 9 9) refl refl refl in
+    let sixteen = third-says threshing refl refl refl (pair 600 10) (pair 100 4000) (pair 700 5) refl refl refl in
+    let heated = third-says heating refl refl refl (triple 4000 0 4000) (pair 4095 0) (triple 3000 0 4000) refl refl refl in
+    let either = third-says ones refl refl refl (pair 10 10) (triple 5 5 7) (pair 1 1) refl refl refl in
     record {
       p9-searches = p9 .searched-is;
       p9-steps = p9 .steps-are refl;

@@ -18,7 +18,7 @@ use Rattle.board.specs.declared.Entered.{Entered}
 unfoldable pub fitBoard : Board → Bool
 fitBoard b = fitWindow (b .window) && allOf (slotFit (b .window)) (b .slots)
 
--- Setting: 24, then the work's 13, 14, 15, 30, 16 (rule 9.4).
+-- Setting: 24, then the work's 13, 14, 15, 30, 33, 16 (rule 9.4).
 unfoldable pub setCall : Board → ℕ → ℕ → Rule → Placed
 setCall b slot k rule = cond (fitBoard b) (setWork b slot k rule) (record { refusal = 24; steps = 0; board = b })
 

@@ -96,7 +96,8 @@ impl Board {
         false
     }
 
-    // Sets a question in an empty slot and searches it: the board with it, and the steps. Refused 24, 13, 14, 15, 30, 16.
+    // Sets a question in an empty slot and searches it: the board with it, and the steps. Refused 24, 13, 14, 15, 30,
+    // 33, 16.
     pub fn set(self, slot: u8, k: u8, rule: Rule) -> Placed
         ensures { λ r. ⌜ r ≡ setCall self slot k rule ⌝ }
     {

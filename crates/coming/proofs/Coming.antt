@@ -19,7 +19,7 @@ use Rattle.coming.specs.Inner.{frameSize, slotSize}
 
 -- The tag and the length of an item for a slot.
 abbrev pub Known : ℕ → List ℕ → Type 0
-Known tag v = ((tag ≡ 20) × (length v ≡ 1)) ⊎ (((tag ≡ 19) × (length v ≡ 1)) ⊎ (((tag ≡ 17) × (length v ≡ 6)) ⊎ ((tag ≡ 22) × (length v ≡ 8))))
+Known tag v = ((tag ≡ 20) × (length v ≡ 1)) ⊎ (((tag ≡ 19) × (length v ≡ 1)) ⊎ (((tag ≡ 17) × (length v ≡ 6)) ⊎ (((tag ≡ 22) × (length v ≡ 8)) ⊎ ((tag ≡ 23) × (length v ≡ 9)))))
 
 -- A whole item of that tag and length stands there.
 pub record Item (bytes : List ℕ) (i tag size : ℕ) : Type 0 where
@@ -48,10 +48,10 @@ module _ (bytes : List ℕ) (i : ℕ) where
   alone : (tag size : ℕ) → getD bytes i 0 ≡ tag → slotSize (getD bytes i 0) ≡ size → (size ≡ 0 → ⊥) → cond (eqb (slotSize (getD bytes i 0)) 0) false (itemComes bytes i (getD bytes i 0) (slotSize (getD bytes i 0))) ≡ itemComes bytes i tag size
   alone tag size e is used = rw (is, ne-eqb size 0 used) (ap (λ t. itemComes bytes i t size) e)
 
-  by-tag : itemComes bytes i 20 1 || itemComes bytes i 19 1 || itemComes bytes i 17 6 || itemComes bytes i 22 8
+  by-tag : itemComes bytes i 20 1 || itemComes bytes i 19 1 || itemComes bytes i 17 6 || itemComes bytes i 22 8 || itemComes bytes i 23 9
       ≡ cond (eqb (slotSize (getD bytes i 0)) 0) false (itemComes bytes i (getD bytes i 0) (slotSize (getD bytes i 0)))
   unfolding slotSize
-  by-tag = go (tested (eqb t 20)) (tested (eqb t 19)) (tested (eqb t 17)) (tested (eqb t 22))
+  by-tag = go (tested (eqb t 20)) (tested (eqb t 19)) (tested (eqb t 17)) (tested (eqb t 22)) (tested (eqb t 23))
     where
       t : ℕ
       t = getD bytes i 0
@@ -59,27 +59,31 @@ module _ (bytes : List ℕ) (i : ℕ) where
       apart : (m n : ℕ) → (m ≡ n → ⊥) → t ≡ m → t ≡ n → ⊥
       apart m n h e f = h (sym e ∙ f)
 
-      go : Tested (eqb t 20) → Tested (eqb t 19) → Tested (eqb t 17) → Tested (eqb t 22)
-          → itemComes bytes i 20 1 || itemComes bytes i 19 1 || itemComes bytes i 17 6 || itemComes bytes i 22 8
+      go : Tested (eqb t 20) → Tested (eqb t 19) → Tested (eqb t 17) → Tested (eqb t 22) → Tested (eqb t 23)
+          → itemComes bytes i 20 1 || itemComes bytes i 19 1 || itemComes bytes i 17 6 || itemComes bytes i 22 8 || itemComes bytes i 23 9
           ≡ cond (eqb (slotSize t) 0) false (itemComes bytes i t (slotSize t))
-      go (passed a) b c d =
+      go (passed a) b c d f =
           let e = eqb-true t 20 a in
-          rw (other 19 1 (apart 20 19 (λ q. omega arith) e), other 17 6 (apart 20 17 (λ q. omega arith) e), other 22 8 (apart 20 22 (λ q. omega arith) e), or-false, or-false, or-false)
+          rw (other 19 1 (apart 20 19 (λ q. omega arith) e), other 17 6 (apart 20 17 (λ q. omega arith) e), other 22 8 (apart 20 22 (λ q. omega arith) e), other 23 9 (apart 20 23 (λ q. omega arith) e), or-false, or-false, or-false, or-false)
           (sym (alone 20 1 e (rw a) (λ q. omega arith)))
-      go (failed a) (passed b) c d =
+      go (failed a) (passed b) c d f =
           let e = eqb-true t 19 b in
-          rw (other 20 1 (eqb-false t 20 a), other 17 6 (apart 19 17 (λ q. omega arith) e), other 22 8 (apart 19 22 (λ q. omega arith) e), or-false, or-false)
+          rw (other 20 1 (eqb-false t 20 a), other 17 6 (apart 19 17 (λ q. omega arith) e), other 22 8 (apart 19 22 (λ q. omega arith) e), other 23 9 (apart 19 23 (λ q. omega arith) e), or-false, or-false, or-false)
           (sym (alone 19 1 e (rw (a, b)) (λ q. omega arith)))
-      go (failed a) (failed b) (passed c) d =
+      go (failed a) (failed b) (passed c) d f =
           let e = eqb-true t 17 c in
-          rw (other 20 1 (eqb-false t 20 a), other 19 1 (eqb-false t 19 b), other 22 8 (apart 17 22 (λ q. omega arith) e), or-false)
+          rw (other 20 1 (eqb-false t 20 a), other 19 1 (eqb-false t 19 b), other 22 8 (apart 17 22 (λ q. omega arith) e), other 23 9 (apart 17 23 (λ q. omega arith) e), or-false, or-false)
           (sym (alone 17 6 e (rw (a, b, c)) (λ q. omega arith)))
-      go (failed a) (failed b) (failed c) (passed d) =
+      go (failed a) (failed b) (failed c) (passed d) f =
           let e = eqb-true t 22 d in
-          rw (other 20 1 (eqb-false t 20 a), other 19 1 (eqb-false t 19 b), other 17 6 (eqb-false t 17 c))
+          rw (other 20 1 (eqb-false t 20 a), other 19 1 (eqb-false t 19 b), other 17 6 (eqb-false t 17 c), other 23 9 (apart 22 23 (λ q. omega arith) e), or-false)
           (sym (alone 22 8 e (rw (a, b, c, d)) (λ q. omega arith)))
-      go (failed a) (failed b) (failed c) (failed d) =
-          rw (other 20 1 (eqb-false t 20 a), other 19 1 (eqb-false t 19 b), other 17 6 (eqb-false t 17 c), other 22 8 (eqb-false t 22 d), a, b, c, d)
+      go (failed a) (failed b) (failed c) (failed d) (passed f) =
+          let e = eqb-true t 23 f in
+          rw (other 20 1 (eqb-false t 20 a), other 19 1 (eqb-false t 19 b), other 17 6 (eqb-false t 17 c), other 22 8 (eqb-false t 22 d))
+          (sym (alone 23 9 e (rw (a, b, c, d, f)) (λ q. omega arith)))
+      go (failed a) (failed b) (failed c) (failed d) (failed f) =
+          rw (other 20 1 (eqb-false t 20 a), other 19 1 (eqb-false t 19 b), other 17 6 (eqb-false t 17 c), other 22 8 (eqb-false t 22 d), other 23 9 (eqb-false t 23 f), a, b, c, d, f)
 
   pub slot-tag : slotComes bytes i ≡ cond (eqb (slotSize (getD bytes i 0)) 0) false (itemComes bytes i (getD bytes i 0) (slotSize (getD bytes i 0))) && ltb (getD bytes (i + 3) 0) 32
   unfolding slotComes
@@ -91,7 +95,8 @@ slot-small tag =
     either (λ (n : ℕ). n ≤ 16) (eqb tag 20) (λ e. omega arith)
     (λ e. either (λ (n : ℕ). n ≤ 16) (eqb tag 19) (λ f. omega arith)
     (λ f. either (λ (n : ℕ). n ≤ 16) (eqb tag 17) (λ g. omega arith)
-    (λ g. either (λ (n : ℕ). n ≤ 16) (eqb tag 22) (λ h. omega arith) (λ h. omega arith))))
+    (λ g. either (λ (n : ℕ). n ≤ 16) (eqb tag 22) (λ h. omega arith)
+    (λ h. either (λ (n : ℕ). n ≤ 16) (eqb tag 23) (λ j. omega arith) (λ j. omega arith)))))
 
 -- A frame stands there, without a time or with one.
 pub record Framed (bytes : List ℕ) (i tag : ℕ) : Type 0 where
@@ -153,8 +158,10 @@ module _ (bytes : List ℕ) (i : ℕ) where
   slot : slotComes bytes i ≡ true → Slot bytes i
   unfolding slotComes isFrame
   slot e =
-      let both = and-both (itemComes bytes i 20 1 || itemComes bytes i 19 1 || itemComes bytes i 17 6 || itemComes bytes i 22 8) (ltb (getD bytes (i + 3) 0) 32) e in
+      let both = and-both (itemComes bytes i 20 1 || itemComes bytes i 19 1 || itemComes bytes i 17 6 || itemComes bytes i 22 8 || itemComes bytes i 23 9) (ltb (getD bytes (i + 3) 0) 32) e in
       let few = ltb-true (getD bytes (i + 3) 0) 32 (both .1) in
+      ⊎-elim
+      (λ r.
       ⊎-elim
       (λ s.
       ⊎-elim
@@ -164,8 +171,10 @@ module _ (bytes : List ℕ) (i : ℕ) where
       (or-either (itemComes bytes i 20 1) (itemComes bytes i 19 1) t))
       (λ t. let c = item t in slot-item few c (omega arith) refl (λ l. inr (inr (inl (c .starts, l)))))
       (or-either (itemComes bytes i 20 1 || itemComes bytes i 19 1) (itemComes bytes i 17 6) s))
-      (λ s. let c = item s in slot-item few c (omega arith) refl (λ l. inr (inr (inr (c .starts, l)))))
-      (or-either (itemComes bytes i 20 1 || itemComes bytes i 19 1 || itemComes bytes i 17 6) (itemComes bytes i 22 8) (both .0))
+      (λ s. let c = item s in slot-item few c (omega arith) refl (λ l. inr (inr (inr (inl (c .starts, l))))))
+      (or-either (itemComes bytes i 20 1 || itemComes bytes i 19 1 || itemComes bytes i 17 6) (itemComes bytes i 22 8) r))
+      (λ r. let c = item r in slot-item few c (omega arith) refl (λ l. inr (inr (inr (inr (c .starts, l))))))
+      (or-either (itemComes bytes i 20 1 || itemComes bytes i 19 1 || itemComes bytes i 17 6 || itemComes bytes i 22 8) (itemComes bytes i 23 9) (both .0))
 
   module _ (rows : ℕ) {tag : ℕ} (e : comes rows bytes i ≡ true) (is : tag ≡ getD bytes i 0) where
     split : (sized rows ≡ true) × (Framed bytes i tag ⊎ (slotComes bytes i ≡ true))
@@ -199,11 +208,12 @@ module _ (bytes : List ℕ) (i : ℕ) where
       short l (inl (e, n)) = omega arith
       short l (inr (inl (e, n))) = omega arith
       short l (inr (inr (inl (e, n)))) = omega arith
-      short l (inr (inr (inr (e, n)))) = omega arith
+      short l (inr (inr (inr (inl (e, n))))) = omega arith
+      short l (inr (inr (inr (inr (e, n))))) = omega arith
 
 -- None stands behind the bytes' end.
 pub none-past : (rows : ℕ) (bytes : List ℕ) (i : ℕ) → length bytes < i → comes rows bytes i ≡ false
 unfolding comes frameComes slotComes itemComes
 none-past rows bytes i h =
     let past : (size : ℕ) → leb (i + (3 + size)) (length bytes) ≡ false = λ size. lt-leb (i + (3 + size)) (length bytes) (omega arith) in
-    rw (past 12, past 16, past 1, past 6, past 8, and-false)
+    rw (past 12, past 16, past 1, past 6, past 8, past 9, and-false)

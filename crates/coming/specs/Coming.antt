@@ -16,9 +16,10 @@ sizeAt bytes i = number (part (i + 1) 2 bytes)
 unfoldable pub itemComes : List ℕ → (i tag size : ℕ) → Bool
 itemComes bytes i tag size = leb (i + (3 + size)) (length bytes) && eqb (getD bytes i 0) tag && eqb (sizeAt bytes i) size
 
--- An item that sets, removes or shows a question (rules 11.1 and 17.7), in a slot that there is.
+-- An item that sets, removes or shows a question (rules 11.1, 17.7 and 18.6), in a slot that there is.
 unfoldable pub slotComes : List ℕ → ℕ → Bool
-slotComes bytes i = (itemComes bytes i 20 1 || itemComes bytes i 19 1 || itemComes bytes i 17 6 || itemComes bytes i 22 8) && ltb (getD bytes (i + 3) 0) slotCount
+slotComes bytes i =
+    (itemComes bytes i 20 1 || itemComes bytes i 19 1 || itemComes bytes i 17 6 || itemComes bytes i 22 8 || itemComes bytes i 23 9) && ltb (getD bytes (i + 3) 0) slotCount
 
 -- A frame without a time (rule 11.1), or with one (rule 15.1).
 unfoldable pub frameComes : List ℕ → ℕ → Bool

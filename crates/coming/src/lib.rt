@@ -119,7 +119,10 @@ fn slot_size(tag: u8) -> usize
         return Item::SET_SIZE;
     }
     if tag == Item::SET_HEAT {
-        Item::SET_HEAT_SIZE
+        return Item::SET_HEAT_SIZE;
+    }
+    if tag == Item::SET_TIES {
+        Item::SET_TIES_SIZE
     } else {
         0
     }

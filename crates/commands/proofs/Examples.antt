@@ -4,14 +4,16 @@ use mathlib.Core.Path.{_≡_, refl}
 use mathlib.Core.List.{List, [], _∷_, _++_}
 use Prim.Native.Nat.{ℕ}
 use Rattle.wire.specs.Bytes.{bytes, head, field}
-use Rattle.items.specs.Items.{signed16, unsigned16, settingBytes, heatBytes}
+use Rattle.items.specs.Items.{signed16, unsigned16, settingBytes, heatBytes, tiesBytes}
 use Rattle.items.specs.Run.{runBytes}
 use Rattle.lines.specs.Words.{runLength, trimmed, behindWord, tailAt, wordAt}
 use Rattle.lines.specs.Numbers.{digitOf, withDigit, numberOn, numberIn, negated, shortIn}
 use Rattle.values.specs.Range.{inRange}
 use Rattle.report.specs.Payload.{payload, noteFits, fault}
 use Rattle.bench.specs.Bench.{announcement, packetData, packetsFrom, frames, frameBytes, sendRefusal}
-use Rattle.commands.specs.Lines.{kindOf, valueAt, weightAt, noMore, firstFalse, windowLine, heatAt, questionLine, oneSlot, showLine, reportLine, heatedLine, timeLine, untimedLine, commandOf, wordsBefore}
+use Rattle.commands.specs.Lines.{kindOf, valueAt, weightAt, noMore, firstFalse, windowLine, tieRuleIn, tieRuleAt, heatAt, tiesAt, noTieRule, questionItem, questionLine, oneSlot, showLine, reportLine, heatedLine, timeLine, untimedLine, commandOf, wordsBefore}
+use Rattle.commands.specs.declared.Kind.the-variants.{Question}
+use Rattle.commands.specs.declared.Command.the-variants.{Wrong}
 use Rattle.commands.specs.declared.Time.the-variants.{Untimed}
 use Rattle.commands.specs.Items.{reportRefusal, reportItems, lineItems, textItems}
 
@@ -26,13 +28,28 @@ window-three = refl
 
 -- `question 0 2 -1 2`: -1 is held as FFFF.
 pub question-less : items (113 ∷ 117 ∷ 101 ∷ 115 ∷ 116 ∷ 105 ∷ 111 ∷ 110 ∷ 32 ∷ 48 ∷ 32 ∷ 50 ∷ 32 ∷ 45 ∷ 49 ∷ 32 ∷ 50 ∷ []) ≡ 17 ∷ 6 ∷ 0 ∷ 0 ∷ 2 ∷ 255 ∷ 255 ∷ 2 ∷ 0 ∷ []
-unfolding commandOf kindOf wordAt tailAt trimmed behindWord runLength valueAt numberIn numberOn withDigit digitOf noMore firstFalse field head bytes runBytes questionLine weightAt heatAt shortIn negated signed16 unsigned16 settingBytes
+unfolding commandOf kindOf wordAt tailAt trimmed behindWord runLength valueAt numberIn numberOn withDigit digitOf noMore firstFalse field head bytes runBytes questionLine weightAt tieRuleIn tieRuleAt heatAt tiesAt noTieRule questionItem shortIn negated signed16 unsigned16 settingBytes
 question-less = refl
 
 -- `question 0 2 1 0 0`: a weight for heat is written also where it is 0.
 pub question-heat : items (113 ∷ 117 ∷ 101 ∷ 115 ∷ 116 ∷ 105 ∷ 111 ∷ 110 ∷ 32 ∷ 48 ∷ 32 ∷ 50 ∷ 32 ∷ 49 ∷ 32 ∷ 48 ∷ 32 ∷ 48 ∷ []) ≡ 22 ∷ 8 ∷ 0 ∷ 0 ∷ 2 ∷ 1 ∷ 0 ∷ 0 ∷ 0 ∷ 0 ∷ 0 ∷ []
-unfolding commandOf kindOf wordAt tailAt trimmed behindWord runLength valueAt numberIn numberOn withDigit digitOf noMore firstFalse field head bytes runBytes questionLine weightAt heatAt shortIn negated signed16 unsigned16 settingBytes heatBytes
+unfolding commandOf kindOf wordAt tailAt trimmed behindWord runLength valueAt numberIn numberOn withDigit digitOf noMore firstFalse field head bytes runBytes questionLine weightAt tieRuleIn tieRuleAt heatAt tiesAt noTieRule questionItem shortIn negated signed16 unsigned16 settingBytes heatBytes
 question-heat = refl
+
+-- `question 0 2 1 0 newest`: a tie rule is written also where it is 0, and with it the weight for heat, 0.
+pub question-newest : items (113 ∷ 117 ∷ 101 ∷ 115 ∷ 116 ∷ 105 ∷ 111 ∷ 110 ∷ 32 ∷ 48 ∷ 32 ∷ 50 ∷ 32 ∷ 49 ∷ 32 ∷ 48 ∷ 32 ∷ 110 ∷ 101 ∷ 119 ∷ 101 ∷ 115 ∷ 116 ∷ []) ≡ 23 ∷ 9 ∷ 0 ∷ 0 ∷ 2 ∷ 1 ∷ 0 ∷ 0 ∷ 0 ∷ 0 ∷ 0 ∷ 0 ∷ []
+unfolding commandOf kindOf wordAt tailAt trimmed behindWord runLength valueAt numberIn numberOn withDigit digitOf noMore firstFalse field head bytes runBytes questionLine weightAt tieRuleIn tieRuleAt heatAt tiesAt noTieRule questionItem shortIn negated signed16 unsigned16 settingBytes heatBytes tiesBytes
+question-newest = refl
+
+-- `question 0 2 1 0 -1 first`.
+pub question-first : items (113 ∷ 117 ∷ 101 ∷ 115 ∷ 116 ∷ 105 ∷ 111 ∷ 110 ∷ 32 ∷ 48 ∷ 32 ∷ 50 ∷ 32 ∷ 49 ∷ 32 ∷ 48 ∷ 32 ∷ 45 ∷ 49 ∷ 32 ∷ 102 ∷ 105 ∷ 114 ∷ 115 ∷ 116 ∷ []) ≡ 23 ∷ 9 ∷ 0 ∷ 0 ∷ 2 ∷ 1 ∷ 0 ∷ 0 ∷ 0 ∷ 255 ∷ 255 ∷ 1 ∷ []
+unfolding commandOf kindOf wordAt tailAt trimmed behindWord runLength valueAt numberIn numberOn withDigit digitOf noMore firstFalse field head bytes runBytes questionLine weightAt tieRuleIn tieRuleAt heatAt tiesAt noTieRule questionItem shortIn negated signed16 unsigned16 settingBytes heatBytes tiesBytes
+question-first = refl
+
+-- `question 0 2 1 0 first 3`: nothing may stand behind the tie rule.
+pub question-more : commandOf (113 ∷ 117 ∷ 101 ∷ 115 ∷ 116 ∷ 105 ∷ 111 ∷ 110 ∷ 32 ∷ 48 ∷ 32 ∷ 50 ∷ 32 ∷ 49 ∷ 32 ∷ 48 ∷ 32 ∷ 102 ∷ 105 ∷ 114 ∷ 115 ∷ 116 ∷ 32 ∷ 51 ∷ []) ≡ Wrong (record { kind = Question; word = 6 })
+unfolding commandOf kindOf wordAt tailAt trimmed behindWord runLength valueAt numberIn numberOn withDigit digitOf noMore firstFalse questionLine weightAt tieRuleIn tieRuleAt heatAt tiesAt shortIn
+question-more = refl
 
 -- `show 40`: a slot that the cart refuses is written.
 pub show-forty : items (115 ∷ 104 ∷ 111 ∷ 119 ∷ 32 ∷ 52 ∷ 48 ∷ []) ≡ 20 ∷ 1 ∷ 0 ∷ 40 ∷ []

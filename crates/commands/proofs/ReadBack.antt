@@ -9,6 +9,7 @@ use borrow.Author.Tests.{eqb-true}
 use lib.Dec.{eqb}
 use lib.ListN.{length}
 use lib.IntN.{pos}
+use lib.Signed.{mag}
 use Rattle.laws.proofs.Tests.{either}
 use Rattle.items.specs.Items.{signed16}
 use Rattle.items.specs.declared.Setting.{Setting}
@@ -31,9 +32,9 @@ use Rattle.commands.specs.declared.Time.the-variants as time
 use Rattle.commands.specs.declared.Sending.{Sending}
 use Rattle.commands.specs.declared.Command.{Command}
 use Rattle.commands.specs.declared.Command.the-variants as command
-use Rattle.commands.specs.Lines.{kindOf, firstFalse, noMore, valueAt, weightAt, unless, windowLine, heatAt, questionItem, questionLine, oneSlot, removeLine, showLine, reportKind, reportLine, heatedKind, heatedLine, timeLine, untimedLine, byKind, commandOf, noteIn}
+use Rattle.commands.specs.Lines.{kindOf, firstFalse, noMore, valueAt, weightAt, unless, windowLine, heatAt, tiesAt, noTieRule, questionItem, questionLine, oneSlot, removeLine, showLine, reportKind, reportLine, heatedKind, heatedLine, timeLine, untimedLine, byKind, commandOf, noteIn}
 use Rattle.commands.specs.Items.{frameItem, itemOfFrame, reportRefusal, reportItems, itemsOf, timeAfter, lineItems, textItems}
-use Rattle.commands.proofs.Reading.{value-most, weight-most, heat-most}
+use Rattle.commands.proofs.Reading.{value-most, weight-most, heat-most, ends-early, none-newest}
 use Rattle.commands.proofs.Writing.{taken-facts}
 
 -- ---- a report's frames
@@ -95,18 +96,27 @@ module _ (t : Time) (ht : TimeFits t) (note line : List ℕ) where
   unfolding heatAt signed16
   none-given e = rw e
 
+  -- Any setting of a line fits its item, if its weights fit, and where the item has no room for the weight for heat or the tie rule these are 0.
+  setting-fits : (s : Setting) → mag (s .loss) < 32768 → mag (s .shake) < 32768 → mag (s .heat) < 32768 → (noMore 5 line ≡ true → s .heat ≡ pos 0)
+      → (noTieRule line ≡ true → s .ties ≡ 0) → Fits (questionItem line s) []
+  unfolding questionItem
+  setting-fits s loss shake heat cold newest =
+      either (λ (i : Item). Fits i []) (noMore 5 line) (λ bare. (loss, shake, cold bare, newest (ends-early line bare), refl))
+      (λ more. either (λ (i : Item). Fits i []) (noTieRule line) (λ none. (loss, shake, heat, newest none, refl)) (λ ruled. (loss, shake, heat, refl)))
+
   question-fits : FitsAll (questionLine line)
   unfolding questionLine
   question-fits =
       let a = weightAt 3 line .value in
       let b = weightAt 4 line .value in
       let c = heatAt line .value in
-      let s : Setting = record { slot = valueAt 1 255 line .value; k = valueAt 2 255 line .value; loss = signed16 a; shake = signed16 b; heat = signed16 c } in
+      let s : Setting =
+      record { slot = valueAt 1 255 line .value; k = valueAt 2 255 line .value; loss = signed16 a; shake = signed16 b; heat = signed16 c; ties = tiesAt line .value } in
       let loss = signed-fits a (omega (arith, weight-most 3 line (weightAt 3 line) refl)) in
       let shake = signed-fits b (omega (arith, weight-most 4 line (weightAt 4 line) refl)) in
       let heat = signed-fits c (omega (arith, heat-most line (heatAt line) refl)) in
-      item-fits (firstFalse 1 (valueAt 1 255 line .known ∷ valueAt 2 255 line .known ∷ weightAt 3 line .known ∷ weightAt 4 line .known ∷ heatAt line .known ∷ noMore 6 line ∷ [])) kind.Question (questionItem (noMore 5 line) s)
-      (either (λ (i : Item). Fits i []) (noMore 5 line) (λ bare. (loss, shake, none-given bare, refl)) (λ given. (loss, shake, heat, refl)))
+      item-fits (firstFalse 1 (valueAt 1 255 line .known ∷ valueAt 2 255 line .known ∷ weightAt 3 line .known ∷ weightAt 4 line .known ∷ heatAt line .known ∷ tiesAt line .known ∷ noMore 7 line ∷ [])) kind.Question (questionItem line s)
+      (setting-fits s loss shake heat none-given (none-newest line))
 
   remove-fits : FitsAll (removeLine line)
   unfolding removeLine

@@ -1,17 +1,19 @@
 -- A line's command from its words: each equation replaces what a call answered by what the definition says.
 -- Assumes nothing.
-use mathlib.Core.Path.{_≡_, refl}
+use mathlib.Core.Path.{_≡_, refl, ap, _∙_}
 use mathlib.Core.Bool.{Bool, true, false, not, _||_}
 use mathlib.Core.List.{List, [], _∷_, _++_}
 use Prim.Native.Nat.{ℕ, suc, _+_, _≤_}
 use native.Mathlib.Omega.{arith}
-use borrow.Author.Tests.{eq-eqb, ne-eqb}
+use borrow.Author.Tests.{eq-eqb, ne-eqb, eqb-true, not-true}
+use lib.Dec.{eqb}
 use lib.ListN.{length}
-use Rattle.laws.proofs.Tests.{either}
+use Rattle.laws.proofs.Tests.{either, and-both}
+use Rattle.wire.specs.Bytes.{same}
 use Rattle.items.specs.Items.{signed16}
 use Rattle.items.specs.declared.Item.the-variants as item
 use Rattle.lines.specs.declared.Number.{Number}
-use Rattle.lines.specs.Words.{wordAt}
+use Rattle.lines.specs.Words.{runLength, trimmed, behindWord, tailAt, wordAt}
 use Rattle.lines.proofs.Numbers.{number-most, short-most}
 use Rattle.values.specs.declared.Edition.{Edition}
 use Rattle.values.specs.declared.Edition.the-variants as edition
@@ -21,7 +23,7 @@ use Rattle.commands.specs.declared.Slot.{Slot}
 use Rattle.commands.specs.declared.Time.the-variants as time
 use Rattle.commands.specs.declared.Command.{Command}
 use Rattle.commands.specs.declared.Command.the-variants as command
-use Rattle.commands.specs.Lines.{kindOf, firstFalse, valueAt, weightAt, noMore, unless, windowLine, heatAt, questionItem, questionLine, oneSlot, removeLine, showLine, reportKind, reportLine, heatedKind, heatedLine, timeLine, untimedLine, byKind, commandOf}
+use Rattle.commands.specs.Lines.{newestWord, firstWord, kindOf, firstFalse, valueAt, weightAt, noMore, unless, windowLine, tieRuleIn, tieRuleAt, heatAt, tiesAt, noTieRule, questionItem, questionLine, oneSlot, removeLine, showLine, reportKind, reportLine, heatedKind, heatedLine, timeLine, untimedLine, byKind, commandOf}
 
 -- ---- which test fails first
 
@@ -53,24 +55,20 @@ module _ (a b c d e : Bool) where
   unfolding firstFalse
   first-none p q r s t = rw (p, q, r, s, t)
 
--- One test more at the end: it says only what the others leave.
-pub first-sooner : (n : ℕ) (ts : List Bool) (t : Bool) → (firstFalse (suc n) ts ≡ 0 → ⊥) → firstFalse (suc n) ts ≡ firstFalse (suc n) (ts ++ (t ∷ []))
+-- More tests at the end: they say only what the others leave.
+pub first-sooner : (n : ℕ) (ts us : List Bool) → (firstFalse (suc n) ts ≡ 0 → ⊥) → firstFalse (suc n) ts ≡ firstFalse (suc n) (ts ++ us)
 unfolding firstFalse
-first-sooner n [] t h = absurd (h refl)
-first-sooner n (false ∷ ts) t h = refl
-first-sooner n (true ∷ ts) t h = first-sooner (suc n) ts t h
+first-sooner n [] us h = absurd (h refl)
+first-sooner n (false ∷ ts) us h = refl
+first-sooner n (true ∷ ts) us h = first-sooner (suc n) ts us h
 
-pub first-right : (n : ℕ) (ts : List Bool) → firstFalse (suc n) ts ≡ 0 → _≡_ {A = ℕ} 0 (firstFalse (suc n) (ts ++ (true ∷ [])))
+pub first-after : (n : ℕ) (ts us : List Bool) → firstFalse (suc n) ts ≡ 0 → firstFalse (suc n) (ts ++ us) ≡ firstFalse (suc n + length ts) us
 unfolding firstFalse
-first-right n [] h = refl
-first-right n (false ∷ ts) h = absurd (omega arith)
-first-right n (true ∷ ts) h = first-right (suc n) ts h
-
-pub first-last : (n : ℕ) (ts : List Bool) → firstFalse (suc n) ts ≡ 0 → suc n + length ts ≡ firstFalse (suc n) (ts ++ (false ∷ []))
-unfolding firstFalse
-first-last n [] h = omega arith
-first-last n (false ∷ ts) h = absurd (omega arith)
-first-last n (true ∷ ts) h = omega (arith, first-last (suc n) ts h)
+first-after n [] us h = let place : suc n ≡ suc n + 0 = omega arith in ap (λ (i : ℕ). firstFalse i us) place
+first-after n (false ∷ ts) us h = absurd (omega arith)
+first-after n (true ∷ ts) us h =
+    let place : suc (suc n) + length ts ≡ suc n + suc (length ts) = omega arith in
+    first-after (suc n) ts us h ∙ ap (λ (i : ℕ). firstFalse i us) place
 
 -- ---- wrong, or not
 
@@ -112,20 +110,21 @@ module _ (line : List ℕ) (s : Slot) (e : s ≡ oneSlot line) where
   unfolding showLine
   show-right h = rw (← e) (right (s .wrong) kind.Show (command.Item (item.Show (s .slot))) h)
 
-module _ (line : List ℕ) (s k a b c : Number) (m : Bool) (w : ℕ) (slot : s ≡ valueAt 1 255 line) (most : k ≡ valueAt 2 255 line)
-    (loss : a ≡ weightAt 3 line) (shake : b ≡ weightAt 4 line) (heat : c ≡ heatAt line) (end : m ≡ noMore 6 line)
-    (first : w ≡ firstFalse 1 (s .known ∷ k .known ∷ a .known ∷ b .known ∷ c .known ∷ m ∷ [])) where
-  abbrev pub asked : Bool → Command
-  asked bare =
-      command.Item (questionItem bare (record { slot = s .value; k = k .value; loss = signed16 (a .value); shake = signed16 (b .value); heat = signed16 (c .value) }))
+module _ (line : List ℕ) (s k a b c t : Number) (m : Bool) (w : ℕ) (slot : s ≡ valueAt 1 255 line) (most : k ≡ valueAt 2 255 line)
+    (loss : a ≡ weightAt 3 line) (shake : b ≡ weightAt 4 line) (heat : c ≡ heatAt line) (ties : t ≡ tiesAt line) (end : m ≡ noMore 7 line)
+    (first : w ≡ firstFalse 1 (s .known ∷ k .known ∷ a .known ∷ b .known ∷ c .known ∷ t .known ∷ m ∷ [])) where
+  abbrev pub asked : Command
+  asked =
+      command.Item
+      (questionItem line (record { slot = s .value; k = k .value; loss = signed16 (a .value); shake = signed16 (b .value); heat = signed16 (c .value); ties = t .value }))
 
   pub question-wrong : (w ≡ 0 → ⊥) → command.Wrong (record { kind = kind.Question; word = w }) ≡ questionLine line
   unfolding questionLine
-  question-wrong h = rw (← slot, ← most, ← loss, ← shake, ← heat, ← end, ← first) (wrong w kind.Question (asked (noMore 5 line)) h)
+  question-wrong h = rw (← slot, ← most, ← loss, ← shake, ← heat, ← ties, ← end, ← first) (wrong w kind.Question asked h)
 
-  pub question-right : (bare : Bool) → bare ≡ noMore 5 line → w ≡ 0 → asked bare ≡ questionLine line
+  pub question-right : w ≡ 0 → asked ≡ questionLine line
   unfolding questionLine
-  question-right bare e h = rw (← slot, ← most, ← loss, ← shake, ← heat, ← end, ← first, ← e) (right w kind.Question (asked bare) h)
+  question-right h = rw (← slot, ← most, ← loss, ← shake, ← heat, ← ties, ← end, ← first) (right w kind.Question asked h)
 
 -- A report of either edition.
 abbrev sent : Number → Number → Number → Edition → Number → Bool → Command
@@ -189,7 +188,45 @@ weight-most n line v e = rw e (short-most (wordAt n line))
 
 pub heat-most : (line : List ℕ) (v : Number) → v ≡ heatAt line → v .value ≤ 65535
 unfolding heatAt
-heat-most line v e = rw e (either (λ (n : Number). n .value ≤ 65535) (noMore 5 line) (λ none. omega arith) (λ more. weight-most 5 line (weightAt 5 line) refl))
+heat-most line v e =
+    rw e (either (λ (n : Number). n .value ≤ 65535) (noMore 5 line || tieRuleAt 5 line .known) (λ none. omega arith) (λ more. weight-most 5 line (weightAt 5 line) refl))
+
+abbrev Small : Number → Type 0
+Small n = n .value ≤ 1
+
+rule-most : (n : ℕ) (line : List ℕ) → Small (tieRuleAt n line)
+unfolding tieRuleIn tieRuleAt
+rule-most n line =
+    either Small (same (wordAt n line) newestWord) (λ t. omega arith) (λ f. either Small (same (wordAt n line) firstWord) (λ t. omega arith) (λ g. omega arith))
+
+pub ties-most : (line : List ℕ) (v : Number) → v ≡ tiesAt line → v .value ≤ 1
+unfolding tiesAt
+ties-most line v e =
+    rw e (either Small (tieRuleAt 5 line .known) (λ t. rule-most 5 line) (λ f. either Small (noMore 6 line) (λ none. omega arith) (λ more. rule-most 6 line)))
+
+-- ---- what isn't given
+
+-- Behind the last word stand no words.
+nothing : (s : List ℕ) → eqb (length s) 0 ≡ true → s ≡ []
+nothing [] e = refl
+nothing (b ∷ s) e = absurd (omega (arith, eqb-true (suc (length s)) 0 e))
+
+pub no-word : (n : ℕ) (line : List ℕ) → noMore n line ≡ true → wordAt n line ≡ []
+unfolding noMore wordAt runLength
+no-word n line e = rw (nothing (tailAt n line) e)
+
+pub none-behind : (n : ℕ) (line : List ℕ) → noMore n line ≡ true → noMore (suc n) line ≡ true
+unfolding noMore tailAt trimmed behindWord runLength
+none-behind n line e = rw (nothing (tailAt n line) e)
+
+-- A line that ends with B gives neither a weight for heat nor a tie rule, and one that gives no rule has rule 0.
+pub ends-early : (line : List ℕ) → noMore 5 line ≡ true → noTieRule line ≡ true
+unfolding noTieRule tieRuleIn tieRuleAt
+ends-early line e = rw (no-word 5 line e, none-behind 5 line e)
+
+pub none-newest : (line : List ℕ) → noTieRule line ≡ true → tiesAt line .value ≡ 0
+unfolding noTieRule tiesAt
+none-newest line e = let both = and-both (not (tieRuleAt 5 line .known)) (noMore 6 line) e in rw (not-true (tieRuleAt 5 line .known) (both .0), both .1)
 
 -- The line's command by its first word.
 pub by-first : (line word : List ℕ) (k v : Kind) → word ≡ wordAt 0 line → k ≡ kindOf word → k ≡ v → byKind v line ≡ commandOf line

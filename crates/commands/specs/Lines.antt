@@ -1,7 +1,7 @@
 -- What a line of the bench sender's text stands for.
 use Prim.Native.Nat.{ℕ, suc}
 use mathlib.Core.List.{List, [], _∷_, _++_}
-use mathlib.Core.Bool.{Bool, true, false, cond, not, _||_}
+use mathlib.Core.Bool.{Bool, true, false, cond, not, _&&_, _||_}
 use lib.ListN.{length, getD}
 use lib.Dec.{eqb}
 use Rattle.wire.specs.Bytes.{same}
@@ -11,7 +11,7 @@ use Rattle.items.specs.declared.Item.{Item}
 use Rattle.items.specs.declared.Item.the-variants as item
 use Rattle.lines.specs.declared.Number.{Number}
 use Rattle.lines.specs.Words.{tailAt, wordAt}
-use Rattle.lines.specs.Numbers.{numberIn, shortIn}
+use Rattle.lines.specs.Numbers.{aNumber, noNumber, numberIn, shortIn}
 use Rattle.values.specs.declared.Edition.the-variants as edition
 use Rattle.commands.specs.declared.Kind.{Kind}
 use Rattle.commands.specs.declared.Kind.the-variants as kind
@@ -50,6 +50,13 @@ heatedWord = 104 ∷ 101 ∷ 97 ∷ 116 ∷ 101 ∷ 100 ∷ []
 
 abbrev pub heatedNotedWord : List ℕ
 heatedNotedWord = heatedWord ++ (45 ∷ notedWord)
+
+-- The words newest and first, the tie rules.
+abbrev pub newestWord : List ℕ
+newestWord = 110 ∷ 101 ∷ 119 ∷ 101 ∷ 115 ∷ 116 ∷ []
+
+abbrev pub firstWord : List ℕ
+firstWord = 102 ∷ 105 ∷ 114 ∷ 115 ∷ 116 ∷ []
 
 -- The kind of line that its first word names. No word, and one that starts with #, say nothing.
 unfoldable pub kindOf : List ℕ → Kind
@@ -96,26 +103,44 @@ windowLine line =
     unless (firstFalse 1 (valueAt 1 65535 line .known ∷ noMore 2 line ∷ true ∷ true ∷ true ∷ [])) kind.Window
     (command.Item (item.Window (valueAt 1 65535 line .value)))
 
--- The weight for heat, which is 0 where it isn't given.
+-- The tie rule that a word names (rule 18.1), and the one that is word n.
+unfoldable pub tieRuleIn : List ℕ → Number
+tieRuleIn w = cond (same w newestWord) (aNumber 0) (cond (same w firstWord) (aNumber 1) noNumber)
+
+unfoldable pub tieRuleAt : ℕ → List ℕ → Number
+tieRuleAt n line = tieRuleIn (wordAt n line)
+
+-- The weight for heat, which is 0 where it isn't given: behind B stands nothing, or the tie rule.
 unfoldable pub heatAt : List ℕ → Number
-heatAt line = cond (noMore 5 line) (record { known = true; value = 0 }) (weightAt 5 line)
+heatAt line = cond (noMore 5 line || tieRuleAt 5 line .known) (aNumber 0) (weightAt 5 line)
 
--- The item that sets a question, without a weight for heat or with one (rule 17.7).
-abbrev pub questionItem : Bool → Setting → Item
-questionItem bare s = cond bare (item.Set s) (item.SetHeat s)
+-- The tie rule: behind B, where nothing may follow it, or behind C. Where none is given it is newest (rule 18.1).
+unfoldable pub tiesAt : List ℕ → Number
+tiesAt line =
+    cond (tieRuleAt 5 line .known) (record { known = noMore 6 line; value = tieRuleAt 5 line .value })
+    (cond (noMore 6 line) (aNumber 0) (tieRuleAt 6 line))
 
--- `question SLOT K A B`, and perhaps C: a slot and a k that fit a byte, weights that fit two.
+-- No tie rule is given.
+unfoldable pub noTieRule : List ℕ → Bool
+noTieRule line = not (tieRuleAt 5 line .known) && noMore 6 line
+
+-- The item that sets a question: without a weight for heat and a tie rule, with a weight (rule 17.7), or with a rule (rules 11.1 and 18.6).
+unfoldable pub questionItem : List ℕ → Setting → Item
+questionItem line s = cond (noMore 5 line) (item.Set s) (cond (noTieRule line) (item.SetHeat s) (item.SetTies s))
+
+-- `question SLOT K A B`, and perhaps C, and perhaps a tie rule: a slot and a k that fit a byte, weights that fit two.
 unfoldable pub questionLine : List ℕ → Command
 questionLine line =
     unless
-    (firstFalse 1 (valueAt 1 255 line .known ∷ valueAt 2 255 line .known ∷ weightAt 3 line .known ∷ weightAt 4 line .known ∷ heatAt line .known ∷ noMore 6 line ∷ []))
+    (firstFalse 1 (valueAt 1 255 line .known ∷ valueAt 2 255 line .known ∷ weightAt 3 line .known ∷ weightAt 4 line .known ∷ heatAt line .known ∷ tiesAt line .known ∷ noMore 7 line ∷ []))
     kind.Question
-    (command.Item (questionItem (noMore 5 line) (record {
+    (command.Item (questionItem line (record {
       slot = valueAt 1 255 line .value;
       k = valueAt 2 255 line .value;
       loss = signed16 (weightAt 3 line .value);
       shake = signed16 (weightAt 4 line .value);
       heat = signed16 (heatAt line .value);
+      ties = tiesAt line .value;
     })))
 
 -- One slot that fits a byte, and nothing behind it.

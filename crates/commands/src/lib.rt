@@ -1,8 +1,9 @@
 // The bench sender's text: what a line stands for, and the log items that are written for it.
-// A line is `window N`, `question SLOT K A B`, with a weight C for heat behind it perhaps, `remove SLOT`, `show SLOT`,
-// `report SENDER LOSS SHAKE NUMBER`, with a note behind it perhaps, or `noted` for a report whose note may be empty; with heat
-// these are `heated SENDER LOSS SHAKE HEAT NUMBER` and `heated-noted`. `time MS` gives the frames behind it that time, in
-// milliseconds, until `untimed` ends that. Empty lines and those that start with # say nothing.
+// A line is `window N`, `question SLOT K A B`, with a weight C for heat behind it perhaps, and last perhaps its tie rule,
+// `newest` or `first`, `remove SLOT`, `show SLOT`, `report SENDER LOSS SHAKE NUMBER`, with a note behind it perhaps, or `noted`
+// for a report whose note may be empty; with heat these are `heated SENDER LOSS SHAKE HEAT NUMBER` and `heated-noted`.
+// `time MS` gives the frames behind it that time, in milliseconds, until `untimed` ends that. Empty lines and those that start
+// with # say nothing.
 ghost use mathlib.Core.Path.{_≡_};
 ghost use mathlib.Core.List.{[], _∷_, map};
 ghost use mathlib.Core.Bool.{Bool, not, _||_};
@@ -10,8 +11,9 @@ ghost use Prim.Native.Nat.{_*_, _≤_};
 ghost use lib.ListN.{length, take};
 ghost use lib.Seq.{sets};
 ghost use Rattle.items.specs.Run.{runBytes};
+ghost use Rattle.lines.specs.Numbers.{aNumber};
 ghost use Rattle.bench.specs.Bench.{framesIn};
-ghost use Rattle.commands.specs.Lines.{kindOf, firstFalse, valueAt, weightAt, noMore, oneSlot, windowLine, heatAt, questionItem, questionLine, removeLine, showLine, reportKind, reportLine, heatedKind, heatedLine, timeLine, untimedLine, commandOf, wordsBefore, noteIn};
+ghost use Rattle.commands.specs.Lines.{kindOf, firstFalse, valueAt, weightAt, noMore, oneSlot, windowLine, tieRuleAt, heatAt, tiesAt, noTieRule, questionItem, questionLine, removeLine, showLine, reportKind, reportLine, heatedKind, heatedLine, timeLine, untimedLine, commandOf, wordsBefore, noteIn};
 ghost use Rattle.commands.specs.Items.{frameItem, itemOfFrame, itemsOf, answerOf, reportItems, reportAnswer, timeAfter, lineOutcome, lineItems};
 use bench::Bench;
 use items::Item;
@@ -240,15 +242,18 @@ fn first_false(a: bool, b: bool, c: bool, d: bool, e: bool) -> u8
     0
 }
 
-// The same of six tests.
-fn first_of_six(a: bool, b: bool, c: bool, d: bool, e: bool, f: bool) -> u8
-    ensures { λ r. ⌜ r ≡ firstFalse 1 (a ∷ b ∷ c ∷ d ∷ e ∷ f ∷ []) ⌝ }
+// The same of seven tests.
+fn first_of_seven(a: bool, b: bool, c: bool, d: bool, e: bool, f: bool, g: bool) -> u8
+    ensures { λ r. ⌜ r ≡ firstFalse 1 (a ∷ b ∷ c ∷ d ∷ e ∷ f ∷ g ∷ []) ⌝ }
 {
     let first = first_false(a, b, c, d, e);
     if first != 0 {
         return first;
     }
-    if f { 0 } else { 6 }
+    if !f {
+        return 6;
+    }
+    if g { 0 } else { 7 }
 }
 
 // How many words a report's note stands behind, by the first of them.
@@ -286,24 +291,78 @@ fn window_line(line: &[u8]) -> Command
     Command::Item(Item::Window(n.value as u16))
 }
 
+// A number that is known.
+fn given(value: u32) -> Number
+    ensures { λ r. ⌜ r ≡ aNumber value ⌝ }
+{
+    Number { known: true, value }
+}
+
+// The tie rule that is word n.
+fn rule(line: &[u8], n: u8) -> Number
+    ensures { λ r. ⌜ r ≡ tieRuleAt n (now (line .entry)) ⌝ }
+{
+    let word = lines::word(line, n);
+    if lines::same(word, b"newest") {
+        return given(0);
+    }
+    if lines::same(word, b"first") {
+        return given(1);
+    }
+    Number {
+        known: false,
+        value: 0,
+    }
+}
+
 // The weight for heat, which is 0 where it isn't given.
 fn heat_weight(line: &[u8]) -> Number
     ensures { λ r. ⌜ r ≡ heatAt (now (line .entry)) ⌝ }
 {
-    if no_more(line, 5) {
-        return Number {
-            known: true,
-            value: 0,
-        };
+    let early = rule(line, 5);
+    if no_more(line, 5) || early.known {
+        return given(0);
     }
     weight(line, 5)
 }
 
-// The item that sets a question, without a weight for heat or with one.
-fn question_item(bare: bool, s: Setting) -> Item
-    ensures { λ r. ⌜ r ≡ questionItem bare s ⌝ }
+// The tie rule of a question, which is newest where none is given.
+fn tie_rule(line: &[u8]) -> Number
+    ensures { λ r. ⌜ r ≡ tiesAt (now (line .entry)) ⌝ }
 {
-    if bare { Item::Set(s) } else { Item::SetHeat(s) }
+    let early = rule(line, 5);
+    let end = no_more(line, 6);
+    if early.known {
+        return Number {
+            known: end,
+            value: early.value,
+        };
+    }
+    if end {
+        return given(0);
+    }
+    rule(line, 6)
+}
+
+// Whether no tie rule is given.
+fn no_rule(line: &[u8]) -> bool
+    ensures { λ r. ⌜ r ≡ noTieRule (now (line .entry)) ⌝ }
+{
+    let early = rule(line, 5);
+    !early.known && no_more(line, 6)
+}
+
+// The item that sets a question: by what is given of a weight for heat and a tie rule.
+fn question_item(line: &[u8], s: Setting) -> Item
+    ensures { λ r. ⌜ r ≡ questionItem (now (line .entry)) s ⌝ }
+{
+    if no_more(line, 5) {
+        return Item::Set(s);
+    }
+    if no_rule(line) {
+        return Item::SetHeat(s);
+    }
+    Item::SetTies(s)
 }
 
 fn question_line(line: &[u8]) -> Command
@@ -314,13 +373,15 @@ fn question_line(line: &[u8]) -> Command
     let a = weight(line, 3);
     let b = weight(line, 4);
     let c = heat_weight(line);
-    let wrong = first_of_six(
+    let ties = tie_rule(line);
+    let wrong = first_of_seven(
         slot.known,
         k.known,
         a.known,
         b.known,
         c.known,
-        no_more(line, 6),
+        ties.known,
+        no_more(line, 7),
     );
     if wrong != 0 {
         return Command::Wrong(Fault {
@@ -337,8 +398,9 @@ fn question_line(line: &[u8]) -> Command
         loss,
         shake,
         heat,
+        ties: ties.value as u8,
     };
-    Command::Item(question_item(no_more(line, 5), setting))
+    Command::Item(question_item(line, setting))
 }
 
 // A slot, or which word is wrong.

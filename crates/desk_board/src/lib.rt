@@ -52,7 +52,8 @@ pub fn obeyed(board: Board, order: BoardOrder, out: &mut [u8]) -> Left {
     }
 }
 
-// The rule that a line asks for. A weight of the heat that it doesn't say is 0, and a range has all values.
+// The rule that a line asks for. A weight of the heat that it doesn't say is 0, a range has all values, and ties go to the
+// newest.
 fn rule(loss: i16, shake: i16, extras: Extras) -> Rule {
     let weights = Weights {
         loss,

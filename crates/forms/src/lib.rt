@@ -201,7 +201,7 @@ fn put_board_form(buf: &mut [u8], at: usize, form: Form) -> usize {
         Form::Set => put(
             buf,
             at,
-            b"set SLOT K A B [heat C] [loss LOW HIGH] [shake LOW HIGH]; SLOT and K are 0 to 255, A, B and C -32768 to 32767, LOW and HIGH 0 to 65535",
+            b"set SLOT K A B [heat C] [loss LOW HIGH] [shake LOW HIGH] [rule R]; SLOT, K and R are 0 to 255, A, B and C -32768 to 32767, LOW and HIGH 0 to 65535",
         ),
         Form::Remove => put(buf, at, b"remove SLOT; SLOT is 0 to 255"),
         Form::Read => put(buf, at, b"read SLOT; SLOT is 0 to 255"),
@@ -230,7 +230,7 @@ fn put_poke_form(buf: &mut [u8], at: usize, form: Form) -> usize {
         Form::PokeSlot => put(
             buf,
             at,
-            b"poke slot SLOT K A B LEN NEXT [heat C] [loss LOW HIGH] [shake LOW HIGH]; SLOT is 0 to 31, K and LEN 0 to 255, A, B and C -32768 to 32767, NEXT, LOW and HIGH 0 to 65535",
+            b"poke slot SLOT K A B LEN NEXT [heat C] [loss LOW HIGH] [shake LOW HIGH] [rule R]; SLOT is 0 to 31, K, LEN and R 0 to 255, A, B and C -32768 to 32767, NEXT, LOW and HIGH 0 to 65535",
         ),
         Form::PokeLine => put(
             buf,

@@ -10,8 +10,8 @@ use Rattle.wire.specs.Bytes.{bytes, head, field, part, fieldAt}
 use Rattle.wire.specs.declared.Field.the-variants.{Whole}
 use Rattle.wire.proofs.Fields.{length-field, written-stands, stands-facts, whole, cut-short}
 use Rattle.items.specs.declared.Item.{Item}
-use Rattle.items.specs.declared.Item.the-variants.{Window, Set, Frame, Remove, Show, Timed, SetHeat, Unknown}
-use Rattle.items.specs.Items.{settingBytes, heatBytes, tagOf, valueOf}
+use Rattle.items.specs.declared.Item.the-variants.{Window, Set, Frame, Remove, Show, Timed, SetHeat, SetTies, Unknown}
+use Rattle.items.specs.Items.{settingBytes, heatBytes, tiesBytes, tagOf, valueOf}
 use Rattle.items.specs.Run.{Meant, meantBy, runBytes, firstThen, itemsIn, readItems}
 use Rattle.items.proofs.Reading.{Fits, written-back}
 
@@ -34,7 +34,7 @@ module _ (tag : ℕ) (v rest : List ℕ) (short : length v < 65536) where
 
 -- A value that fits is short.
 value-short : (i : Item) (ds : List ℕ) → Fits i ds → length (valueOf i ds) < 65536
-unfolding settingBytes heatBytes bytes
+unfolding settingBytes heatBytes tiesBytes bytes
 value-short (Window n) ds fits = omega arith
 value-short (Set s) ds fits = omega arith
 value-short (Frame id) ds fits = omega (arith, fits .1)
@@ -42,6 +42,7 @@ value-short (Remove slot) ds fits = omega arith
 value-short (Show slot) ds fits = omega arith
 value-short (Timed time id) ds fits = omega (arith, fits .2)
 value-short (SetHeat s) ds fits = omega arith
+value-short (SetTies s) ds fits = omega arith
 value-short Unknown ds fits = omega arith
 
 abbrev pub AllFit : List Meant → Type 0

@@ -12,23 +12,27 @@ use Rattle.wire.proofs.Numbers.{length-bytes}
 use Rattle.wire.proofs.Stores.{put-tag, put-value, head-low, sets-append}
 use Rattle.items.specs.declared.Item.{Item}
 use Rattle.items.specs.declared.Setting.{Setting}
-use Rattle.items.specs.Items.{unsigned16, settingBytes, heatBytes, itemBytes}
+use Rattle.items.specs.Items.{unsigned16, settingBytes, heatBytes, tiesBytes, itemBytes}
 
 -- A question's value.
-pub setting-stored : (s : Setting) {a b c : ℕ} {b₁ b₂ b₃ b₄ b₅ : List ℕ} → a ≡ unsigned16 (s .loss) → b ≡ unsigned16 (s .shake) → c ≡ unsigned16 (s .heat)
-    → b₁ ≡ set (replicate 8 0) 0 (s .slot) → b₂ ≡ set b₁ 1 (s .k) → b₃ ≡ sets b₂ 2 (bytes 2 a) → b₄ ≡ sets b₃ 4 (bytes 2 b) → b₅ ≡ sets b₄ 6 (bytes 2 c)
-    → b₅ ≡ heatBytes s
-unfolding settingBytes heatBytes bytes
-setting-stored s e f g e₁ e₂ e₃ e₄ e₅ = rw (e₅, e₄, e₃, e₂, e₁, e, f, g)
+pub setting-stored : (s : Setting) {a b c : ℕ} {b₁ b₂ b₃ b₄ b₅ b₆ : List ℕ} → a ≡ unsigned16 (s .loss) → b ≡ unsigned16 (s .shake) → c ≡ unsigned16 (s .heat)
+    → b₁ ≡ set (replicate 9 0) 0 (s .slot) → b₂ ≡ set b₁ 1 (s .k) → b₃ ≡ sets b₂ 2 (bytes 2 a) → b₄ ≡ sets b₃ 4 (bytes 2 b) → b₅ ≡ sets b₄ 6 (bytes 2 c)
+    → b₆ ≡ set b₅ 8 (s .ties) → b₆ ≡ tiesBytes s
+unfolding settingBytes heatBytes tiesBytes bytes
+setting-stored s e f g e₁ e₂ e₃ e₄ e₅ e₆ = rw (e₆, e₅, e₄, e₃, e₂, e₁, e, f, g)
 
 -- As much of it as the tag has.
-pub six-of : (s : Setting) → take 6 (heatBytes s) ≡ settingBytes s
-unfolding settingBytes heatBytes bytes
+pub six-of : (s : Setting) → take 6 (tiesBytes s) ≡ settingBytes s
+unfolding settingBytes heatBytes tiesBytes bytes
 six-of s = refl
 
-pub eight-of : (s : Setting) → take 8 (heatBytes s) ≡ heatBytes s
-unfolding settingBytes heatBytes bytes
+pub eight-of : (s : Setting) → take 8 (tiesBytes s) ≡ heatBytes s
+unfolding settingBytes heatBytes tiesBytes bytes
 eight-of s = refl
+
+pub nine-of : (s : Setting) → take 9 (tiesBytes s) ≡ tiesBytes s
+unfolding settingBytes heatBytes tiesBytes bytes
+nine-of s = refl
 
 -- A frame's tag and length, the bytes before its identifier, the identifier and the data.
 pub frame-stored : (b : List ℕ) {b₁ b₂ b₃ b₄ b₅ : List ℕ} (at tag : ℕ) (w : List ℕ) (id : ℕ) (d : List ℕ) → b₁ ≡ set b at tag

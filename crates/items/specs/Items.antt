@@ -1,5 +1,5 @@
--- The log's items (docs/RULES.md, rules 11.1, 15.1 and 17.7): a window, a question that is set, without a weight for heat and with one, a frame without a
--- time and with one, a question that is removed, a list that is shown, each with its tag, its length and its value.
+-- The log's items (docs/RULES.md, rules 11.1, 15.1, 17.7 and 18.6): a window, a question that is set, without a weight for heat, with one, and with a tie
+-- rule too, a frame without a time and with one, a question that is removed, a list that is shown, each with its tag, its length and its value.
 use Prim.Native.Nat.{ℕ, _-_}
 use mathlib.Core.List.{List, [], _∷_, _++_}
 use mathlib.Core.Bool.{Bool, cond, _&&_}
@@ -9,7 +9,7 @@ use lib.IntN.{ℤ, pos, negsuc}
 use Rattle.wire.specs.Bytes.{number, bytes, part, field}
 use Rattle.items.specs.declared.Setting.{Setting}
 use Rattle.items.specs.declared.Item.{Item}
-use Rattle.items.specs.declared.Item.the-variants.{Window, Set, Frame, Remove, Show, Timed, SetHeat, Unknown}
+use Rattle.items.specs.declared.Item.the-variants.{Window, Set, Frame, Remove, Show, Timed, SetHeat, SetTies, Unknown}
 
 -- A number with a sign in two bytes: what they stand for, and the other way.
 unfoldable pub signed16 : ℕ → ℤ
@@ -29,6 +29,10 @@ settingBytes s = s .slot ∷ (s .k ∷ (bytes 2 (unsigned16 (s .loss)) ++ bytes 
 unfoldable pub heatBytes : Setting → List ℕ
 heatBytes s = settingBytes s ++ bytes 2 (unsigned16 (s .heat))
 
+-- Rules 11.1 and 18.6: the same, and the tie rule at the end.
+unfoldable pub tiesBytes : Setting → List ℕ
+tiesBytes s = heatBytes s ++ (s .ties ∷ [])
+
 -- An item's tag; no log knows 0.
 abbrev pub tagOf : Item → ℕ
 tagOf (Window n) = 16
@@ -38,6 +42,7 @@ tagOf (Remove slot) = 19
 tagOf (Show slot) = 20
 tagOf (Timed time id) = 21
 tagOf (SetHeat s) = 22
+tagOf (SetTies s) = 23
 tagOf Unknown = 0
 
 -- Its value. A frame's data bytes stand beside the item; in the log they follow the identifier (rule 10.2), and a time stands before that (rule 15.1).
@@ -49,6 +54,7 @@ valueOf (Remove slot) ds = slot ∷ []
 valueOf (Show slot) ds = slot ∷ []
 valueOf (Timed time id) ds = bytes 4 time ++ (bytes 4 id ++ ds)
 valueOf (SetHeat s) ds = heatBytes s
+valueOf (SetTies s) ds = tiesBytes s
 valueOf Unknown ds = []
 
 -- Its bytes: a tagged field.
@@ -61,10 +67,11 @@ itemBytes i ds = field (tagOf i) (valueOf i ds)
 abbrev pub isItem : ℕ → List ℕ → ℕ → ℕ → Bool
 isItem tag v want size = eqb tag want && eqb (length v) size
 
--- The question in a value. One of 6 bytes has nothing from place 6 on, so its weight for heat is 0.
+-- The question in a value. One of 6 bytes has nothing from place 6 on, so its weight for heat is 0; one of 6 or 8 has nothing at place 8, so its tie rule is
+-- 0 (rule 18.6).
 abbrev pub settingIn : List ℕ → Setting
 settingIn v =
-    record { slot = getD v 0 0; k = getD v 1 0; loss = signed16 (number (part 2 2 v)); shake = signed16 (number (part 4 2 v)); heat = signed16 (number (part 6 2 v)) }
+    record { slot = getD v 0 0; k = getD v 1 0; loss = signed16 (number (part 2 2 v)); shake = signed16 (number (part 4 2 v)); heat = signed16 (number (part 6 2 v)); ties = getD v 8 0 }
 
 -- The data bytes in the value of an item: a frame's follow its identifier, and this the time if it has one. Other items have none.
 abbrev pub dataOf : Item → List ℕ → List ℕ
@@ -75,6 +82,7 @@ dataOf (Remove slot) v = []
 dataOf (Show slot) v = []
 dataOf (Timed time id) v = part 8 8 v
 dataOf (SetHeat s) v = []
+dataOf (SetTies s) v = []
 dataOf Unknown v = []
 
 -- What an item of this tag and value says; any other tag, or another length, is unknown.
@@ -87,4 +95,5 @@ itemIn tag v =
     (cond (isItem tag v 20 1) (Show (getD v 0 0))
     (cond (isItem tag v 21 16) (Timed (number (part 0 4 v)) (number (part 4 4 v)))
     (cond (isItem tag v 22 8) (SetHeat (settingIn v))
-    Unknown))))))
+    (cond (isItem tag v 23 9) (SetTies (settingIn v))
+    Unknown)))))))

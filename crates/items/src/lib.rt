@@ -8,21 +8,23 @@ ghost use lib.Dec.{eqb};
 ghost use lib.ListN.{length, take};
 ghost use lib.Seq.{sets};
 ghost use Rattle.wire.specs.Bytes.{bytes, part, field};
-ghost use Rattle.items.specs.Items.{signed16, unsigned16, settingIn, heatBytes, dataOf, itemIn, itemBytes};
+ghost use Rattle.items.specs.Items.{signed16, unsigned16, settingIn, tiesBytes, dataOf, itemIn, itemBytes};
 use wire::Field;
 
-// A question that is to be set: its slot, its k and its weights.
+// A question that is to be set: its slot, its k, its weights and its tie rule, 0 newest or 1 first-come; any byte is kept.
 pub struct Setting {
     pub slot: u8,
     pub k: u8,
     pub loss: i16,
     pub shake: i16,
     pub heat: i16,
+    pub ties: u8,
 }
 
-// An item by what it says: the size of the window, a question whose weight for heat is 0, a frame's identifier, a slot to
-// empty, a slot to show, the time and the identifier of a frame that has a time, a question with any weight for heat. A
-// frame's data bytes stay where they are, behind the identifier. An unknown tag, or a length that isn't its tag's, is unknown.
+// An item by what it says: the size of the window, a question whose weight for heat and tie rule are 0, a frame's identifier,
+// a slot to empty, a slot to show, the time and the identifier of a frame that has a time, a question with any weight for heat
+// whose tie rule is 0, a question with any weight for heat and any tie rule. A frame's data bytes stay where they are, behind
+// the identifier. An unknown tag, or a length that isn't its tag's, is unknown.
 pub enum Item {
     Window(u16),
     Set(Setting),
@@ -31,6 +33,7 @@ pub enum Item {
     Show(u8),
     Timed(u32, u32),
     SetHeat(Setting),
+    SetTies(Setting),
     Unknown,
 }
 
@@ -50,6 +53,8 @@ impl Item {
 
     pub const SET_HEAT: u8 = 22;
 
+    pub const SET_TIES: u8 = 23;
+
     // The lengths of their values.
     pub const WINDOW_SIZE: usize = 2;
 
@@ -64,6 +69,8 @@ impl Item {
     pub const TIMED_SIZE: usize = 16;
 
     pub const SET_HEAT_SIZE: usize = 8;
+
+    pub const SET_TIES_SIZE: usize = 9;
 
     // The longest value of a known item.
     pub const LONGEST: usize = 16;
@@ -105,6 +112,9 @@ impl Item {
         if is_item(tag, size, Item::SET_HEAT, Item::SET_HEAT_SIZE) {
             return Item::SetHeat(Setting::read(value));
         }
+        if is_item(tag, size, Item::SET_TIES, Item::SET_TIES_SIZE) {
+            return Item::SetTies(Setting::read(value));
+        }
         Item::Unknown
     }
 
@@ -130,10 +140,7 @@ impl Item {
                 wire::put_field16(room, at, Item::WINDOW, n);
                 Field::HEAD + Item::WINDOW_SIZE
             }
-            Item::Set(s) => {
-                put_setting(room, at, Item::SET, Item::SET_SIZE, s);
-                Field::HEAD + Item::SET_SIZE
-            }
+            Item::Set(s) => put_setting(room, at, Item::SET, Item::SET_SIZE, s),
             Item::Frame(id) => {
                 put_frame(room, at, Item::FRAME, wire::front(data, 0), id, data);
                 Field::HEAD + Item::DATA + data.len()
@@ -150,10 +157,8 @@ impl Item {
                 put_timed(room, at, time, id, data);
                 Field::HEAD + Item::TIME + Item::DATA + data.len()
             }
-            Item::SetHeat(s) => {
-                put_setting(room, at, Item::SET_HEAT, Item::SET_HEAT_SIZE, s);
-                Field::HEAD + Item::SET_HEAT_SIZE
-            }
+            Item::SetHeat(s) => put_setting(room, at, Item::SET_HEAT, Item::SET_HEAT_SIZE, s),
+            Item::SetTies(s) => put_setting(room, at, Item::SET_TIES, Item::SET_TIES_SIZE, s),
             Item::Unknown => {
                 wire::put_field(room, at, 0, wire::front(data, 0));
                 Field::HEAD
@@ -172,12 +177,14 @@ impl Setting {
         let loss = signed16(wire::read16(value, 2));
         let shake = signed16(wire::read16(value, 4));
         let heat = signed16(wire::read16(value, 6));
+        let ties = wire::byte(value, 8);
         Setting {
             slot,
             k,
             loss,
             shake,
             heat,
+            ties,
         }
     }
 }
@@ -222,17 +229,21 @@ fn unsigned16(z: i16) -> u16
     }
 }
 
-// Stores an item that sets a question: as much of its value as the tag has.
-fn put_setting(room: &mut [u8], at: usize, tag: u8, size: usize, s: Setting)
-    ensures { λ _. ⌜ now (room .exit) ≡ sets (now (room .entry)) at (field tag (take size (heatBytes s))) ⌝ }
+// Stores an item that sets a question, as much of its value as the tag has, and answers how many bytes it takes.
+fn put_setting(room: &mut [u8], at: usize, tag: u8, size: usize, s: Setting) -> usize
+    ensures { λ r. ⌜ r ≡ length (field tag (take size (tiesBytes s))) ⌝ }
+    ensures { λ _. ⌜ now (room .exit) ≡ sets (now (room .entry)) at (field tag (take size (tiesBytes s))) ⌝ }
 {
-    let mut value = [0u8; Item::SET_HEAT_SIZE];
+    let mut value = [0u8; Item::SET_TIES_SIZE];
     wire::put(&mut value, 0, s.slot);
     wire::put(&mut value, 1, s.k);
     wire::put16(&mut value, 2, unsigned16(s.loss));
     wire::put16(&mut value, 4, unsigned16(s.shake));
     wire::put16(&mut value, 6, unsigned16(s.heat));
-    wire::put_field(room, at, tag, wire::front(&value, size));
+    wire::put(&mut value, 8, s.ties);
+    let part = wire::front(&value, size);
+    wire::put_field(room, at, tag, part);
+    Field::HEAD + part.len()
 }
 
 // Stores an item that is a frame, with `first` before its identifier: the bytes of its time, or none.

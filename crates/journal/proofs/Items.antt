@@ -1,14 +1,15 @@
 -- What is done for each tag once there is a window, and for an item that no log knows.
 -- Assumes nothing.
-use mathlib.Core.Path.{_≡_}
+use mathlib.Core.Path.{_≡_, _∙_}
 use mathlib.Core.List.{List, [], _∷_}
 use Prim.Native.Nat.{ℕ}
+use native.Mathlib.Omega.{arith}
 use borrow.Author.Tests.{ne-eqb}
-use lib.ListN.{length}
+use lib.ListN.{length, length-append}
 use Rattle.items.specs.declared.Item.{Item}
 use Rattle.items.specs.declared.Item.the-variants.{Unknown}
 use Rattle.items.specs.Items.{settingIn, dataOf, itemIn}
-use Rattle.items.proofs.Reading.{withZero, set-read, frame-read, remove-read, show-read, timed-read, set-heat-read, set-as-heat}
+use Rattle.items.proofs.Reading.{withZero, withNewest, set-read, frame-read, remove-read, show-read, timed-read, set-heat-read, set-ties-read, set-as-heat, heat-as-ties}
 use Rattle.board.proofs.Refusals.{zero-is}
 use Rattle.journal.specs.declared.Log.{Log}
 use Rattle.journal.specs.Log.{withItem, refused, unless, early, itemRefusal, setItem, removeItem, showItem, frameIn, timedIn, frameItem, byItem, itemDone}
@@ -29,6 +30,16 @@ tag-17 log v e =
     let both = set-as-heat v e in
     rw (both .0, both .1)
 
+-- Rule 18.6: an item of tag 22 is one of tag 23 with the tie rule 0 behind its value, and one of tag 17 is it with both.
+pub tag-22 : (log : Log) (v : List ℕ) → length v ≡ 8 → itemDone log 22 v ≡ itemDone log 23 (withNewest v)
+unfolding itemDone itemRefusal byItem
+tag-22 log v e =
+    let both = heat-as-ties v e in
+    rw (both .0, both .1)
+
+pub tag-17-ties : (log : Log) (v : List ℕ) → length v ≡ 6 → itemDone log 17 v ≡ itemDone log 23 (withNewest (withZero v))
+tag-17-ties log v e = tag-17 log v e ∙ tag-22 log (withZero v) (omega (arith, length-append v (0 ∷ 0 ∷ [])))
+
 module _ (log : Log) (there : log .board .window .counts .size ≡ 0 → ⊥) where
   in-place : early (withItem log) ≡ 0
   in-place = rw (ne-eqb (log .board .window .counts .size) 0 there)
@@ -40,6 +51,10 @@ module _ (log : Log) (there : log .board .window .counts .size ≡ 0 → ⊥) wh
   pub set-heat-done : (v : List ℕ) → length v ≡ 8 → itemDone log 22 v ≡ setItem (withItem log) (settingIn v)
   unfolding itemRefusal byItem
   set-heat-done v e = done-by log 22 v (set-heat-read v e) in-place
+
+  pub set-ties-done : (v : List ℕ) → length v ≡ 9 → itemDone log 23 v ≡ setItem (withItem log) (settingIn v)
+  unfolding itemRefusal byItem
+  set-ties-done v e = done-by log 23 v (set-ties-read v e) in-place
 
   pub frame-done : (v : List ℕ) → length v ≡ 12 → itemDone log 18 v ≡ frameItem (withItem log) (frameIn v)
   unfolding itemRefusal byItem

@@ -12,7 +12,7 @@ use lib.Dec.{eqb, ltb, leb}
 use lib.ListN.{length, take, length-map, length-take, getD-replicate}
 use Rattle.values.specs.declared.Values.{Values}
 use Rattle.values.specs.Range.{inRange}
-use Rattle.ranking.specs.Cells.{ruleOf, weightsFit, rangesProper}
+use Rattle.ranking.specs.Cells.{weightsFit, rangesProper, tiesKnown}
 use Rattle.ranking.specs.declared.Weights.{Weights}
 use Rattle.ranking.specs.declared.Rule.{Rule}
 use Rattle.laws.proofs.Tests.{Tested, passed, failed, tested, and-both, if-so, if-not, either}
@@ -58,7 +58,7 @@ use Rattle.text.specs.Text as text
 use Rattle.text.proofs.Lengths.{listed-in-range}
 use Rattle.items.specs.declared.Setting.{Setting}
 use Rattle.items.specs.declared.Item.{Item}
-use Rattle.items.specs.declared.Item.the-variants.{Window, Set, Remove, Show, SetHeat, Unknown}
+use Rattle.items.specs.declared.Item.the-variants.{Window, Set, Remove, Show, SetHeat, SetTies, Unknown}
 use Rattle.items.specs.declared.Item.the-variants as item
 use Rattle.items.specs.Items.{dataOf, itemIn}
 use Rattle.journal.specs.declared.Log.{Log}
@@ -82,13 +82,20 @@ pub record Does (fs : List Timed) (item : ℕ) (o : Outcome) : Type 0 where
   pub own : Own fs (o .log)
   pub prints : Prints item (o .text)
 
+-- The numbers that the board's calls refuse with, or 0.
+abbrev Few : ℕ → Type 0
+Few n = (n ≤ 23) ⊎ (n ≡ 33)
+
+coded : {n : ℕ} → (n ≡ 0 → ⊥) → Few n → Code n
+coded positive (inl h) = inl (omega arith, h)
+coded positive (inr e) = inr (inr e)
+
 -- The two cases of a call.
 module _ {fs : List Timed} (log : Log) (n : ℕ) where
-  refuses : (done : Outcome) → Own fs log → n ≤ 23 → eqb n 0 ≡ false → Does fs (log .items) (unless log n done)
+  refuses : (done : Outcome) → Own fs log → Few n → eqb n 0 ≡ false → Does fs (log .items) (unless log n done)
   unfolding unless
   refuses done own few t =
-      let positive = eqb-false n 0 t in
-      subst (Does fs (log .items)) (sym (if-not _ _ t)) (record { own = own; prints = refusal n (inl (omega arith, few)) refl })
+      subst (Does fs (log .items)) (sym (if-not _ _ t)) (record { own = own; prints = refusal n (coded (eqb-false n 0 t) few) refl })
 
   does : {done : Outcome} → eqb n 0 ≡ true → Does fs (log .items) done → Does fs (log .items) (unless log n done)
   unfolding unless
@@ -120,24 +127,28 @@ window-does {fs} log own first n = go (tested (eqb (made .refusal) 0))
 
     go : Tested (eqb (made .refusal) 0) → Does fs (log .items) (windowItem log n)
     go (passed t) = does log (made .refusal) t (record { own = record { board-is = left (eqb-true _ 0 t); heard = own .heard }; prints = nothing refl })
-    go (failed t) = refuses log (made .refusal) _ own (fresh-code _) t
+    go (failed t) = refuses log (made .refusal) _ own (inl (fresh-code _)) t
 
 -- ---- the board's calls
 
--- An item gives no range, so none of 24 on is its refusal: 30 isn't.
-set-code : (b : Board) (slot k : ℕ) (w : Weights) → setWork b slot k (ruleOf w) .refusal ≤ 23
+-- An item gives no range, so 30 isn't its refusal.
+set-code : (b : Board) (slot k : ℕ) (s : Setting) → Few (setWork b slot k (settingRule s) .refusal)
 unfolding rangesProper
-set-code b slot k w = go (tested (ltb slot 32))
+set-code b slot k s = go (tested (ltb slot 32))
   where
     rule : Rule
-    rule = ruleOf w
+    rule = settingRule s
 
-    go : Tested (ltb slot 32) → setWork b slot k (ruleOf w) .refusal ≤ 23
-    go (failed t) = omega (arith, ap (λ (r : Placed). r .refusal) (set-nowhere b slot k rule (ltb-false slot 32 t)))
+    few : (t : Bool) {n x : ℕ} → Few n → Few x → Few (cond t x n)
+    few t k h = either Few t (λ e. h) (λ e. k)
+
+    go : Tested (ltb slot 32) → Few (setWork b slot k rule .refusal)
+    go (failed t) = inl (omega (arith, ap (λ (r : Placed). r .refusal) (set-nowhere b slot k rule (ltb-false slot 32 t))))
     go (passed t) =
-        subst (λ (n : ℕ). n ≤ 23) (sym (ap (λ (r : Placed). r .refusal) (set-there b slot k rule (ltb-true slot 32 t)) ∙ set-refusal (slotAt b slot) k rule (inRows (b .window))))
-        (code (leb 1 k && leb k 16) 14 (omega arith)
-        (code (weightsFit rule) 15 (omega arith) (code (eqb (slotAt b slot .k) 0) 16 {x = 0} (omega arith) (omega arith))))
+        subst Few (sym (ap (λ (r : Placed). r .refusal) (set-there b slot k rule (ltb-true slot 32 t)) ∙ set-refusal (slotAt b slot) k rule (inRows (b .window))))
+        (few (leb 1 k && leb k 16) (inl (omega arith))
+        (few (weightsFit rule) (inl (omega arith))
+        (few (tiesKnown rule) (inr refl) (inl (code (eqb (slotAt b slot .k) 0) 16 {x = 0} (omega arith) (omega arith))))))
 
 remove-code : (b : Board) (slot : ℕ) → removeWork b slot .refusal ≤ 23
 unfolding removeWork
@@ -196,7 +207,7 @@ module _ (fs : List Timed) (log : Log) (heard : stationsOf log ≡ stationsAfter
   owns : {c : Board} → Boarded fs c → Own fs (withBoard log c)
   owns is = record { board-is = is; heard = heard }
 
-  refused-does : (n : ℕ) (done : Outcome) → Boarded fs b → n ≤ 23 → eqb n 0 ≡ false → Does fs (log .items) (unless log n done)
+  refused-does : (n : ℕ) (done : Outcome) → Boarded fs b → Few n → eqb n 0 ≡ false → Does fs (log .items) (unless log n done)
   refused-does n done is few t = refuses log n done (record { board-is = is; heard = heard }) few t
 
   set-does : (s : Setting) → Boarded fs (setWork b (s .slot) (s .k) (settingRule s) .board) → Does fs (log .items) (setItem log s)
@@ -223,7 +234,7 @@ module _ (fs : List Timed) (log : Log) (heard : stationsOf log ≡ stationsAfter
           let there = settable b slot k rule (eqb-true _ 0 t) .there in
           does log (placed .refusal) t (record { own = owns is; prints = search slot _ there (few there) refl })
       go (failed t) =
-          refused-does (placed .refusal) _ (subst (Boarded fs) (set-kept b slot k rule (eqb-false _ 0 t)) is) (set-code b slot k (weightsOf s)) t
+          refused-does (placed .refusal) _ (subst (Boarded fs) (set-kept b slot k rule (eqb-false _ 0 t)) is) (set-code b slot k s) t
 
   remove-does : (slot : ℕ) → Boarded fs (removeWork b slot .board) → Does fs (log .items) (removeItem log slot)
   unfolding removeItem
@@ -231,7 +242,7 @@ module _ (fs : List Timed) (log : Log) (heard : stationsOf log ≡ stationsAfter
     where
       go : Tested (eqb (removeWork b slot .refusal) 0) → Does fs (log .items) (removeItem log slot)
       go (passed t) = does log (removeWork b slot .refusal) t (record { own = owns is; prints = nothing refl })
-      go (failed t) = refused-does (removeWork b slot .refusal) _ (subst (Boarded fs) (remove-kept b slot (eqb-false _ 0 t)) is) (remove-code b slot) t
+      go (failed t) = refused-does (removeWork b slot .refusal) _ (subst (Boarded fs) (remove-kept b slot (eqb-false _ 0 t)) is) (inl (remove-code b slot)) t
 
   enter-does : length (b .slots) ≡ 32 → (v : Values) → Boarded fs (enterWork b v .board) → Does fs (log .items) (enterItem log v)
   unfolding enterItem enterWork
@@ -252,7 +263,7 @@ module _ (fs : List Timed) (log : Log) (heard : stationsOf log ≡ stationsAfter
             own = owns is;
             prints = searches _ _ (length-map (b .slots) (λ q. turned (b .window) v q .searched) ∙ many) (map-few steps (λ q. turn-few q (newReport (b .window) v) (outgoing (b .window)) (inRows (added (b .window) v))) (b .slots)) refl;
           }))
-      go (failed t) = subst P (sym (if-not _ _ t)) (λ is. refuses log (enterRefusal (b .window .counts) v) _ (owns is) (enter-code (b .window .counts) v) t)
+      go (failed t) = subst P (sym (if-not _ _ t)) (λ is. refuses log (enterRefusal (b .window .counts) v) _ (owns is) (inl (enter-code (b .window .counts) v)) t)
 
   show-does : (slot : ℕ) → Boarded fs b → ((slot : ℕ) → slot < 32 → Small (slotAt b slot)) → Does fs (log .items) (showItem log slot)
   unfolding showItem readWork readIn
@@ -269,14 +280,14 @@ module _ (fs : List Timed) (log : Log) (heard : stationsOf log ≡ stationsAfter
           let short : length (take (q .len) (text.entriesOf (numbersIn (q .names)) (q .scores))) ≤ 16 = simp length-take (omega (arith, small .few)) in
           subst P (sym (if-so _ _ t ∙ if-not _ _ u))
           (does log 0 refl (record { own = owns is; prints = list slot _ there short (listed-in-range (q .len) (numbersIn (q .names)) (q .scores) (small .numbers) (small .scores)) refl }))
-      go (passed t) (passed u) = subst P (sym (if-so _ _ t ∙ if-so _ _ u)) (refused-does 17 _ is (omega arith) refl)
-      go (failed t) u = subst P (sym (if-not _ _ t)) (refused-does 13 _ is (omega arith) refl)
+      go (passed t) (passed u) = subst P (sym (if-so _ _ t ∙ if-so _ _ u)) (refused-does 17 _ is (inl (omega arith)) refl)
+      go (failed t) u = subst P (sym (if-not _ _ t)) (refused-does 13 _ is (inl (omega arith)) refl)
 
 -- ---- a frame
 
 named : {n : ℕ} → ((1 ≤ n) × (n ≤ 10)) ⊎ (n ≡ 26) → Code n
 named (inl h) = inl (h .0, omega arith)
-named (inr e) = inr e
+named (inr e) = inr (inl e)
 
 -- What a frame's answer brings, to a log whose session has taken the frame.
 module _ (fs : List Timed) (f : Timed) (log : Log) (heard : stationsOf log ≡ stationsAfterAll freshStations (fs ++ f ∷ [])) {n : ℕ} {past : List Values} (reached : board.Reached n past (log .board))
@@ -319,6 +330,7 @@ item-code log (Remove slot) = early-code log
 item-code log (Show slot) = early-code log
 item-code log (item.Timed time id) = early-code log
 item-code log (SetHeat s) = early-code log
+item-code log (SetTies s) = early-code log
 
 pub no-window : freshBoard 0 .board .window .counts .size ≡ 0
 unfolding freshBoard freshWindow
@@ -366,6 +378,7 @@ module _ (fs : List Timed) (log : Log) (own : Own fs log) where
   by-item-does (Show slot) ds passes = standing passes (λ n past r fits same. no-frame (show-does fs log (own .heard) slot (own .board-is) (slots-small (log .board) r fits)))
   by-item-does (item.Timed time id) ds passes = standing passes (λ n past r fits same. frame-does fs log (own .heard) r fits same (timedAt time id ds))
   by-item-does (SetHeat s) ds passes = asks s passes
+  by-item-does (SetTies s) ds passes = asks s passes
 
 pub fresh-own : Own [] freshLog
 unfolding freshLog stationsAfterAll
@@ -389,7 +402,7 @@ item-does fs log own tag v = go (tested (eqb code-of 0))
     A gs = Does gs (nextItem (log .items)) (itemDone log tag v)
 
     go : Tested (eqb code-of 0) → A (fs ++ frameOf log tag v)
-    go (failed t) = subst A (sym (ap (λ x. fs ++ cond x (framed i (dataOf i v)) []) t ∙ append-nil fs)) (refuses (withItem log) code-of _ more (item-code (withItem log) i) t)
+    go (failed t) = subst A (sym (ap (λ x. fs ++ cond x (framed i (dataOf i v)) []) t ∙ append-nil fs)) (refuses (withItem log) code-of _ more (inl (item-code (withItem log) i)) t)
     go (passed t) =
         subst A (sym (ap (λ x. fs ++ cond x (framed i (dataOf i v)) []) t))
         (does (withItem log) code-of t (by-item-does fs (withItem log) more i (dataOf i v) (eqb-true _ 0 t)))

@@ -1,4 +1,4 @@
--- What an item prints is at most `Waiting::MOST` bytes long and refuses by no other code than 1 to 23 and 26: it is one line, or a line for each of 32 slots, and every number in it is small.
+-- What an item prints is at most `Waiting::MOST` bytes long and refuses by no other code than 1 to 23, 26 and 33: it is one line, or a line for each of 32 slots, and every number in it is small.
 -- Assumes nothing.
 use mathlib.Core.Path.{_≡_, refl, sym, ap, ap₂, _∙_, subst}
 use mathlib.Core.Logic.{_⊎_, inl, inr}
@@ -14,7 +14,7 @@ use Rattle.journal.specs.Log.{sLines}
 
 -- The refusals that an item can be answered where nothing is unfit.
 abbrev pub Code : ℕ → Type 0
-Code n = ((1 ≤ n) × (n ≤ 23)) ⊎ (n ≡ 26)
+Code n = ((1 ≤ n) × (n ≤ 23)) ⊎ ((n ≡ 26) ⊎ (n ≡ 33))
 
 -- Nothing, its refusal, the line of the search that it ran, those of the searches of all slots, or a list.
 pub data Prints (item : ℕ) (text : List ℕ) : Type 0 where
@@ -41,7 +41,8 @@ module _ (item : ℕ) (small : item < 2 ^ 64) where
   pub at-most : {text : List ℕ} → Prints item text → length text ≤ 1056
   at-most (nothing e) = rw e (omega arith)
   at-most (refusal code (inl h) e) = rw e (omega (arith, rLine-longest item code small (omega arith)))
-  at-most (refusal code (inr h) e) = rw e (omega (arith, rLine-longest item code small (omega arith)))
+  at-most (refusal code (inr (inl h)) e) = rw e (omega (arith, rLine-longest item code small (omega arith)))
+  at-most (refusal code (inr (inr h)) e) = rw e (omega (arith, rLine-longest item code small (omega arith)))
   at-most (search slot steps h k e) = rw e (omega (arith, sLine-longest item slot steps small (omega arith) (omega arith)))
   at-most (searches bs ns h k e) = rw e (omega (arith, lines-longest 0 bs ns (omega arith) k))
   at-most (list slot es h n r e) = rw e (omega (arith, qLine-longest slot es (omega arith) n r))

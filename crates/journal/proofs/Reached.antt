@@ -75,10 +75,11 @@ unfolding showItem readWork readIn unless
 show-text log slot there h used =
     ap (λ (o : Outcome). o .text) (show-done log (eqb-false (log .board .window .counts .size) 0 there) slot) ∙ rw (lt-ltb slot 32 h, ne-eqb (slotAt (log .board) slot .k) 0 used)
 
--- an item is refused 1 to 23, or 26
-no-code : (n : ℕ) → 24 ≤ n → (n ≡ 26 → ⊥) → Code n → ⊥
-no-code n h e (inl c) = omega arith
-no-code n h e (inr c) = e c
+-- an item is refused 1 to 23, 26 or 33
+no-code : (n : ℕ) → 24 ≤ n → (n ≡ 26 → ⊥) → n < 33 → Code n → ⊥
+no-code n h e k (inl c) = omega arith
+no-code n h e k (inr (inl c)) = e c
+no-code n h e k (inr (inr c)) = omega arith
 
 module _ {log : Log} (reached : Reached log) where
   -- `Waiting::MOST`: what any next item prints.
@@ -89,11 +90,11 @@ module _ {log : Log} (reached : Reached log) where
 
   -- No item is refused 24: what a log keeps is fit.
   pub no-24 : (tag : ℕ) (v : List ℕ) (n : ℕ) → itemDone log tag v .text ≡ rLine n 24 → ⊥
-  no-24 tag v n e = never (item-does (framesOf reached) log (own reached) tag v .prints) 24 (no-code 24 (omega arith) (λ e. omega arith)) n e
+  no-24 tag v n e = never (item-does (framesOf reached) log (own reached) tag v .prints) 24 (no-code 24 (omega arith) (λ e. omega arith) (omega arith)) n e
 
   -- None is refused 30: no item gives a range.
   pub no-30 : (tag : ℕ) (v : List ℕ) (n : ℕ) → itemDone log tag v .text ≡ rLine n 30 → ⊥
-  no-30 tag v n e = never (item-does (framesOf reached) log (own reached) tag v .prints) 30 (no-code 30 (omega arith) (λ e. omega arith)) n e
+  no-30 tag v n e = never (item-does (framesOf reached) log (own reached) tag v .prints) 30 (no-code 30 (omega arith) (λ e. omega arith) (omega arith)) n e
 
   -- The sessions and last times are those that the log's frames lead to.
   pub log-stations : stationsOf log ≡ stationsAfterAll freshStations (framesOf reached)

@@ -37,7 +37,7 @@ module _ {log : Log} (reached : Reached log) (there : log .board .window .counts
   abbrev placed : Placed
   placed = setCall b slot (getD v 1 0) (ruleIn v)
 
-  -- An item of tag 17 or 22 (`set-done`, `set-heat-done`) that isn't refused.
+  -- An item of tag 17, 22 or 23 (`set-done`, `set-heat-done`, `set-ties-done`) that isn't refused.
   module _ (tag : ℕ) (is : itemDone log tag v ≡ setItem (withItem log) (settingIn v)) (taken : placed .refusal ≡ 0) where
     -- It prints the steps of its search.
     pub set-prints : itemDone log tag v ≡ record { text = sLine (nextItem (log .items)) slot (placed .steps); log = withBoard (withItem log) (placed .board) }

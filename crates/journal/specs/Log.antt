@@ -1,4 +1,4 @@
--- The text that a whole log fixes, item by item (docs/RULES.md, sections 11 and 15, and rule 17.7).
+-- The text that a whole log fixes, item by item (docs/RULES.md, sections 11 and 15, and rules 17.7 and 18.6).
 use Prim.Native.Nat.{ℕ, zero, suc, _+_, _-_, _^_, min}
 use mathlib.Core.Path.{_≡_}
 use mathlib.Core.Bool.{Bool, cond}
@@ -11,13 +11,13 @@ use Rattle.wire.specs.declared.Field.{Field}
 use Rattle.wire.specs.declared.Field.the-variants.{Whole, Cut}
 use Rattle.items.specs.declared.Setting.{Setting}
 use Rattle.items.specs.declared.Item.{Item}
-use Rattle.items.specs.declared.Item.the-variants.{Window, Set, Remove, Show, SetHeat, Unknown}
+use Rattle.items.specs.declared.Item.the-variants.{Window, Set, Remove, Show, SetHeat, SetTies, Unknown}
 use Rattle.items.specs.declared.Item.the-variants as item
 use Rattle.items.specs.Items.{settingIn, dataOf, itemIn}
 use Rattle.values.specs.declared.Values.{Values}
 use Rattle.ranking.specs.declared.Rule.{Rule}
 use Rattle.ranking.specs.declared.Weights.{Weights}
-use Rattle.ranking.specs.Cells.{ruleOf}
+use Rattle.ranking.specs.Cells.{ruleOf, tiedBy}
 use Rattle.board.specs.declared.Board.{Board}
 use Rattle.board.specs.Work.{freshBoard, setWork, removeWork, readWork, enterWork}
 use Rattle.joining.specs.Run.{freshSessions}
@@ -87,6 +87,7 @@ itemRefusal log (Remove slot) = early log
 itemRefusal log (Show slot) = early log
 itemRefusal log (item.Timed time id) = early log
 itemRefusal log (SetHeat s) = early log
+itemRefusal log (SetTies s) = early log
 
 -- Rule 11.1, tag 16: the window is made.
 unfoldable pub windowItem : Log → ℕ → Outcome
@@ -99,12 +100,12 @@ abbrev pub weightsOf : Setting → Weights
 weightsOf s = record { loss = s .loss; shake = s .shake; heat = s .heat }
 
 abbrev pub settingRule : Setting → Rule
-settingRule s = ruleOf (weightsOf s)
+settingRule s = tiedBy (s .ties) (ruleOf (weightsOf s))
 
 abbrev pub ruleIn : List ℕ → Rule
 ruleIn v = settingRule (settingIn v)
 
--- Tags 17 and 22: a question is set, and so searched; the S line of that search (rule 11.2).
+-- Tags 17, 22 and 23: a question is set, and so searched; the S line of that search (rule 11.2).
 unfoldable pub setItem : Log → Setting → Outcome
 setItem log s =
     let placed = setWork (log .board) (s .slot) (s .k) (settingRule s) in
@@ -161,6 +162,7 @@ byItem log (Remove slot) ds = removeItem log slot
 byItem log (Show slot) ds = showItem log slot
 byItem log (item.Timed time id) ds = frameItem log (timedAt time id ds)
 byItem log (SetHeat s) ds = setItem log s
+byItem log (SetTies s) ds = setItem log s
 byItem log Unknown ds = noText log
 
 -- Rules 11.1 and 9.4: an item counts, also where it is skipped; 22, 23, then the refusals of its call. (21 is `ending`.)

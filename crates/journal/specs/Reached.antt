@@ -32,6 +32,7 @@ framed (said.Set s) ds = []
 framed (said.Remove slot) ds = []
 framed (said.Show slot) ds = []
 framed (said.SetHeat s) ds = []
+framed (said.SetTies s) ds = []
 framed said.Unknown ds = []
 
 -- The frame of an item that isn't skipped, if it is one.

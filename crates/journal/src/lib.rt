@@ -148,12 +148,11 @@ impl Log {
     {
         match item {
             Item::Window(n) => self.window_item(n, out, at),
-            Item::Set(s) => self.set_item(s, out, at),
+            Item::Set(s) | Item::SetHeat(s) | Item::SetTies(s) => self.set_item(s, out, at),
             Item::Frame(id) => self.frame_item(id, data, out, at),
             Item::Remove(slot) => self.remove_item(slot, out, at),
             Item::Show(slot) => self.show_item(slot, out, at),
             Item::Timed(time, id) => self.timed_item(time, id, data, out, at),
-            Item::SetHeat(s) => self.set_item(s, out, at),
             Item::Unknown => Done { log: self, at },
         }
     }
@@ -308,7 +307,7 @@ pub fn next_item(items: u64) -> u64
 fn setting_rule(s: Setting) -> Rule
     ensures { λ r. ⌜ r ≡ settingRule s ⌝ }
 {
-    Rule::of(weights_of(s))
+    Rule::of(weights_of(s)).tied(s.ties)
 }
 
 fn weights_of(s: Setting) -> Weights

@@ -10,7 +10,7 @@ use Rattle.laws.specs.Whole.{equal}
 use Rattle.search.specs.Best.{placed}
 use Rattle.values.specs.Names.{editions}
 use Rattle.ranking.specs.declared.Rule.{Rule}
-use Rattle.ranking.specs.Standing.{Held, Entry, top}
+use Rattle.ranking.specs.Standing.{Held, Entry, laterFirst, top}
 use Rattle.list.specs.Lines.{mostLines, columnsOf}
 use Rattle.list.specs.declared.Bar.{Bar}
 
@@ -44,9 +44,9 @@ module _ {E : Type 0} (above : E → E → Bool) where
 unfoldable pub leastAt : Bar → ℤ
 leastAt bar = cond (bar .full) (bar .score) (negsuc 2147483647)
 
--- A full list's last line has that score.
-unfoldable pub ties : Bar → ℤ → Bool
-ties bar s = bar .full && equal s (bar .score)
+-- A full list's last line has that score, and of equal ones the newer goes first.
+unfoldable pub turns : Rule → Bar → ℤ → Bool
+turns rule bar s = equal s (bar .score) && bar .full && laterFirst rule
 
 -- An entry passes the bar: the number in its name isn't 0, and where the list is full it ranks above the last line.
 unfoldable pub admits : (Entry → Entry → Bool) → Bar → Entry → Bool

@@ -11,7 +11,7 @@ ghost use Rattle.window.specs.Rows.{rowCount, standing};
 ghost use Rattle.list.specs.Lines.{mostLines, linesOf, linesIn, columnsOf, allOf, falls, blank, numbersIn, editionsIn};
 ghost use Rattle.list.specs.Bars.{barAt, barOf};
 ghost use Rattle.list.specs.Rows.{rowsOf};
-ghost use Rattle.list.specs.Inner.{Roomy, rankIn, newIn, slid, Placing, leastAt, ties, admits, wiped, Gathered};
+ghost use Rattle.list.specs.Inner.{Roomy, rankIn, newIn, slid, Placing, leastAt, turns, admits, wiped, Gathered};
 use ranking::Rule;
 use ranking::Score;
 use values::Name;
@@ -162,12 +162,14 @@ impl Bar {
         -2147483648
     }
 
-    // A full list's last line has that score.
-    fn ties(self, score: i32) -> bool
-        ensures { λ r. ⌜ r ≡ ties self score ⌝ }
+    // A full list's last line has that score, and of equal ones the newer goes first.
+    fn turns(self, rule: Rule, score: i32) -> bool
+        ensures { λ r. ⌜ r ≡ turns rule self score ⌝ }
     {
-        if self.full {
-            return score == self.score;
+        if score == self.score {
+            if self.full {
+                return rule.later_first();
+            }
         }
         false
     }
@@ -229,7 +231,8 @@ pub fn gathered<'a>(
 }
 
 // The best of the rows from the first on, up to one whose report would displace a line of its own score, which isn't
-// taken: of equal scores the newer goes first, so the rows from there on displace less if they are read from the last down.
+// taken: where the newer of equal scores goes first, the rows from there on displace less if they are read from the last
+// down. Where the older does, all rows are taken.
 fn upward<'a, 'b>(
     rule: Rule,
     most: usize,
@@ -264,7 +267,7 @@ fn upward<'a, 'b>(
         if !bar.admits(rule, name, score) {
             continue;
         }
-        if bar.ties(score) {
+        if bar.turns(rule, score) {
             stop = here;
             continue;
         }

@@ -9,6 +9,7 @@ enum Word {
     Heat,
     Loss,
     Shake,
+    Rule,
     Note,
     Room,
     At,
@@ -31,6 +32,8 @@ pub struct Extras {
     // A question's ranges.
     pub loss: Said,
     pub shake: Said,
+    // Its tie rule.
+    pub ties: Said,
     // A note, which is the bytes in the word of that number; no bytes where none stand there.
     pub note: Said,
     // The room lent to the writer, in bytes.
@@ -50,6 +53,9 @@ impl Word {
         if lines::same(word, b"shake") {
             return Word::Shake;
         }
+        if lines::same(word, b"rule") {
+            return Word::Rule;
+        }
         if lines::same(word, b"note") {
             return Word::Note;
         }
@@ -68,6 +74,7 @@ impl Word {
             Form::Set | Form::PokeSlot => match self {
                 Word::Heat => b'w',
                 Word::Loss | Word::Shake => b'h',
+                Word::Rule => b'b',
                 _ => 0,
             },
             Form::Enter => match self {
@@ -129,7 +136,7 @@ impl Said {
 
 impl Extras {
     // The most such words that a form has.
-    pub const WORDS: u8 = 3;
+    pub const WORDS: u8 = 4;
 
     fn none(at: u8) -> Extras {
         let none = Said::none();
@@ -139,6 +146,7 @@ impl Extras {
             heat: none,
             loss: none,
             shake: none,
+            ties: none,
             note: none,
             room: none,
             time: none,
@@ -187,6 +195,7 @@ impl Extras {
             Word::Heat => self.heat,
             Word::Loss => self.loss,
             Word::Shake => self.shake,
+            Word::Rule => self.ties,
             Word::Note => self.note,
             Word::Room => self.room,
             _ => self.time,
@@ -198,6 +207,7 @@ impl Extras {
             Word::Heat => self.heat = said,
             Word::Loss => self.loss = said,
             Word::Shake => self.shake = said,
+            Word::Rule => self.ties = said,
             Word::Note => self.note = said,
             Word::Room => self.room = said,
             _ => self.time = said,

@@ -5,6 +5,7 @@ use orders::BoardOrder;
 use orders::Extras;
 use orders::Said;
 use question::Question;
+use ranges::byte;
 use ranges::short;
 use ranges::weight;
 use ranking::Range;
@@ -59,7 +60,7 @@ fn poked_slot(question: Question, order: BoardOrder) -> Question {
             let old = question.rule;
             let heat = old.weights.heat;
             let ranges = old.ranges;
-            let rule = Rule::within(Weights { loss, shake, heat }, ranges);
+            let rule = Rule::within(Weights { loss, shake, heat }, ranges).tied(old.ties);
             with_numbers(question, k, ruled(rule, extras), len, next)
         }
         BoardOrder::PokeLine {
@@ -73,13 +74,20 @@ fn poked_slot(question: Question, order: BoardOrder) -> Question {
     }
 }
 
-// The rule with the heat's weight and the ranges that a line says; what it doesn't say stays.
+// The rule with the heat's weight, the ranges and the tie rule that a line says; what it doesn't say stays.
 pub fn ruled(rule: Rule, extras: Extras) -> Rule {
     let weights = weighted(rule.weights, extras.heat);
     let ranges = rule.ranges;
     let loss = bounded(ranges.loss, extras.loss);
     let shake = bounded(ranges.shake, extras.shake);
-    Rule::within(weights, Ranges { loss, shake })
+    Rule::within(weights, Ranges { loss, shake }).tied(tied(rule.ties, extras.ties))
+}
+
+fn tied(ties: u8, said: Said) -> u8 {
+    if said.said {
+        return byte(said.first);
+    }
+    ties
 }
 
 fn weighted(mut weights: Weights, said: Said) -> Weights {

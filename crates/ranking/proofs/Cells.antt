@@ -22,7 +22,7 @@ use Rattle.values.specs.declared.Edition.the-variants.{First, Second}
 use Rattle.values.specs.Range.{heatInRange, inRange, low}
 use Rattle.values.specs.Names.{editionOf}
 use Rattle.values.proofs.Facts.{range-facts, range-is}
-use Rattle.ranking.specs.Cells.{inside, weightFits, weightsFit, isProper, rangesProper, fitRule, heatCounts, counts, heatOf, weighed, sum, score, isScored, points, ScoreFits, fromLeast, valuesNamed, cell, meets, cellCounts, nearest, corner, cornerHeat, cornerOf, bestScore, greater, before, numbersBelow, cells, countedCells, mostSteps, visiting, inOrder}
+use Rattle.ranking.specs.Cells.{inside, weightFits, weightsFit, isProper, rangesProper, tiesKnown, fitRule, heatCounts, counts, heatOf, weighed, sum, score, isScored, points, ScoreFits, fromLeast, valuesNamed, cell, meets, cellCounts, nearest, corner, cornerHeat, cornerOf, bestScore, greater, before, numbersBelow, cells, countedCells, mostSteps, visiting, inOrder}
 use Rattle.ranking.specs.Inner.{pairPart, hottest, editionBy, Words}
 use Rattle.ranking.specs.declared.Range.{Range}
 use Rattle.ranking.specs.declared.Rule.{Rule}
@@ -621,19 +621,23 @@ module _ (rule : Rule) where
       go (passed e) = rw e h
       go (failed e) = rw e (record { sfits = omega arith })
 
-  -- a rule is fit in both parts
-  pub fit-both : weightsFit rule ≡ true → rangesProper rule ≡ true → fitRule rule ≡ true
+  -- a rule is fit in its three parts
+  pub fit-all : weightsFit rule ≡ true → rangesProper rule ≡ true → tiesKnown rule ≡ true → fitRule rule ≡ true
   unfolding fitRule
-  fit-both a b = and-true a b
+  fit-all a b c = and-true (and-true a b) c
+
+  pub fit-parts : fitRule rule ≡ true → (weightsFit rule ≡ true) × (rangesProper rule ≡ true)
+  unfolding fitRule
+  fit-parts fit = and-both (weightsFit rule) (rangesProper rule) (and-both (weightsFit rule && rangesProper rule) (tiesKnown rule) fit .0)
 
   -- the low ends of a fit rule's ranges are values that count
   abbrev pub lowEnds : Values
   lowEnds = record { loss = losses .low; shake = shakes .low; edition = Second 0 }
 
   pub fit-counts : fitRule rule ≡ true → (inRange lowEnds ≡ true) × (counts rule lowEnds ≡ true)
-  unfolding fitRule rangesProper counts
+  unfolding rangesProper counts
   fit-counts fit =
-      let both = and-both (isProper losses) (isProper shakes) (and-both (weightsFit rule) (rangesProper rule) fit .1) in
+      let both = and-both (isProper losses) (isProper shakes) (fit-parts fit .1) in
       let a = ends losses (both .0) in
       let b = ends shakes (both .1) in
       (range-is lowEnds (a .0) (b .0) refl, and-true (and-true (a .1) (b .1)) refl)
@@ -647,9 +651,8 @@ module _ (rule : Rule) where
 
   -- every score by a fit rule fits
   pub score-fits : fitRule rule ≡ true → (v : Values) → inRange v ≡ true → ScoreFits rule v
-  unfolding fitRule
   score-fits fit v h =
-      let f = weights-facts (and-both (weightsFit rule) (rangesProper rule) fit .0) in
+      let f = weights-facts (fit-parts fit .0) in
       points-fit v
       (word-fits v
       (record {

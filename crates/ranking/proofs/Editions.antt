@@ -24,7 +24,7 @@ use Rattle.values.specs.declared.Edition.the-variants.{First}
 use Rattle.values.specs.Names.{editions, named}
 use Rattle.values.proofs.Names.{name-number, name-rises}
 use Rattle.ranking.specs.Cells.{columns, inside, weightFits, weightsFit, isScored, points, score, cell, corner, cornerOf, bestScore, greater, visiting}
-use Rattle.ranking.specs.Standing.{Held, Entry, goesFirst, above, isCounted, counted, entry, entries, top, reaches, searchOf}
+use Rattle.ranking.specs.Standing.{Held, Entry, laterFirst, goesFirst, above, isCounted, counted, entry, entries, top, reaches, searchOf}
 use Rattle.ranking.specs.declared.Rule.{Rule}
 use Rattle.ranking.specs.declared.Score.the-variants.{Scored, DoesNotCount}
 use Rattle.ranking.proofs.Cells.{counts-pair, sum-pair, score-pair}
@@ -157,9 +157,15 @@ module _ (rule : Rule) (none : rule .weights .heat ≡ pos 0) where
   stand : (g h : Held) → Differ g h → Kept (above rule) (above-strict rule) lineAsFirst (entry rule g) (entry rule h)
   unfolding above goesFirst
   stand g h other = (
-    ap (greater (entry rule g .score) (entry rule h .score)) (names-first (h .number) (g .number) (h .values .edition) (g .values .edition) (λ e. other (sym e))),
-    ap (greater (entry rule h .score) (entry rule g .score)) (names-first (g .number) (h .number) (g .values .edition) (h .values .edition) other),
+    ap (greater (entry rule g .score) (entry rule h .score)) (ap₂ (cond (laterFirst rule)) back on),
+    ap (greater (entry rule h .score) (entry rule g .score)) (ap₂ (cond (laterFirst rule)) on back),
   )
+    where
+      on : ltb (lineAsFirst (entry rule g) .name) (lineAsFirst (entry rule h) .name) ≡ ltb (entry rule g .name) (entry rule h .name)
+      on = names-first (g .number) (h .number) (g .values .edition) (h .values .edition) other
+
+      back : ltb (lineAsFirst (entry rule h) .name) (lineAsFirst (entry rule g) .name) ≡ ltb (entry rule h .name) (entry rule g .name)
+      back = names-first (h .number) (g .number) (h .values .edition) (g .values .edition) (λ e. other (sym e))
 
   all-stand : (hs : List Held) → Apart hs → Pairwise (Kept (above rule) (above-strict rule) lineAsFirst) (map (entry rule) hs)
   all-stand [] w = tt

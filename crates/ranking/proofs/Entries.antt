@@ -7,11 +7,11 @@ use mathlib.Core.List.{List, [], _∷_, _++_, map, Memᴰ·map, Memᴰ·of-map}
 use mathlib.Core.Logic.{_⊎_, inl, inr}
 use Prim.Native.Nat.{ℕ, min, _≤_, _<_}
 use native.Mathlib.Omega.{arith}
-use borrow.Author.Tests.{lt-ltb, eq-eqb, ne-eqb}
+use borrow.Author.Tests.{not-false, lt-ltb, le-ltb, eq-eqb, ne-eqb}
 use lib.Dec.{ltb}
 use lib.ListN.{length, take, length-map}
 use lib.IntN.{ℤ, pos}
-use lib.Signed.{ltZ}
+use lib.Signed.{ltZ, leZ}
 use Rattle.laws.specs.Lists.{_∈_, onLast, only}
 use Rattle.laws.proofs.Tests.{and-true}
 use Rattle.laws.proofs.Lists.{Same, Pairwise, Distinct, pairwise-only, only-in, only-of, only-yes, only-no, only-append, only-length, same-only, same-map, map-append, last-same}
@@ -22,7 +22,7 @@ use Rattle.search.proofs.Best.{best-same, best-of, best-rule, best-cons, length
 use Rattle.values.specs.declared.Values.{Values}
 use Rattle.values.proofs.Names.{name-rises, name-same}
 use Rattle.ranking.specs.Cells.{noRule, isNone, sum, greater}
-use Rattle.ranking.specs.Standing.{Held, Entry, goesFirst, above, isCounted, counted, entry, entries, top, passes, hasPlace, placeBy, mightPass}
+use Rattle.ranking.specs.Standing.{Held, Entry, laterFirst, goesFirst, above, isCounted, counted, entry, entries, top, passes, hasPlace, placeBy, mightPass}
 use Rattle.ranking.specs.declared.Rule.{Rule}
 use Rattle.ranking.proofs.Cells.{more, less, equal, Numbers, numbers, greater-by, less-by, greater-tie, greater-of, greater-strict}
 
@@ -31,12 +31,25 @@ module _ (rule : Rule) where
 
   pub first-strict : StrictTotal (goesFirst rule)
   unfolding goesFirst
-  first-strict =
-      record {
-        irreflexive = ltb-strict .irreflexive;
-        transitive = λ x y z p q. ltb-strict .transitive z y x q p;
-        total = λ x y p q. ltb-strict .total x y q p;
-      }
+  first-strict = go (laterFirst rule)
+    where
+      go : (later : Bool) → StrictTotal (λ (m n : ℕ). cond later (ltb n m) (ltb m n))
+      go false = ltb-strict
+      go true =
+          record {
+            irreflexive = ltb-strict .irreflexive;
+            transitive = λ x y z p q. ltb-strict .transitive z y x q p;
+            total = λ x y p q. ltb-strict .total x y q p;
+          }
+
+  -- a later report goes first exactly where the tie rule says so
+  pub later-goes : (m n : ℕ) → n < m → goesFirst rule m n ≡ laterFirst rule
+  unfolding goesFirst
+  later-goes m n h = go (laterFirst rule)
+    where
+      go : (later : Bool) → cond later (ltb n m) (ltb m n) ≡ later
+      go true = lt-ltb n m h
+      go false = le-ltb m n (omega arith)
 
   -- entries are ranked strictly and totally
   pub above-strict : StrictTotal (above rule)
@@ -149,16 +162,27 @@ module _ (rule : Rule) where
 
   -- what passes, of a later name, ranks above
   pub later-above : (e f : Entry) → f .name < e .name → passes rule (e .score) (f .score) ≡ above rule e f
-  unfolding above passes goesFirst
-  later-above e f h = sym (le-is (e .score) (f .score)) ∙ sym (go (numbers (e .score) (f .score)))
+  unfolding above passes
+  later-above e f h = ap (greater (e .score) (f .score)) (sym (later-goes (e .name) (f .name) h))
+
+  -- Rule 18.2: under newest a score passes that is at least the other, and under first-come one that is strictly greater
+  pub passes-least : laterFirst rule ≡ true → (s other : ℤ) → passes rule s other ≡ leZ other s
+  unfolding passes
+  passes-least e s other = ap (greater s other) e ∙ go (numbers s other) ∙ le-is s other
     where
-      go : Numbers (e .score) (f .score) → greater (e .score) (f .score) (ltb (f .name) (e .name)) ≡ not (ltZ (e .score) (f .score))
-      go (more p) = greater-by (e .score) (f .score) (ltb (f .name) (e .name)) p ∙ sym (ap not (one-way ltZ ltZ-strict (f .score) (e .score) p))
-      go (less p) = less-by (e .score) (f .score) (ltb (f .name) (e .name)) p ∙ sym (ap not p)
-      go (equal p) =
-          greater-tie (e .score) (f .score) (ltb (f .name) (e .name)) p
-          ∙ lt-ltb (f .name) (e .name) h
-          ∙ sym (ap not (subst (λ z. ltZ z (f .score) ≡ false) (sym p) (ltZ-strict .irreflexive (f .score))))
+      go : Numbers s other → greater s other true ≡ not (ltZ s other)
+      go (more p) = greater-by s other true p ∙ sym (ap not (one-way ltZ ltZ-strict other s p))
+      go (less p) = less-by s other true p ∙ sym (ap not p)
+      go (equal p) = greater-tie s other true p ∙ sym (ap not (subst (λ z. ltZ z other ≡ false) (sym p) (ltZ-strict .irreflexive other)))
+
+  pub passes-more : laterFirst rule ≡ false → (s other : ℤ) → passes rule s other ≡ ltZ other s
+  unfolding passes
+  passes-more e s other = ap (greater s other) e ∙ go (numbers s other)
+    where
+      go : Numbers s other → greater s other false ≡ ltZ other s
+      go (more p) = greater-by s other false p ∙ sym p
+      go (less p) = less-by s other false p ∙ sym (one-way ltZ ltZ-strict s other p)
+      go (equal p) = greater-tie s other false p ∙ sym (subst (λ z. ltZ other z ≡ false) (sym p) (ltZ-strict .irreflexive other))
 
   -- so a place on the list is what the laws of best k ask
   pub place-rule : (k : ℕ) (e : Entry) (l : List Entry) → ((f : Entry) → f ∈ l → f .name < e .name) → hasPlace rule k (length l) l (e .score) ≡ (ltb (length l) k || onLast (above rule e) l)
@@ -222,8 +246,8 @@ module _ (rule : Rule) where
 -- values that can't pass a score don't
 pub might-not : (rule : Rule) (v : Values) (s : ℤ) → mightPass (rule .weights) v s ≡ false → passes rule (sum rule v) s ≡ false
 unfolding mightPass passes sum
-might-not rule v s e = e
+might-not rule v s e = less-by (sum rule v) s (laterFirst rule) (not-false (ltZ (sum rule v) s) (le-is (sum rule v) s ∙ e))
 
 pub is-none : isNone noRule ≡ true
 unfolding isNone
-is-none = and-true (and-true (and-true (equal-refl (pos 0)) (equal-refl (pos 0))) (equal-refl (pos 0))) refl
+is-none = and-true (and-true (and-true (and-true (equal-refl (pos 0)) (equal-refl (pos 0))) (equal-refl (pos 0))) refl) refl

@@ -2,6 +2,7 @@
 pub mod Cells
 pub mod Entries
 pub mod Standing
+pub mod Ties
 pub mod Scan
 pub mod Columns
 pub mod Reaching

@@ -36,6 +36,12 @@ use Rattle.ranking.proofs.Rule.weights_fit.Kinds as weights-fit-kinds
 use Rattle.ranking.proofs.Rule.weights_fit.Reads as weights-fit-reads
 use Rattle.ranking.proofs.Rule.ranges_proper.Kinds as ranges-proper-kinds
 use Rattle.ranking.proofs.Rule.ranges_proper.Reads as ranges-proper-reads
+use Rattle.ranking.proofs.Rule.tied.Kinds as tied-kinds
+use Rattle.ranking.proofs.Rule.tied.Reads as tied-reads
+use Rattle.ranking.proofs.Rule.ties_known.Kinds as ties-known-kinds
+use Rattle.ranking.proofs.Rule.ties_known.Reads as ties-known-reads
+use Rattle.ranking.proofs.Rule.later_first.Kinds as later-first-kinds
+use Rattle.ranking.proofs.Rule.later_first.Reads as later-first-reads
 use Rattle.ranking.proofs.Rule.score_from.Kinds as score-from-kinds
 use Rattle.ranking.proofs.Rule.score_from.Reads as score-from-reads
 use Rattle.ranking.proofs.Weights.might_pass.Kinds as might-pass-kinds
@@ -101,6 +107,15 @@ weights-fit-once κs a x y s t p q = p ∙ sym q
 
 ranges-proper-once : OneAnswer 0 ranges-proper-kinds.ps ranges-proper-kinds.r ranges-proper-reads.Post
 ranges-proper-once κs a x y s t p q = p ∙ sym q
+
+tied-once : OneAnswer 0 tied-kinds.ps tied-kinds.r tied-reads.Post
+tied-once κs a x y s t p q = p ∙ sym q
+
+ties-known-once : OneAnswer 0 ties-known-kinds.ps ties-known-kinds.r ties-known-reads.Post
+ties-known-once κs a x y s t p q = p ∙ sym q
+
+later-first-once : OneAnswer 0 later-first-kinds.ps later-first-kinds.r later-first-reads.Post
+later-first-once κs a x y s t p q = p ∙ sym q
 
 score-from-once : OneAnswer 0 score-from-kinds.ps score-from-kinds.r score-from-reads.Post
 score-from-once κs a x y s t p q = p .0 ∙ sym (q .0)

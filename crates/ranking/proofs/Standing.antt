@@ -2,7 +2,7 @@
 -- Assumes nothing.
 use mathlib.Core.Path.{_≡_, refl, sym, ap, ap₂, _∙_, subst}
 use mathlib.Core.Logic.{_⊎_, inl, inr, _↔_}
-use mathlib.Core.Bool.{Bool, true, false, not, _||_}
+use mathlib.Core.Bool.{Bool, true, false, not, cond, _||_}
 use mathlib.Core.List.{List, _∷_}
 use Prim.Native.Nat.{ℕ, _+_, _≤_, _<_}
 use native.Mathlib.Omega.{arith}
@@ -19,13 +19,13 @@ use Rattle.laws.proofs.Whole.{ltZ-strict}
 use Rattle.search.specs.Best.{best}
 use Rattle.search.specs.Search.{countedIn, steps, found, marks}
 use Rattle.search.proofs.Best.{length-same}
-use Rattle.search.proofs.Search.{All, Sound, Newest, found-is, steps-open, steps-count, steps-le, wanted, local-found, local-marks, local-steps, length-marks}
+use Rattle.search.proofs.Search.{All, Sound, Foremost, found-is, steps-open, steps-count, steps-le, wanted, local-found, local-marks, local-steps, length-marks}
 use Rattle.search.specs.Inner.{matters}
 use Rattle.values.specs.Names.{named}
 use Rattle.values.specs.declared.Edition.{Edition}
 use Rattle.values.proofs.Names.{name-rises}
 use Rattle.ranking.specs.Cells.{counts, sum, cell, cellCounts, cornerOf, bestScore, before, cells, countedCells, mostSteps, visiting, inOrder, reaching}
-use Rattle.ranking.specs.Standing.{Held, Entry, goesFirst, above, isCounted, entry, entries, top, reaches, searchOf, Permitted, foremost, Wanted}
+use Rattle.ranking.specs.Standing.{Held, Entry, laterFirst, goesFirst, above, isCounted, entry, entries, top, reaches, searchOf, Permitted, foremost, Wanted}
 use Rattle.ranking.specs.declared.Rule.{Rule}
 use Rattle.ranking.proofs.Cells.{more, less, equal, Numbers, numbers, visiting-in, visiting-of, visiting-same, visiting-falling, visiting-distinct, length-visiting, counted-distinct, in-order, before-best, score-bound, counts-order, scored-counts, points-sum, corner-cell, corner-in, corner-counts, corner-best, cells-distinct, cells-in, cells-of}
 use Rattle.ranking.proofs.Entries.{first-strict, above-strict, score-above, score-tie, above-score, entries-cons, entries-of}
@@ -73,7 +73,11 @@ module _ (rule : Rule) where
   -- the report that is added goes before all others of its score, whatever the editions
   pub foremost-first : (entered n : ℕ) (d e : Edition) → 1 ≤ n → n ≤ entered → goesFirst rule (named (foremost rule entered) d) (named n e) ≡ true
   unfolding goesFirst foremost
-  foremost-first entered n d e positive h = lt-ltb (named n e) (named (entered + 1) d) (name-rises n (entered + 1) e d (omega arith))
+  foremost-first entered n d e positive h = go (laterFirst rule)
+    where
+      go : (later : Bool) → cond later (ltb (named n e) (named (cond later (entered + 1) 0) d)) (ltb (named (cond later (entered + 1) 0) d) (named n e)) ≡ true
+      go true = lt-ltb (named n e) (named (entered + 1) d) (name-rises n (entered + 1) e d (omega arith))
+      go false = lt-ltb (named 0 d) (named n e) (name-rises 0 n d e positive)
 
   module _ (hs : List Held) (entered : ℕ) (known : Numbered entered hs) where
     -- the entry of permitted values of the cell c that count, added as that report
@@ -124,7 +128,7 @@ module _ (rule : Rule) where
           stands = refl;
         }
 
-    new-facts : Newest (searchOf rule) hs New
+    new-facts : Foremost (searchOf rule) hs New
     unfolding entries
     new-facts =
         record {

@@ -10,7 +10,7 @@ use borrow.Author.Tests.{ltb-true}
 use lib.Dec.{ltb}
 use lib.IntN.{ℤ, pos, _+ℤ_, _*ℤ_}
 use lib.ListN.{length}
-use lib.Signed.{ltZ}
+use lib.Signed.{ltZ, leZ}
 use Rattle.laws.specs.Lists.{_∈_}
 use Rattle.laws.proofs.Lists.{Pairwise, Same, only-all, same-only}
 use Rattle.laws.proofs.Tests.{Tested, passed, failed, tested, and-true, and-stops, and-so}
@@ -21,14 +21,14 @@ use Rattle.values.specs.declared.Values.{Values}
 use Rattle.values.specs.Range.{inRange}
 use Rattle.values.specs.Names.{named}
 use Rattle.values.proofs.Facts.{range-facts}
-use Rattle.ranking.specs.Cells.{side, columns, wholeRange, ruleOf, weightFits, weightsFit, rangesProper, fitRule, greater, points, counts, score, cell, cellCounts, nearest, corner, cornerOf, bestScore, before, cells, countedCells, mostSteps, visiting, inOrder}
-use Rattle.ranking.specs.Standing.{Held, isCounted, counted, entry, entries, top, searchOf, Permitted, foremost, Wanted}
+use Rattle.ranking.specs.Cells.{side, columns, wholeRange, ruleOf, weightFits, weightsFit, rangesProper, tiesKnown, fitRule, greater, points, counts, score, cell, cellCounts, nearest, corner, cornerOf, bestScore, before, cells, countedCells, mostSteps, visiting, inOrder}
+use Rattle.ranking.specs.Standing.{Held, Entry, goesFirst, above, isCounted, counted, entry, entries, top, passes, searchOf, Permitted, foremost, Wanted}
 use Rattle.ranking.specs.declared.Rule.{Rule}
 use Rattle.ranking.specs.declared.Score.{Score}
 use Rattle.ranking.specs.declared.Score.the-variants.{Scored}
 use Rattle.ranking.proofs.Cells.{inside-is, meets-is, corner-high, corner-low, column, row, cells-of, scored-counts, score-counted, counts-pair, sum-pair}
 use Rattle.ranking.proofs.Editions.{asFirst, Apart, AnyEdition, any-edition}
-use Rattle.ranking.proofs.Entries.{length-top}
+use Rattle.ranking.proofs.Entries.{passes-least, length-top}
 use Rattle.ranking.proofs.Standing.{Alike, local}
 
 -- ---- what was said of a question before it had ranges and a weight for heat
@@ -45,7 +45,7 @@ cellCorner weight index = elim (ltZ (pos 0) weight) [ true ↦ side * index + 25
 abbrev pub cellBest : (a b : ℤ) → ℕ → ℤ
 cellBest a b c = weighedPair a b (cellCorner a (c % columns)) (cellCorner b (c / columns))
 
--- some permitted values of the cell, added as the newest, stand on the list
+-- some permitted values of the cell, added as that report, stand on the list
 pub record WantedOfAll (rule : Rule) (k : ℕ) (hs : List Held) (entered c : ℕ) : Type 0 where
   pub added : Held
   pub numbered : added .number ≡ foremost rule entered
@@ -139,12 +139,15 @@ module _ (a b : ℤ) where
     },
   )
 
--- A question with those weights for loss and shake, none for heat, and no range.
+-- A question with those weights for loss and shake, none for heat, and no range, whose ties go to the newest.
 pub record AsBefore (a b : ℤ) : Type 0 where
   pub proper : rangesProper (ruleOfTwo a b) ≡ true
   pub fits : fitRule (ruleOfTwo a b) ≡ weightFits a && weightFits b
   pub scores : (v : Values) → inRange v ≡ true → score (ruleOfTwo a b) v ≡ Scored (weighedPair a b (v .loss) (v .shake))
   pub best-scores : (c : ℕ) → c < 256 → bestScore (ruleOfTwo a b) c ≡ cellBest a b c
+  pub ranked : (e f : Entry) → above (ruleOfTwo a b) e f ≡ greater (e .score) (f .score) (ltb (f .name) (e .name))
+  pub passed-by : (s other : ℤ) → passes (ruleOfTwo a b) s other ≡ leZ other s
+  pub newest : (entered : ℕ) → foremost (ruleOfTwo a b) entered ≡ entered + 1
   pub earlier : (c d : ℕ) → c < 256 → d < 256 → before (ruleOfTwo a b) c d ≡ greater (cellBest a b c) (cellBest a b d) (ltb c d)
   pub order : visiting (ruleOfTwo a b) ≡ rank (before (ruleOfTwo a b)) cells
   pub ordered : (c : ℕ) → inOrder (ruleOfTwo a b) c ≡ ltb c 256
@@ -158,13 +161,16 @@ pub record AsBefore (a b : ℤ) : Type 0 where
   pub editions : (k : ℕ) (hs hs′ : List Held) → Apart hs → map asFirst hs ≡ map asFirst hs′ → AnyEdition (ruleOfTwo a b) k hs hs′
 
 pub as-before : (a b : ℤ) → AsBefore a b
-unfolding fitRule weightsFit rangesProper inOrder
+unfolding fitRule weightsFit rangesProper tiesKnown above goesFirst foremost inOrder
 as-before a b =
     record {
       proper = refl;
-      fits = and-so (weightFits a && weightFits b && true) ∙ and-so (weightFits a && weightFits b);
+      fits = and-so (weightFits a && weightFits b && true && true) ∙ and-so (weightFits a && weightFits b && true) ∙ and-so (weightFits a && weightFits b);
       scores = scored a b;
       best-scores = best-is a b;
+      ranked = λ e f. refl;
+      passed-by = passes-least (ruleOfTwo a b) refl;
+      newest = λ entered. refl;
       earlier = earlier-is a b;
       order = in-turn a b;
       ordered = λ c. ordered c (tested (ltb c 256));

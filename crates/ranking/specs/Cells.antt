@@ -47,12 +47,16 @@ wholeRange = record { low = 0; high = largestValue }
 abbrev pub wholeRanges : Ranges
 wholeRanges = record { loss = wholeRange; shake = wholeRange }
 
--- A question goes by its weights and its ranges, and by nothing else.
+-- A question goes by its weights, its ranges and its tie rule, and by nothing else. Rule 18.1: where no tie rule is given it is 0, newest.
 abbrev pub ruleWithin : Weights → Ranges → Rule
-ruleWithin w ranges = record { weights = w; ranges = ranges }
+ruleWithin w ranges = record { weights = w; ranges = ranges; ties = 0 }
 
 abbrev pub ruleOf : Weights → Rule
 ruleOf w = ruleWithin w wholeRanges
+
+-- The same question with another tie rule.
+abbrev pub tiedBy : ℕ → Rule → Rule
+tiedBy ties rule = record { weights = rule .weights; ranges = rule .ranges; ties = ties }
 
 -- The rule of an empty slot.
 abbrev pub noRange : Range
@@ -65,12 +69,11 @@ noRule = ruleWithin (record { loss = pos 0; shake = pos 0; heat = pos 0 }) (reco
 abbrev pub isNoRange : Range → Bool
 isNoRange range = eqb (range .low) 0 && eqb (range .high) 0
 
+abbrev pub noWeights : Weights → Bool
+noWeights w = equal (w .loss) (pos 0) && equal (w .shake) (pos 0) && equal (w .heat) (pos 0)
+
 unfoldable pub isNone : Rule → Bool
-isNone rule =
-    equal (rule .weights .loss) (pos 0)
-    && equal (rule .weights .shake) (pos 0)
-    && equal (rule .weights .heat) (pos 0)
-    && (isNoRange (rule .ranges .loss) && isNoRange (rule .ranges .shake))
+isNone rule = noWeights (rule .weights) && eqb (rule .ties) 0 && (isNoRange (rule .ranges .loss) && isNoRange (rule .ranges .shake))
 
 -- Rule 6.1: a weight is from -1,000 to 1,000.
 abbrev pub weightFits : ℤ → Bool
@@ -86,9 +89,13 @@ isProper range = leb (range .low) (range .high) && leb (range .high) largestValu
 unfoldable pub rangesProper : Rule → Bool
 rangesProper rule = isProper (rule .ranges .loss) && isProper (rule .ranges .shake)
 
+-- Rule 18.1: a tie rule is 0, newest, or 1, first-come.
+unfoldable pub tiesKnown : Rule → Bool
+tiesKnown rule = leb (rule .ties) 1
+
 -- Every number of the rule is as it should be.
 unfoldable pub fitRule : Rule → Bool
-fitRule rule = weightsFit rule && rangesProper rule
+fitRule rule = weightsFit rule && rangesProper rule && tiesKnown rule
 
 -- ---- scores
 

@@ -16,6 +16,7 @@ use Rattle.values.specs.declared.Edition.the-variants.{First, Second}
 use Rattle.values.specs.Range.{largestValue}
 use Rattle.values.specs.Names.{editions, editionOf}
 use Rattle.ranking.specs.Cells.{side, columns, cellCount, cellCounts, corner, cornerHeat, bestScore, before, placeOf}
+use Rattle.ranking.specs.Standing.{laterFirst}
 use Rattle.ranking.specs.declared.Weights.{Weights}
 use Rattle.ranking.specs.declared.Range.{Range}
 use Rattle.ranking.specs.declared.Stripes.{Stripes}
@@ -37,6 +38,10 @@ nearer rule from found d = elim (follows rule from d && leads rule d found) [ tr
 -- the place after that of `from`; the first, where `from` is no cell
 abbrev pub placeAfter : Rule → ℕ → ℕ
 placeAfter rule from = elim (ltb from cellCount) [ true ↦ suc (placeOf rule from) | false ↦ 0 ]
+
+-- of two names that a `u32` holds the one with the greater such number goes first
+unfoldable pub keyOf : Rule → ℕ → ℕ
+keyOf rule name = cond (laterFirst rule) name (4294967295 - name)
 
 -- a best score that none is below
 abbrev pub noBest : ℤ

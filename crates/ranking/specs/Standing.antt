@@ -1,6 +1,6 @@
 -- Reports, how they stand on a list by a question's rule, and the search of a question.
 use mathlib.Core.Path.{_≡_}
-use mathlib.Core.Bool.{Bool, true, not, _&&_, _||_}
+use mathlib.Core.Bool.{Bool, true, not, cond, _&&_, _||_}
 use mathlib.Core.List.{List, _∷_, map}
 use Prim.Native.Nat.{ℕ, _+_}
 use lib.Dec.{ltb, eqb}
@@ -28,9 +28,13 @@ pub record Entry : Type 0 where
 
 -- ---- the rank order
 
--- Rule 6.3: of two reports of equal scores the one of the name m goes before the one of the name n: the greater number does, and has the greater name.
+-- Rule 18.1: of two reports of equal scores the later one goes first: it does under newest, and under first-come the earlier one, as under any other number.
+abbrev pub laterFirst : Rule → Bool
+laterFirst rule = eqb (rule .ties) 0
+
+-- Rules 6.3 and 18.1: of two reports of equal scores the one of the name m goes before the one of the name n; the later report has the greater name.
 unfoldable pub goesFirst : Rule → (m n : ℕ) → Bool
-goesFirst rule m n = ltb n m
+goesFirst rule m n = cond (laterFirst rule) (ltb n m) (ltb m n)
 
 -- Rule 6.3: a greater score ranks above, and of equal ones the one that goes first.
 unfoldable pub above : Rule → Entry → Entry → Bool
@@ -58,9 +62,9 @@ top rule k hs = best (above rule) k (entries rule hs)
 
 -- ---- entering
 
--- Rule 8.1: a report that enters with the score s, after all others, ranks above one of that other score.
+-- Rules 8.1 and 18.2: a report that enters with the score s, after all others, ranks above one of that other score: it is greater, or equal where the later goes first.
 unfoldable pub passes : Rule → (s other : ℤ) → Bool
-passes rule s other = leZ other s
+passes rule s other = greater s other (laterFirst rule)
 
 -- Rule 8.1: a list has a place for that score if it has fewer than k entries, or the score passes its last: a list l of which len are counted.
 unfoldable pub hasPlace : Rule → (k len : ℕ) → List Entry → ℤ → Bool
@@ -97,11 +101,12 @@ searchOf rule =
 abbrev pub Permitted : Held → Type 0
 Permitted h = inRange (h .values) ≡ true
 
--- The number of a report that is added to a window with that many entered, with nothing dropped, and goes before all others of its score: the newest.
+-- Rule 18.4: the number of a report that is added to a window with that many entered, with nothing dropped, and goes before all others of its score: the newest, or under first-come the oldest, whose number is below
+-- all held.
 unfoldable pub foremost : Rule → ℕ → ℕ
-foremost rule entered = entered + 1
+foremost rule entered = cond (laterFirst rule) (entered + 1) 0
 
--- Rules 12.3, 16.5 and 17.5, demand 3: some permitted values of the cell c that count, a loss and a shake with a heat or without, added to the window as that report, stand on the best-k list of
+-- Rules 12.3, 16.5, 17.5 and 18.4, demand 3: some permitted values of the cell c that count, a loss and a shake with a heat or without, added to the window as that report, stand on the best-k list of
 -- that larger window.
 pub record Wanted (rule : Rule) (k : ℕ) (hs : List Held) (entered c : ℕ) : Type 0 where
   pub added : Held

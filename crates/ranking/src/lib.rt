@@ -6,9 +6,9 @@ ghost use Prim.Native.Nat.{_+_, _*_, _-_, _%_, _<_, _≤_, min};
 ghost use lib.IntN.{pos, _*ℤ_};
 ghost use Rattle.laws.specs.Whole.{equal};
 ghost use Rattle.values.specs.Range.{valueCount, lowEdition, low};
-ghost use Rattle.ranking.specs.Cells.{columns, cellCount, inside, wholeRanges, ruleWithin, ruleOf, noRule, isNoRange, isNone, weightFits, weightsFit, isProper, rangesProper, fitRule, heatCounts, counts, heatOf, weighed, sum, score, ScoreFits, fromLeast, valuesNamed, cell, meets, cellCounts, nearest, corner, bestScore, greater, before, inOrder, placeOf, cellAt, cellAfter, mostSteps, stepsTo, reachOf};
-ghost use Rattle.ranking.specs.Standing.{above, passes, placeBy, mightPass};
-ghost use Rattle.ranking.specs.Inner.{leads, nearer, placeAfter, met, metRow, stripesOf, edgeOf, FirstOf, lossPart, heatPart, rowPart, hottest, pairPart, editionBy, Words, Across};
+ghost use Rattle.ranking.specs.Cells.{columns, cellCount, inside, wholeRanges, ruleWithin, ruleOf, tiedBy, noRule, isNoRange, noWeights, isNone, weightFits, weightsFit, isProper, rangesProper, tiesKnown, fitRule, heatCounts, counts, heatOf, weighed, sum, score, ScoreFits, fromLeast, valuesNamed, cell, meets, cellCounts, nearest, corner, bestScore, greater, before, inOrder, placeOf, cellAt, cellAfter, mostSteps, stepsTo, reachOf};
+ghost use Rattle.ranking.specs.Standing.{laterFirst, goesFirst, above, passes, placeBy, mightPass};
+ghost use Rattle.ranking.specs.Inner.{leads, nearer, placeAfter, met, metRow, stripesOf, edgeOf, FirstOf, lossPart, heatPart, rowPart, keyOf, hottest, pairPart, editionBy, Words, Across};
 use values::Edition;
 use values::Name;
 use values::Values;
@@ -25,7 +25,19 @@ impl Weights {
 
     pub const LARGEST: i16 = 1000;
 
-    // Values that would pass that score, if they count.
+    // All of them are 0.
+    fn is_none(self) -> bool
+        ensures { λ r. ⌜ r ≡ noWeights self ⌝ }
+    {
+        if is_zero(self.loss) {
+            if is_zero(self.shake) {
+                return is_zero(self.heat);
+            }
+        }
+        false
+    }
+
+    // Values of at least that score, if they count; no others pass it, whatever the tie rule.
     pub fn might_pass(self, values: Values, score: i32) -> bool
         ensures { λ r. ⌜ r ≡ mightPass self (low values) score ⌝ }
     {
@@ -77,10 +89,11 @@ pub struct Ranges {
     pub shake: Range,
 }
 
-// All that a question goes by.
+// All that a question goes by. The tie rule is NEWEST or FIRST_COME; any other is unfit, and ranks as FIRST_COME does.
 pub struct Rule {
     pub weights: Weights,
     pub ranges: Ranges,
+    pub ties: u8,
 }
 
 // What a report is for a question: a score, or none where it doesn't count.
@@ -183,18 +196,42 @@ impl Range {
 }
 
 impl Rule {
-    // A question about all values.
+    // Of equal scores the newest report goes first.
+    pub const NEWEST: u8 = 0;
+
+    // Of equal scores the report that came first does.
+    pub const FIRST_COME: u8 = 1;
+
+    // A question about all values, with ties to the newest.
     pub fn of(weights: Weights) -> Rule
         ensures { λ r. ⌜ r ≡ ruleOf weights ⌝ }
     {
         Rule::within(weights, Ranges::whole())
     }
 
-    // A question about the values inside these ranges.
+    // A question about the values inside these ranges, with ties to the newest.
     pub fn within(weights: Weights, ranges: Ranges) -> Rule
         ensures { λ r. ⌜ r ≡ ruleWithin weights ranges ⌝ }
     {
-        Rule { weights, ranges }
+        let ties = Rule::NEWEST;
+        Rule {
+            weights,
+            ranges,
+            ties,
+        }
+    }
+
+    // The same question with that tie rule.
+    pub fn tied(self, ties: u8) -> Rule
+        ensures { λ r. ⌜ r ≡ tiedBy ties self ⌝ }
+    {
+        let weights = self.weights;
+        let ranges = self.ranges;
+        Rule {
+            weights,
+            ranges,
+            ties,
+        }
     }
 
     // The rule of an empty slot: all 0.
@@ -217,11 +254,9 @@ impl Rule {
     {
         let weights = self.weights;
         let ranges = self.ranges;
-        if is_zero(weights.loss) {
-            if is_zero(weights.shake) {
-                if is_zero(weights.heat) {
-                    return ranges.is_none();
-                }
+        if weights.is_none() {
+            if self.later_first() {
+                return ranges.is_none();
             }
         }
         false
@@ -232,7 +267,9 @@ impl Rule {
         ensures { λ r. ⌜ r ≡ fitRule self ⌝ }
     {
         if self.weights_fit() {
-            return self.ranges_proper();
+            if self.ranges_proper() {
+                return self.ties_known();
+            }
         }
         false
     }
@@ -256,6 +293,13 @@ impl Rule {
     {
         let ranges = self.ranges;
         ranges.loss.is_proper() && ranges.shake.is_proper()
+    }
+
+    // The tie rule is one of the two.
+    pub fn ties_known(self) -> bool
+        ensures { λ r. ⌜ r ≡ tiesKnown self ⌝ }
+    {
+        self.ties <= Rule::FIRST_COME
     }
 
     // What some values are for the question; the low 12 bits of each are looked at.
@@ -321,20 +365,51 @@ impl Rule {
         self.weights.sum(values)
     }
 
-    // A report ranks above another (rule 6.3): by its score, and of equal ones by its number, which is in its name.
+    // Of equal scores the later report goes first.
+    pub fn later_first(self) -> bool
+        ensures { λ r. ⌜ r ≡ laterFirst self ⌝ }
+    {
+        self.ties == Rule::NEWEST
+    }
+
+    // Of two reports of equal scores the one of this name goes first.
+    fn goes_first(self, name: u32, other: u32) -> bool
+        ensures { λ r. ⌜ r ≡ goesFirst self name other ⌝ }
+    {
+        self.key(other) < self.key(name)
+    }
+
+    // A number that is greater for the one of two names that goes first: to compare two of these takes no branch.
+    fn key(self, name: u32) -> u32
+        ensures { λ r. ⌜ r ≡ keyOf self name ⌝ }
+    {
+        if self.later_first() {
+            return name;
+        }
+        4294967295 - name
+    }
+
+    // A report ranks above another (rule 6.3): by its score, and of equal ones by its number, which is in its name, as the
+    // tie rule says.
     pub fn above(self, name: u32, score: i32, other_name: u32, other_score: i32) -> bool
         ensures { λ r. ⌜
             r ≡ above self (record { name = name; score = score }) (record { name = «other_name»; score = «other_score» })
             ⌝ }
     {
-        greater(score, other_score, other_name < name)
+        if other_score < score {
+            return true;
+        }
+        if score < other_score {
+            return false;
+        }
+        self.goes_first(name, other_name)
     }
 
     // A report that enters now with this score ranks above one of that other score.
     pub fn passes(self, score: i32, other: i32) -> bool
         ensures { λ r. ⌜ r ≡ passes self score other ⌝ }
     {
-        other <= score
+        greater(score, other, self.later_first())
     }
 
     // A list for k of that many entries, the last of that score, has a place for a report that enters now with this score.

@@ -425,3 +425,36 @@ module _ {E : Type 0} (above : E → E → Bool) where
             best-cons k x l
             ∙ ap (take k) (place-there x L (best-falling k l) (moved (sym is) (low .listed)))
             ∙ take-all k L (length-best-le k l)
+
+    dropped : (k : ℕ) (x y : E) (m : List E) → x ∈ m → x ∈ best above k (y ∷ m) → x ∈ best above k m
+    dropped k x y m i h =
+        ⊎-elim
+        (λ e. subst (λ l. x ∈ l) (best-same k (y ∷ m) m (λ z n. ⊎-elim (λ q. moved (e ∙ sym q) i) (λ j. j) (List·Memᴰ·cases-cons n), λ z n. there n)) h)
+        (λ n. n)
+        (place-of y (best above k m) (take-⊆ k (placed above y (best above k m)) x (subst (λ l. x ∈ l) (best-cons k y m) h)))
+
+    -- what stands among the best of a whole stands among the best of each part that has it
+    pub best-in-part : (k : ℕ) (part whole : List E) → part ⊆ whole → (x : E) → x ∈ part → x ∈ best above k whole → x ∈ best above k part
+    best-in-part k part whole inside x m h =
+        go whole
+        (subst (λ l. x ∈ l) (best-same k whole (whole ++ part) (λ z n. Memᴰ·append-left part n, λ z n. ⊎-elim (λ p. p) (inside z) (List·Memᴰ·append-cases whole n))) h)
+      where
+        go : (w : List E) → x ∈ best above k (w ++ part) → x ∈ best above k part
+        go [] n = n
+        go (y ∷ w) n = go w (dropped k x y (w ++ part) (Memᴰ·append-right w m) n)
+
+-- Two orders that agree on what is ranked rank it alike.
+module _ {E : Type 0} (above other : E → E → Bool) (order : StrictTotal above) (order′ : StrictTotal other) where
+  abbrev pub Agree : List E → Type 0
+  Agree l = (x y : E) → x ∈ l → y ∈ l → other x y ≡ above x y
+
+  falls-too : (l : List E) → Agree l → Falling above l → Falling other l
+  falls-too [] agree w = tt
+  falls-too (x ∷ xs) agree w = (λ y m. agree x y here (there m) ∙ w .0 y m, falls-too xs (λ y z m n. agree y z (there m) (there n)) (w .1))
+
+  pub best-agree : (k : ℕ) (l : List E) → Agree l → best other k l ≡ best above k l
+  best-agree k l agree =
+      ap (take k)
+      (falling-same other order′ (rank other l) (rank above l) (rank-falling other order′ l)
+      (falls-too (rank above l) (λ x y m n. agree x y (rank-of above order l x m) (rank-of above order l y n)) (rank-falling above order l))
+      (λ z m. rank-in above order l z (rank-of other order′ l z m), λ z m. rank-in other order′ l z (rank-of above order l z m)))

@@ -57,9 +57,9 @@ pub record Sound {E I : Type 0} (s : Search E I) (Good : I → Type 0) : Type 0 
   -- no item ranks above the bound of its cell
   pub bound : (i : I) → Good i → s .counts i ≡ true → (e : E) → s .reaches (s .cellOf i) e ≡ false → s .above e (s .entry i) ≡ true
 
--- What a value that is added as the newest may do, in a window of things hs: `New c e` says that e is the entry of a permitted value of the cell c.
-pub record Newest {E I : Type 0} (s : Search E I) (hs : List I) (New : ℕ → E → Type 0) : Type 0 where
-  -- some value attains the cell's bound, and as the newest ranks above all that the cell reaches
+-- What a value that is added as the one that goes first on ties may do, in a window of things hs: `New c e` says that e is the entry of a permitted value of the cell c.
+pub record Foremost {E I : Type 0} (s : Search E I) (hs : List I) (New : ℕ → E → Type 0) : Type 0 where
+  -- some value attains the cell's bound, and so ranks above all that the cell reaches
   pub attains : (c : ℕ) → c ∈ s .order → (e : E) × New c e × ((x : E) → x ∈ entries s hs → s .reaches c x ≡ true → s .above e x ≡ true)
   -- none ranks above the bound
   pub bounded : (c : ℕ) (e : E) → New c e → (x : E) → s .reaches c x ≡ false → s .above x e ≡ true
@@ -410,12 +410,12 @@ module _ {E I : Type 0} (s : Search E I) {Good : I → Type 0} (sound : Sound s 
           )
 
       -- ---- the cells that are wanted
-      -- `New c e`: e is the entry of a permitted value of the cell c, added as the newest
-      module _ (New : ℕ → E → Type 0) (facts : Newest s hs New) where
+      -- `New c e`: e is the entry of a permitted value of the cell c, added so
+      module _ (New : ℕ → E → Type 0) (facts : Foremost s hs New) where
         Stands : ℕ → Type 0
         Stands c = (e : E) × New c e × (e ∈ best (s .above) k (e ∷ entries s hs))
 
-        -- A cell is marked exactly where some permitted value of it, added as the newest, would stand on the list.
+        -- A cell is marked exactly where some permitted value of it, added so, would stand on the list.
         pub wanted : (c : ℕ) → c ∈ s .order → c ∈ marks s k hs ↔ ((e : E) × New c e × (e ∈ best (s .above) k (e ∷ entries s hs)))
         unfolding Stands
         wanted c m = (to, from)

@@ -171,11 +171,14 @@ fn question(word: u8) {
         2 => say(b"K is missing or no number from 0 to 255"),
         3 => say(b"A is missing or no number from -32768 to 32767"),
         4 => say(b"B is missing or no number from -32768 to 32767"),
-        5 => say(b"C is no number from -32768 to 32767"),
-        _ => say(b"something stands behind C"),
+        5 => say(b"C is no number from -32768 to 32767, and not newest or first"),
+        6 => say(
+            b"what stands behind C is not newest or first, or something stands behind the tie rule",
+        ),
+        _ => say(b"something stands behind the tie rule"),
     }
     expected();
-    say(b"question SLOT K A B [C]\n");
+    say(b"question SLOT K A B [C] [newest|first]\n");
 }
 
 fn slot(word: u8, form: &[u8]) {

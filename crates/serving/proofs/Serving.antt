@@ -124,7 +124,8 @@ module _ (log : Log) (window : sized (log .board .window .counts .size) ≡ true
         ∙ (λ i. record { text = shownText n (getD v 0 0) (slotAt b (getD v 0 0)); log = same-slot (getD v 0 0) i }) ∙ sym (ap left (served-show tag n v (slotAt b (getD v 0 0)) rows e))
     slot-done (inr (inl (e, long))) = ap₂ (itemDone log) e (one-byte v long) ∙ remove-done (getD v 0 0) few ∙ sym (ap left (served-remove tag n v (slotAt b (getD v 0 0)) rows (λ f. omega arith) e))
     slot-done (inr (inr (inl (e, long)))) = slot-set (ap (λ (t : ℕ). itemDone log t v) e ∙ items.set-done log some-rows v long) (λ f. omega arith) (λ f. omega arith)
-    slot-done (inr (inr (inr (e, long)))) = slot-set (ap (λ (t : ℕ). itemDone log t v) e ∙ items.set-heat-done log some-rows v long) (λ f. omega arith) (λ f. omega arith)
+    slot-done (inr (inr (inr (inl (e, long))))) = slot-set (ap (λ (t : ℕ). itemDone log t v) e ∙ items.set-heat-done log some-rows v long) (λ f. omega arith) (λ f. omega arith)
+    slot-done (inr (inr (inr (inr (e, long))))) = slot-set (ap (λ (t : ℕ). itemDone log t v) e ∙ items.set-ties-done log some-rows v long) (λ f. omega arith) (λ f. omega arith)
 
   -- The claim, said of what the code holds.
   pub slot-here : {tag tag₁ item s : ℕ} {v v₁ : List ℕ} {q : Question} → Known tag₁ v₁ → getD v₁ 0 0 < 32 → tag ≡ tag₁ → item ≡ n → v ≡ v₁ → s ≡ getD v 0 0 → q ≡ served tag item v (slotAt b s) rows .question

@@ -27,7 +27,7 @@ pub record Served : Type 0 where
   pub text : List ℕ
   pub question : Question
 
--- Rules 11.1 and 17.7: a slot is shown (20), emptied (19) or set (17 and 22), over these reports.
+-- Rules 11.1, 17.7 and 18.6: a slot is shown (20), emptied (19) or set (17, 22 and 23), over these reports.
 unfoldable pub served : (tag item : ℕ) → List ℕ → Question → List Held → Served
 served tag item v q reports =
     cond (eqb tag 20) (record { text = shownText item (getD v 0 0) q; question = q })

@@ -7,11 +7,11 @@ use Prim.Native.Nat.{ℕ, _≤_}
 use native.Mathlib.Omega.{arith}
 use borrow.Author.Tests.{leb-true, eqb-true, eq-eqb, ne-eqb}
 use lib.Dec.{leb, eqb}
-use Rattle.ranking.specs.Cells.{weightsFit, rangesProper}
+use Rattle.ranking.specs.Cells.{weightsFit, rangesProper, tiesKnown}
 use Rattle.ranking.specs.Standing.{Held}
 use Rattle.ranking.specs.declared.Rule.{Rule}
 use Rattle.laws.proofs.Tests.{Tested, passed, failed, tested, and-both}
-use Rattle.ranking.proofs.Cells.{fit-both}
+use Rattle.ranking.proofs.Cells.{fit-all}
 use Rattle.window.specs.declared.Window.{Window}
 use Rattle.window.specs.Rows.{heldReports, fitWindow}
 use Rattle.question.specs.declared.Question.{Question}
@@ -58,13 +58,15 @@ module _ (q : Question) (k : ℕ) (rule : Rule) (reports : List Held) where
     pub set-asks : Asks k rule × (q .k ≡ 0)
     set-asks =
         let used : ℕ = cond (eqb (q .k) 0) 0 16 in
-        let ranged : ℕ = cond (rangesProper rule) used 30 in
+        let tied : ℕ = cond (tiesKnown rule) used 33 in
+        let ranged : ℕ = cond (rangesProper rule) tied 30 in
         let r2 = no-refusal (leb 1 k && leb k 16) (cond (weightsFit rule) ranged 15) 13 (sym set-refusal ∙ free) in
         let r3 = no-refusal (weightsFit rule) ranged 14 (r2 .1) in
-        let r4 = no-refusal (rangesProper rule) used 29 (r3 .1) in
+        let r4 = no-refusal (rangesProper rule) tied 29 (r3 .1) in
+        let r5 = no-refusal (tiesKnown rule) used 32 (r4 .1) in
         let ks = and-both (leb 1 k) (leb k 16) (r2 .0) in (
-          record { positive = leb-true 1 k (ks .0); small = leb-true k 16 (ks .1); rule-fits = fit-both rule (r3 .0) (r4 .0) },
-          eqb-true (q .k) 0 (no-refusal (eqb (q .k) 0) 0 15 (r4 .1) .0),
+          record { positive = leb-true 1 k (ks .0); small = leb-true k 16 (ks .1); rule-fits = fit-all rule (r3 .0) (r4 .0) (r5 .0) },
+          eqb-true (q .k) 0 (no-refusal (eqb (q .k) 0) 0 15 (r5 .1) .0),
         )
 
     -- Rule 6.5: a question that is set is searched.

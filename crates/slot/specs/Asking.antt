@@ -6,7 +6,7 @@ use lib.ListN.{replicate}
 use lib.Dec.{leb, eqb}
 use lib.IntN.{pos}
 use Rattle.ranking.specs.declared.Rule.{Rule}
-use Rattle.ranking.specs.Cells.{weightsFit, rangesProper}
+use Rattle.ranking.specs.Cells.{weightsFit, rangesProper, tiesKnown}
 use Rattle.ranking.specs.Standing.{Held}
 use Rattle.list.specs.Lines.{mostLines, numbersIn, editionsIn}
 use Rattle.question.specs.declared.Question.{Question}
@@ -19,10 +19,10 @@ use Rattle.slot.specs.declared.Shown.{Shown}
 abbrev pub searchedAmong : Question → List Held → Searched
 searchedAmong q reports = cond (leb (q .k) mostLines) (searchedIn q reports) (record { steps = 0; question = q })
 
--- Refusals 14, 15, 30 and 16, in their order, of a slot that holds a question with that k, or 0.
+-- Refusals 14, 15, 30, 33 and 16, in their order, of a slot that holds a question with that k, or 0.
 abbrev pub askRefusal : (held k : ℕ) → Rule → ℕ
 askRefusal held k rule =
-    cond (leb 1 k && leb k mostLines) (cond (weightsFit rule) (cond (rangesProper rule) (cond (eqb held 0) 0 16) 30) 15) 14
+    cond (leb 1 k && leb k mostLines) (cond (weightsFit rule) (cond (rangesProper rule) (cond (tiesKnown rule) (cond (eqb held 0) 0 16) 33) 30) 15) 14
 
 -- Rule 6.5: a question that is set is searched to the end, and the steps are answered.
 unfoldable pub setIn : Question → ℕ → Rule → List Held → Seated

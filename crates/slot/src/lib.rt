@@ -57,6 +57,8 @@ impl Seated {
     pub const IN_USE: u8 = 16;
 
     pub const RANGE_NOT_PROPER: u8 = 30;
+
+    pub const TIE_RULE_UNKNOWN: u8 = 33;
 }
 
 impl Shown {
@@ -79,7 +81,7 @@ impl Shown {
     }
 }
 
-// Sets a question in a slot that holds this one, and searches it over the rows that are lent. Refused 14, 15, 30, 16.
+// Sets a question in a slot that holds this one, and searches it over the rows that are lent. Refused 14, 15, 30, 33, 16.
 pub fn set_in<'a>(
     question: Question,
     k: u8,
@@ -125,6 +127,9 @@ fn ask_refusal(held: u8, k: u8, rule: Rule) -> u8
     }
     if !rule.ranges_proper() {
         return Seated::RANGE_NOT_PROPER;
+    }
+    if !rule.ties_known() {
+        return Seated::TIE_RULE_UNKNOWN;
     }
     if held == 0 { 0 } else { Seated::IN_USE }
 }

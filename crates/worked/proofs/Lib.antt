@@ -1,2 +1,3 @@
 -- The worked examples under one claim.
+pub mod Ties
 pub mod Table

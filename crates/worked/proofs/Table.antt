@@ -1,9 +1,10 @@
--- The worked examples P1 to P22 (docs/RULES.md, section 13), under a single claim: each row is a theorem of the definitions, where they stand.
+-- The worked examples P1 to P28 (docs/RULES.md, section 13), under a single claim: each row is a theorem of the definitions, where they stand.
 -- Assumes nothing.
 use Rattle.bench.proofs.Examples as sender
 use Rattle.joining.proofs.Examples as frames
 use Rattle.ranking.proofs.Examples as search
 use Rattle.board.proofs.Examples as entries
+use Rattle.worked.proofs.Ties as ties
 
 pub record Table : Type 0 where
   -- P1, and its report with heat
@@ -14,6 +15,8 @@ pub record Table : Type 0 where
   pub of-searches : search.Examples
   -- P9 to P11, P16, P21 and P22
   pub of-entries : entries.Examples
+  -- P23 to P28
+  pub of-ties : ties.Examples
 
 pub table : Table
-table = record { of-sender = sender.examples; of-frames = frames.examples; of-searches = search.examples; of-entries = entries.examples }
+table = record { of-sender = sender.examples; of-frames = frames.examples; of-searches = search.examples; of-entries = entries.examples; of-ties = ties.examples }

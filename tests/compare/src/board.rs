@@ -1,9 +1,9 @@
-//! The window and its 32 slots as they are stored, fit or not, and the calls on them (docs/RULES.md, sections 5 to 9, 16 and 17).
+//! The window and its 32 slots as they are stored, fit or not, and the calls on them (docs/RULES.md, sections 5 to 9 and 16 to 18).
 //!
 //! Report m stands in row (m - 1) mod N; rows that hold nothing are 0. The cells before `next` in the visiting order are the marked ones,
 //! all of them where it is 256 or another that isn't in the order. Places past the list's end are 0, and so is everything of an empty slot.
 
-use crate::rules::{above, Entry, Question, Range, Ranges, Report, MOST_REPORTS};
+use crate::rules::{above, Entry, Question, Range, Ranges, Report, FIRST_COME, MOST_REPORTS, NEWEST};
 use crate::wrong::Wrong;
 use std::cmp::Ordering;
 use std::collections::VecDeque;
@@ -112,6 +112,8 @@ pub struct Slot {
     pub k: u8,
     pub weights: [i16; 3],
     pub ranges: Ranges,
+    /// Its tie rule, fit or not.
+    pub rule: u8,
     pub len: u8,
     pub next: u16,
     pub lines: [Entry; LINES],
@@ -121,7 +123,7 @@ const NO_LINE: Entry = Entry { number: 0, score: 0, heat: None };
 
 impl Slot {
     pub fn fresh() -> Slot {
-        Slot { k: 0, weights: [0; 3], ranges: Ranges::default(), len: 0, next: 0, lines: [NO_LINE; LINES] }
+        Slot { k: 0, weights: [0; 3], ranges: Ranges::default(), rule: 0, len: 0, next: 0, lines: [NO_LINE; LINES] }
     }
 
     pub fn listed(&self) -> &[Entry] {
@@ -130,7 +132,7 @@ impl Slot {
 
     /// The question with nothing listed and nothing marked.
     pub fn asked(&self) -> Question {
-        Question::new(self.k as usize, self.weights.map(i32::from), self.ranges)
+        Question::new(self.k as usize, self.weights.map(i32::from), self.ranges, self.rule)
     }
 
     /// The steps that its search has taken: the place of the next cell in the order, or all.
@@ -171,7 +173,22 @@ impl Slot {
         *self == Slot::fresh()
     }
 
-    /// A question that is fit (rules 9.5 and 9.6, sections 16 and 17), clause by clause.
+    /// Whether no line and the one behind it stand in this order by rank.
+    fn ranked(&self, order: Ordering, wrong: Wrong) -> bool {
+        let rule = match wrong {
+            Wrong::RankCheckedByNewest => NEWEST,
+            Wrong::RankCheckedByFirstCome => FIRST_COME,
+            _ => self.rule,
+        };
+        let passed_over = |p: &[Entry]| match wrong {
+            Wrong::RankOfFirstComeNotChecked => self.rule == FIRST_COME,
+            Wrong::RankOfEqualsNotChecked => p[0].score == p[1].score && p[0].number != p[1].number,
+            _ => false,
+        };
+        !self.listed().windows(2).any(|p| above(&p[0], &p[1], rule, Wrong::No) == order && !passed_over(p))
+    }
+
+    /// A question that is fit (rules 9.5 and 9.6, sections 16 to 18), clause by clause.
     fn fit(&self, window: &Window, wrong: Wrong) -> bool {
         let weight = |i: usize| (-1000..=1000).contains(&self.weights[i]);
         let ordered = |r: Range| r.low <= r.high;
@@ -182,7 +199,6 @@ impl Slot {
         let counted = |e: &Entry| !held(e) || q.entry(&window.report(e.number), wrong).is_some();
         let edition = |e: &Entry| !held(e) || e.heat == Question::edition(&window.report(e.number), wrong);
         let has_one = |e: &Entry| e.heat.is_some() == window.report(e.number).heat.is_some();
-        let ranked = |order: Ordering| !self.listed().windows(2).any(|p| above(&p[0], &p[1], Wrong::No) == order);
         let clauses = [
             (self.k <= 16, Wrong::KNotChecked),
             (weight(0), Wrong::FirstWeightNotChecked),
@@ -192,6 +208,7 @@ impl Slot {
             (ordered(self.ranges.shake), Wrong::ShakeOrderNotChecked),
             (ends(self.ranges.loss), Wrong::LossEndsNotChecked),
             (ends(self.ranges.shake), Wrong::ShakeEndsNotChecked),
+            (self.rule <= 1 || self.rule == 2 && wrong == Wrong::TieRule2IsFit, Wrong::TieRuleNotChecked),
             (self.next <= 256, Wrong::NextNotChecked),
             (self.next >= 256 || self.goes_on(wrong), Wrong::NextOutsideTheOrder),
             (self.len <= self.k, Wrong::ListLongerThanK),
@@ -199,8 +216,8 @@ impl Slot {
             (self.listed().iter().all(scored), Wrong::ScoresNotChecked),
             (self.listed().iter().all(counted), Wrong::UncountedLineNotChecked),
             (self.listed().iter().all(|e| edition(e) || wrong == Wrong::LineHeatNotChecked && has_one(e)), Wrong::LineEditionNotChecked),
-            (ranked(Ordering::Greater), Wrong::RankNotChecked),
-            (ranked(Ordering::Equal), Wrong::TwiceListed),
+            (self.ranked(Ordering::Greater, wrong), Wrong::RankNotChecked),
+            (self.ranked(Ordering::Equal, wrong), Wrong::TwiceListed),
             (rest.iter().all(|e| e.number == 0), Wrong::RestNumberNotChecked),
             (rest.iter().all(|e| e.score == 0), Wrong::RestScoreNotChecked),
             (rest.iter().all(|e| e.heat.is_none()), Wrong::RestHeatNotChecked),
@@ -220,6 +237,7 @@ impl Slot {
             Wrong::EmptySlotNotChecked => self.k == 0,
             Wrong::EmptySlotRangesNotChecked => Slot { ranges: Ranges::default(), ..self.clone() }.zeros(),
             Wrong::EmptySlotThirdWeightNotChecked => Slot { weights: [self.weights[0], self.weights[1], 0], ..self.clone() }.zeros(),
+            Wrong::EmptySlotTieRuleNotChecked => Slot { rule: 0, ..self.clone() }.zeros(),
             Wrong::EmptySlotHeatNotChecked => Slot { lines: self.lines.map(|e| Entry { heat: None, ..e }), ..self.clone() }.zeros(),
             _ => self.zeros(),
         };
@@ -256,15 +274,21 @@ impl Board {
     }
 
     /// The steps of the question's search.
-    pub fn set(&mut self, slot: usize, k: u8, weights: [i16; 3], ranges: Ranges) -> Result<usize, u32> {
+    pub fn set(&mut self, slot: usize, k: u8, weights: [i16; 3], ranges: Ranges, rule: u8) -> Result<usize, u32> {
         let wrong = self.wrong;
         let out = |i: usize| !(-1000..=1000).contains(&weights[i]);
         let used = self.slots.get(slot).map_or(false, |s| s.k != 0);
         let fifteen = out(0) || out(1) || out(2) && wrong != Wrong::SetTakesAnyHeatWeight;
         let thirty = thirty(ranges, wrong);
+        let thirty_three = match wrong {
+            Wrong::SetTakesTieRule2 => rule > 2,
+            Wrong::SetTakesAnyTieRule => false,
+            _ => rule > 1,
+        };
         first(&[
             (wrong == Wrong::ThirteenFirst && slot > 31, 13),
             (wrong == Wrong::ThirtyFirst && thirty, 30),
+            (wrong == Wrong::ThirtyThreeFirst && thirty_three, 33),
             (!self.fit(), 24),
             (slot > 31, 13),
             (wrong == Wrong::SixteenFirst && used, 16),
@@ -272,12 +296,15 @@ impl Board {
             (wrong == Wrong::ThirtyBeforeFifteen && thirty, 30),
             (fifteen, 15),
             (wrong == Wrong::ThirtyAfterSixteen && used, 16),
+            (wrong == Wrong::ThirtyThreeBeforeThirty && thirty_three, 33),
             (thirty, 30),
+            (wrong == Wrong::ThirtyThreeAfterSixteen && used, 16),
+            (thirty_three, 33),
             (used, 16),
         ])?;
         let held = self.window.reports();
         let new = &mut self.slots[slot];
-        *new = Slot { k, weights, ranges, ..Slot::fresh() };
+        *new = Slot { k, weights, ranges, rule, ..Slot::fresh() };
         let mut q = new.asked();
         let steps = q.search(&held, wrong);
         new.list(&q.list);
@@ -298,6 +325,7 @@ impl Board {
             Wrong::RemovingLeavesTheLines => Slot { lines: old.lines, ..Slot::fresh() },
             Wrong::RemovingLeavesTheRanges => Slot { ranges: old.ranges, ..Slot::fresh() },
             Wrong::RemovingLeavesTheHeatWeight => Slot { weights: [0, 0, old.weights[2]], ..Slot::fresh() },
+            Wrong::RemovingLeavesTheTieRule => Slot { rule: old.rule, ..Slot::fresh() },
             _ => Slot::fresh(),
         };
         Ok(())
@@ -339,6 +367,7 @@ impl Board {
                 match wrong {
                     Wrong::RangesForgottenOnASearch => q.ranges = Ranges::ALL,
                     Wrong::HeatWeightForgottenOnASearch => q.weights[2] = 0,
+                    Wrong::SearchLeavesNewest => slot.rule = NEWEST,
                     _ => {}
                 }
                 let steps = q.search(&held, wrong);
@@ -373,6 +402,7 @@ impl Board {
         match wrong {
             Wrong::BeginForgetsTheRanges => s.ranges = Ranges::ALL,
             Wrong::BeginForgetsTheHeatWeight => s.weights[2] = 0,
+            Wrong::BeginForgetsTheTieRule => s.rule = NEWEST,
             _ => {}
         }
         if wrong != Wrong::BeginKeepsTheMarks {
@@ -388,8 +418,10 @@ impl Board {
         let early = wrong == Wrong::TwentyFiveFirst && ended;
         first(&[(early, 25), (!self.workable(s, Wrong::EmptySlotSteps, Wrong::StepLooksAtAllSlots), 24), (ended, 25)])?;
         let (mut q, steps) = (s.question(wrong), s.steps(wrong));
-        if wrong == Wrong::StepListNotCut {
-            q.k = LINES;
+        match wrong {
+            Wrong::StepListNotCut => q.k = LINES,
+            Wrong::StepByNewest => q.rule = NEWEST,
+            _ => {}
         }
         let held = self.window.reports();
         let taken = if wrong == Wrong::WholeSearchAtOnce { 256 } else { 1 };

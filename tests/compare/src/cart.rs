@@ -1,8 +1,8 @@
-//! The log program by the rules (docs/RULES.md, sections 11 and 17): a log in, its text out.
+//! The log program by the rules (docs/RULES.md, sections 11, 17 and 18): a log in, its text out.
 
 use crate::bus::Bus;
 use crate::joining::Heard;
-use crate::rules::{le, Question, Range, Ranges, Report, MOST_REPORTS};
+use crate::rules::{le, Question, Range, Ranges, Report, FIRST_COME, MOST_REPORTS, NEWEST};
 use crate::wrong::Wrong;
 use std::collections::VecDeque;
 
@@ -15,12 +15,15 @@ pub struct Cart {
     held: VecDeque<Report>,
     slots: Vec<Option<Question>>,
     bus: Bus,
+    /// The tie rules that slots had last: for rules got wrong.
+    had: [u8; 32],
     pub text: Vec<u8>,
 }
 
 impl Cart {
     pub fn new(wrong: Wrong) -> Cart {
-        Cart { wrong, item: 0, size: None, entered: 0, held: VecDeque::new(), slots: vec![None; 32], bus: Bus::fresh(), text: Vec::new() }
+        let (held, slots) = (VecDeque::new(), vec![None; 32]);
+        Cart { wrong, item: 0, size: None, entered: 0, held, slots, bus: Bus::fresh(), had: [0; 32], text: Vec::new() }
     }
 
     fn line(&mut self, line: String) {
@@ -65,7 +68,11 @@ impl Cart {
         }
         match tag {
             16 => self.window(le(value) as usize),
-            17 | 22 => self.set(value[0] as usize, value[1] as usize, self.weights(&value[2..])),
+            17 | 22 | 23 => {
+                let (slot, rule) = (value[0] as usize, self.tie_rule(tag, value));
+                let k = if tag == 23 && self.wrong == Wrong::TieRuleReadAsK { value[8] } else { value[1] };
+                self.set(slot, k as usize, self.weights(&value[2..]), rule)
+            }
             18 => self.frame(None, value),
             19 => self.remove(value[0] as usize),
             20 => self.show(value[0] as usize),
@@ -80,8 +87,24 @@ impl Cart {
             Wrong::HeatWeightFirst if value.len() > 4 => [at(1), at(2), at(0)],
             Wrong::HeatWeightWithoutSign if value.len() > 4 => [at(0), at(1), le(&value[4..6]) as i32],
             Wrong::HeatWeightPassedOver => [at(0), at(1), 0],
+            Wrong::TieRuleBeforeTheHeatWeight if value.len() == 7 => [at(0), at(1), signed(&value[5..7])],
+            Wrong::TieRuleWithoutHeat if value.len() == 7 => [at(0), at(1), 0],
             Wrong::PlainQuestionsWeighHeat if value.len() == 4 => [at(0), at(1), 1],
             _ => [at(0), at(1), at(2)],
+        }
+    }
+
+    /// A question's tie rule; newest where none is given.
+    fn tie_rule(&self, tag: u8, value: &[u8]) -> u8 {
+        let given = value.get(8).copied();
+        match self.wrong {
+            Wrong::TieRuleReadAsK if tag == 23 => value[1] % 2,
+            Wrong::TieRuleNotRead => NEWEST,
+            Wrong::TieRuleBeforeTheHeatWeight => given.map_or(NEWEST, |_| value[6]),
+            Wrong::FirstComeWhereNoneIsGiven => given.unwrap_or(FIRST_COME),
+            Wrong::HeatedQuestionsFirstCome if tag == 22 => FIRST_COME,
+            Wrong::RemovedTieRuleStays => given.unwrap_or(*self.had.get(value[0] as usize).unwrap_or(&NEWEST)),
+            _ => given.unwrap_or(NEWEST),
         }
     }
 
@@ -95,12 +118,21 @@ impl Cart {
         self.size = Some(n);
     }
 
-    fn set(&mut self, slot: usize, k: usize, [a, b, c]: [i32; 3]) {
+    fn set(&mut self, slot: usize, k: usize, [a, b, c]: [i32; 3], rule: u8) {
         let wrong = self.wrong;
         let most_k = if wrong == Wrong::K17 { 17 } else { 16 };
         let most = if wrong == Wrong::WeightOf1001 { 1001 } else { 1000 };
         let (a, b) = if wrong == Wrong::WeightsSwapped { (b, a) } else { (a, b) };
         let out = |w: i32| w < -1000 || w > most;
+        let thirty_three = match wrong {
+            Wrong::TakesTieRule2 => rule > 2,
+            Wrong::TakesAnyTieRule | Wrong::TieRuleByItsLowestBit => false,
+            _ => rule > 1,
+        };
+        let rule = if wrong == Wrong::TieRuleByItsLowestBit { rule % 2 } else { rule };
+        if thirty_three && wrong == Wrong::ThirtyThreeBeforeThirteen {
+            return self.refuse(33);
+        }
         if slot > 31 {
             return self.refuse(13);
         }
@@ -116,8 +148,17 @@ impl Cart {
             Wrong::HeatWeightOf1001 => c < -1000 || c > 1001,
             _ => out(c),
         };
+        if thirty_three && wrong == Wrong::ThirtyThreeBeforeFifteen {
+            return self.refuse(33);
+        }
         if out(a) || out(b) || out_for_heat {
             return self.refuse(15);
+        }
+        if used && wrong == Wrong::SixteenBeforeThirtyThree {
+            return self.refuse(16);
+        }
+        if thirty_three {
+            return self.refuse(if wrong == Wrong::TieRuleRefused15 { 15 } else { 33 });
         }
         if used {
             return self.refuse(16);
@@ -126,9 +167,16 @@ impl Cart {
             Wrong::LogCountsTo4094 => Ranges { loss: Range { low: 0, high: 4094 }, ..Ranges::ALL },
             _ => Ranges::ALL,
         };
-        let mut q = Question::new(k, [a, b, c], ranges);
+        let mut q = Question::new(k, [a, b, c], ranges, rule);
+        if wrong == Wrong::TieRuleForgottenOnSetting {
+            q.rule = NEWEST;
+        }
         let steps = q.search(&self.held, wrong);
-        self.slots[slot] = Some(q);
+        self.slots[slot] = Some(Question { rule, ..q });
+        self.had[slot] = rule;
+        if wrong == Wrong::OneTieRuleForAll {
+            self.slots.iter_mut().flatten().for_each(|q| q.rule = rule);
+        }
         let item = self.item;
         self.line(format!("S {} {} {}", item, slot, steps));
     }
@@ -221,7 +269,12 @@ impl Cart {
         for slot in slots {
             if let Some(q) = &mut self.slots[slot] {
                 if q.list.iter().any(|e| e.number == number) {
+                    let rule = q.rule;
+                    if wrong == Wrong::TieRuleForgottenOnASearch {
+                        q.rule = NEWEST;
+                    }
                     let steps = q.search(&self.held, wrong);
+                    q.rule = rule;
                     let item = self.item;
                     self.line(format!("S {} {} {}", item, slot, steps));
                 }
@@ -231,9 +284,13 @@ impl Cart {
 }
 
 fn known(tag: u8, length: usize, wrong: Wrong) -> bool {
-    let lengths = [(16, 2), (17, 6), (18, 12), (19, 1), (20, 1), (21, 16), (22, 8)];
-    let either = wrong == Wrong::EitherTagOfAQuestion && [(17, 8), (22, 6)].contains(&(tag, length));
-    lengths.contains(&(tag, length)) || either
+    let lengths = [(16, 2), (17, 6), (18, 12), (19, 1), (20, 1), (21, 16), (22, 8), (23, 9)];
+    let either = match wrong {
+        Wrong::EitherTagOfAQuestion => [(17, 8), (22, 6)].contains(&(tag, length)),
+        Wrong::EitherTagOfATieRule => [(22, 9), (23, 8)].contains(&(tag, length)),
+        _ => false,
+    };
+    lengths.contains(&(tag, length)) && !(tag == 23 && wrong == Wrong::Tag23Unknown) || either
 }
 
 fn signed(two: &[u8]) -> i32 {

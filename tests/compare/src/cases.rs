@@ -51,6 +51,9 @@ pub fn all() -> Vec<Case> {
     heats(&mut out);
     heat_in_payloads(&mut out);
     heat_weights(&mut out);
+    ties(&mut out);
+    full_lists(&mut out);
+    tie_rules(&mut out);
     out
 }
 
@@ -216,6 +219,7 @@ fn item_refusals(all: &mut Vec<Case>) {
     let kinds = [
         set(0, 1, 1, 1),
         set_heat(0, 1, 1, 1, 1),
+        set_rule(0, 1, [1, 1, 1], 1),
         report(5, 1, 2)[0].clone(),
         at(7, &report(5, 1, 2)[0]),
         remove(0),
@@ -234,17 +238,18 @@ fn item_refusals(all: &mut Vec<Case>) {
     for n in 1..5 {
         case(all, &format!("21: window, {} of 5 bytes", n), &[window(3)[..n].to_vec()], "R 1 21\n");
     }
-    for tag in [0, 1, 4, 5, 15, 23, 255].iter() {
+    for tag in [0, 1, 4, 5, 15, 24, 255].iter() {
         case(all, &format!("22: tag {}", tag), &[item(*tag, &[3, 0]), window(3)], "R 1 22\n");
     }
-    for (tag, right) in [(16, 2), (17, 6), (18, 12), (19, 1), (20, 1), (21, 16), (22, 8)].iter() {
-        for length in [0, 1, 2, 5, 6, 7, 8, 9, 11, 12, 13, 15, 16, 17, 255, 256, 258, 4096, 65535].iter().filter(|l| *l != right) {
+    for (tag, right) in [(16, 2), (17, 6), (18, 12), (19, 1), (20, 1), (21, 16), (22, 8), (23, 9)].iter() {
+        for length in [0, 1, 2, 5, 6, 7, 8, 9, 10, 11, 12, 13, 15, 16, 17, 255, 256, 258, 4096, 65535].iter().filter(|l| *l != right) {
             let name = format!("22: tag {}, length {}", tag, length);
             case(all, &name, &[item(*tag, &vec![0; *length]), window(3), window(3)], "R 1 22\nR 3 23\n");
         }
     }
     let frame = report(5, 1, 2)[0].clone();
-    for early in [set(40, 1, 1, 1), set_heat(40, 1, 1, 1, 1), frame.clone(), at(7, &frame), remove(40), show(40)].iter() {
+    let sets = [set(40, 1, 1, 1), set_heat(40, 1, 1, 1, 1), set_rule(40, 1, [1, 1, 1], 2)];
+    for early in sets.iter().chain(&[frame.clone(), at(7, &frame), remove(40), show(40)]) {
         case(all, &format!("23: tag {} with no window", early[0]), &[early.clone(), window(1)], "R 1 23\n");
     }
     case(all, "23: a second window, of any N", &[window(1), window(1), window(0), window(1025)], "R 2 23\nR 3 23\nR 4 23\n");
@@ -428,4 +433,104 @@ fn heat_weights(all: &mut Vec<Case>) {
     let removed = after_window(&[set_heat(4, 1, 0, 0, 1), remove(4), set(4, 1, 0, 0), report(5, 1, 2)[0].clone()]);
     let removed = [removed, report(5, 1, 2)[1..].to_vec(), vec![show(4)]].concat();
     case(all, "a slot keeps no weight for heat", &removed, "S 2 4 256\nS 4 4 256\nQ 4 1 1:0\n");
+}
+
+/// Equal scores under either rule (docs/RULES.md, section 18).
+fn ties(all: &mut Vec<Case>) {
+    // the rows of the table under first-come; the last frame of the third report is item 14
+    let mut row = |name: &str, rule: u8, values: &[(u32, u32)], text: &str| {
+        let items = [vec![window(2), set_rule(0, 1, [1, 1, 0], rule)], reports(values), vec![show(0)]].concat();
+        case(all, name, &items, &format!("S 2 0 256\n{}", text));
+    };
+    let [p9, p10, p11] = [[(10, 10), (5, 5), (1, 1)], [(1, 1), (5, 5), (1, 2)], [(9, 9), (1, 1), (9, 9)]];
+    // no scores are equal: all as it was. Report 2 is in cell 0, the last of the order
+    row("P23: P9, first-come", 1, &p9, "S 14 0 256\nQ 0 1 2:10\n");
+    row("P24: P10, first-come", 1, &p10, "Q 0 1 2:10\n");
+    // the third has 18 like the first, and no place; then the first leaves
+    row("P25: P11, first-come: the newest isn't taken, and is searched for", 1, &p11, "S 14 0 256\nQ 0 1 3:18\n");
+    row("P11, newest by tag 23", 0, &p11, "Q 0 1 3:18\n");
+    row("P28: three equals, the second takes the first one's place", 1, &[(5, 5); 3], "S 14 0 256\nQ 0 1 2:10\n");
+    row("P28, newest", 0, &[(5, 5); 3], "Q 0 1 3:10\n");
+
+    // Cell 255 can reach 8190, 239 (column 15, row 14) and 254 (column 14, row 15) 7934 both, no other more than 7678: 3 steps, for 254 comes
+    // where the list has 7934 already
+    let (in_239, in_254) = ((4095, 3839), (3839, 4095));
+    let mut two = |name: &str, k: u8, rule: u8, values: &[(u32, u32)], text: &str| {
+        let items = [vec![window(5)], reports(values), vec![set_rule(0, k, [1, 1, 0], rule), show(0)]].concat();
+        case(all, name, &items, &format!("S {} 0 3\n{}\n", 4 * values.len() + 2, text));
+    };
+    two("two cells, the older in the first", 1, 1, &[in_239, in_254], "Q 0 1 1:7934");
+    two("two cells, the older in the second", 1, 1, &[in_254, in_239], "Q 0 1 1:7934");
+    two("two cells, the older in the second, newest", 1, 0, &[in_254, in_239], "Q 0 1 2:7934");
+    two("P26", 1, 1, &[in_254, (3900, 4034)], "Q 0 1 1:7934");
+    two("P26, newest", 1, 0, &[in_254, (3900, 4034)], "Q 0 1 2:7934");
+    two("two cells, the newer in the second, newest", 1, 0, &[in_239, in_254], "Q 0 1 2:7934");
+    let mixed = [in_254, in_239, in_239, in_254, in_239];
+    two("two cells mixed, k 1", 1, 1, &mixed, "Q 0 1 1:7934");
+    two("two cells mixed, k 2", 2, 1, &mixed, "Q 0 2 1:7934 2:7934");
+    two("two cells mixed, k 4", 4, 1, &mixed, "Q 0 4 1:7934 2:7934 3:7934 4:7934");
+    two("two cells mixed, k 4, newest", 4, 0, &mixed, "Q 0 4 5:7934 4:7934 3:7934 2:7934");
+    let behind = [in_254, in_239, (4095, 4095), in_239];
+    two("two cells and a greater score, k 2", 2, 1, &behind, "Q 0 2 3:8190 1:7934");
+    two("two cells and a greater score, k 3", 3, 1, &behind, "Q 0 3 3:8190 1:7934 2:7934");
+}
+
+/// Full lists of equal scores, and one more of the same.
+fn full_lists(all: &mut Vec<Case>) {
+    // slot 0 is first-come, slot 1 newest; the last frame of report m is item 4m + 3
+    let mut run = |name: &str, n: usize, k: u8, weights: [i32; 3], values: &[(u32, u32)], text: &str| {
+        let asked = vec![window(n), set_rule(0, k, weights, 1), set_rule(1, k, weights, 0)];
+        let items = [asked, reports(values), vec![show(0), show(1)]].concat();
+        case(all, name, &items, &format!("S 2 0 256\nS 3 1 256\n{}", text));
+    };
+    let (none, same) = ([0, 0, 0], [(300, 500); 17]);
+    run("a short list takes equals", 3, 3, none, &same[..2], "Q 0 2 1:0 2:0\nQ 1 2 2:0 1:0\n");
+    run("P27: full, and one more of the same", 3, 2, [1, 1, 0], &[(2, 2), (1, 3), (3, 1)], "Q 0 2 1:4 2:4\nQ 1 2 3:4 2:4\n");
+    run("full, and one more of the same, without weights", 3, 2, none, &same[..3], "Q 0 2 1:0 2:0\nQ 1 2 3:0 2:0\n");
+    // report 1 leaves from slot 0's list alone
+    run("and the oldest leaves", 3, 2, none, &same[..4], "S 19 0 256\nQ 0 2 2:0 3:0\nQ 1 2 4:0 3:0\n");
+    run("and the next", 3, 2, none, &same[..5], "S 19 0 256\nS 23 0 256\nQ 0 2 3:0 4:0\nQ 1 2 5:0 4:0\n");
+    // where all that are held are listed: under newest the entry pushes the one off that leaves, so that nothing is searched
+    run("k as large as the window", 2, 2, none, &same[..3], "S 15 0 256\nQ 0 2 2:0 3:0\nQ 1 2 3:0 2:0\n");
+    run("a window of one", 1, 1, none, &same[..2], "S 11 0 256\nQ 0 1 2:0\nQ 1 1 2:0\n");
+    let sixteen = |first: i32, by: i32| (0..16).map(|i| format!(" {}:800", first + by * i)).collect::<String>();
+    let text = format!("Q 0 16{}\nQ 1 16{}\n", sixteen(1, 1), sixteen(17, -1));
+    run("sixteen and one more", 17, 16, [1, 1, 0], &same, &text);
+    // cells of columns and rows that sum up to 3 or more come first, 250 of them, then 2, 17 and 32, which can reach 1022; 1 and 16 only 766
+    let text = format!("S 71 0 253\nQ 0 16{}\nQ 1 16{}\n", sixteen(2, 1), sixteen(17, -1));
+    run("sixteen, one more, and the oldest leaves", 16, 16, [1, 1, 0], &same, &text);
+    // one that is greater has its place under both, and pushes another one off
+    let above = [(1, 1), (1, 1), (1, 2), (1, 1)];
+    run("a greater one among equals", 4, 2, [1, 1, 0], &above, "Q 0 2 3:3 1:2\nQ 1 2 3:3 4:2\n");
+}
+
+/// Tie rules that are taken and refused, and tag 23 in a log.
+fn tie_rules(all: &mut Vec<Case>) {
+    let one = |i: Item| after_window(&[i]);
+    for rule in [2, 3, 128, 254, 255] {
+        case(all, &format!("33: rule {}", rule), &one(set_rule(31, 16, [0; 3], rule)), "R 2 33\n");
+    }
+    for rule in [0, 1] {
+        case(all, &format!("rule {}", rule), &one(set_rule(31, 16, [1000, -1000, 1], rule)), "S 2 31 256\n");
+    }
+    let over = |slot: u8, k: u8, weights: [i32; 3]| set_rule(slot, k, weights, 2);
+    let early = [over(32, 0, [0; 3]), over(31, 17, [1001, 0, 0]), over(31, 16, [1001, 0, 0]), over(31, 16, [0, 0, -1001])];
+    case(all, "13, 14 and 15 before 33", &after_window(&early), "R 2 13\nR 3 14\nR 4 15\nR 5 15\n");
+    let used = after_window(&[set(4, 1, 1, 1), set_rule(4, 1, [1, 1, 0], 2), set_rule(4, 1, [1, 1, 0], 1)]);
+    case(all, "33 before 16", &used, "S 2 4 256\nR 3 33\nR 4 16\n");
+    let refused = after_window(&[set_rule(4, 1, [1, 1, 0], 2), show(4), set_rule(4, 1, [1, 1, 0], 1), show(4)]);
+    case(all, "a slot refused 33 is free", &refused, "R 2 33\nR 3 17\nS 4 4 256\nQ 4 0\n");
+    // two reports of 3 behind the window, each of 4 frames: the next item is 10
+    let two = after_window(&reports(&[(1, 2), (2, 1)]));
+    let again = [two.clone(), vec![set_rule(4, 2, [1, 1, 0], 1), show(4), remove(4), set(4, 2, 1, 1), show(4)]].concat();
+    case(all, "a slot keeps no tie rule", &again, "S 10 4 256\nQ 4 2 1:3 2:3\nS 13 4 256\nQ 4 2 2:3 1:3\n");
+    let tags = [set(0, 2, 1, 1), set_heat(1, 2, 1, 1, 0), set_rule(2, 2, [1, 1, 0], 0), set_rule(3, 2, [1, 1, 0], 1)];
+    let shows: Vec<Item> = (0..4).map(show).collect();
+    let tags = [two, tags.to_vec(), shows].concat();
+    let lists = "Q 0 2 2:3 1:3\nQ 1 2 2:3 1:3\nQ 2 2 2:3 1:3\nQ 3 2 1:3 2:3\n";
+    case(all, "tags 17, 22 and 23", &tags, &format!("S 10 0 256\nS 11 1 256\nS 12 2 256\nS 13 3 256\n{}", lists));
+    // heats 7, none, 7, of 5, 4 and 5 frames: with c 1 the second doesn't count
+    let three = [heated(5, 1, 1, 7), report(5, 8, 8), heated(5, 1, 1, 7)].concat();
+    let heats = [after_window(&three), vec![set_rule(0, 2, [0, 0, 1], 1), set_rule(1, 2, [0, 0, 1], 0), show(0), show(1)]].concat();
+    case(all, "a tie rule and a weight for heat", &heats, "S 16 0 256\nS 17 1 256\nQ 0 2 1:7 3:7\nQ 1 2 3:7 1:7\n");
 }

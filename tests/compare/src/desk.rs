@@ -4,7 +4,7 @@ use crate::board::{Board, Row, Slot, Window};
 use crate::bus::{Bus, Last};
 use crate::joining::{payload, Brought, Heard, Session, BYTES};
 use crate::orders::{read, Order, Said, FORMS};
-use crate::rules::{Entry, Ranges, Report};
+use crate::rules::{Entry, Ranges, Report, FIRST_COME, NEWEST};
 use crate::wrong::Wrong;
 
 #[derive(Clone)]
@@ -157,7 +157,12 @@ fn ranges(said: Said, unsaid: Ranges, wrong: Wrong) -> Ranges {
 
 fn set(board: &mut Board, n: &[i64], said: Said, wrong: Wrong) -> String {
     let weights = [n[2] as i16, n[3] as i16, said.heat.unwrap_or(0)];
-    let steps = board.set(n[0] as usize, n[1] as u8, weights, ranges(said, Ranges::ALL, wrong));
+    let rule = match wrong {
+        Wrong::UnsaidIsFirstCome => said.rule.unwrap_or(FIRST_COME),
+        Wrong::SaidTieRuleLost => NEWEST,
+        _ => said.rule.unwrap_or(NEWEST),
+    };
+    let steps = board.set(n[0] as usize, n[1] as u8, weights, ranges(said, Ranges::ALL, wrong), rule);
     steps.map_or_else(refused, |steps| format!("steps {}", steps))
 }
 
@@ -166,10 +171,12 @@ fn poke_slot(board: &mut Board, n: &[i64], said: Said, wrong: Wrong) -> String {
     let slot = &mut board.slots[n[0] as usize];
     let before = if wrong == Wrong::PokeForgetsTheRanges { Ranges::ALL } else { slot.ranges };
     let weight = if wrong == Wrong::PokeForgetsTheHeatWeight { 0 } else { slot.weights[2] };
+    let rule = if wrong == Wrong::PokeForgetsTheTieRule { NEWEST } else { slot.rule };
     *slot = Slot {
         k: n[1] as u8,
         weights: [n[2] as i16, n[3] as i16, said.heat.unwrap_or(weight)],
         ranges: ranges(said, before, wrong),
+        rule: said.rule.unwrap_or(rule),
         len: n[4] as u8,
         next: n[5] as u16,
         lines: slot.lines,

@@ -2,6 +2,7 @@
 
 use crate::heating::Heating;
 use crate::rules::le;
+use crate::tying::{self, Tying};
 
 pub type Item = Vec<u8>;
 
@@ -63,6 +64,13 @@ pub fn set_heat(slot: u8, k: u8, a: i32, b: i32, c: i32) -> Item {
     let mut value = set(slot, k, a, b)[3..].to_vec();
     value.extend((c as i16).to_le_bytes());
     item(22, &value)
+}
+
+/// The same with a tie rule.
+pub fn set_rule(slot: u8, k: u8, [a, b, c]: [i32; 3], rule: u8) -> Item {
+    let mut value = set_heat(slot, k, a, b, c)[3..].to_vec();
+    value.push(rule);
+    item(23, &value)
 }
 
 pub fn frame(identifier: u32, data: &[u8]) -> Item {
@@ -159,6 +167,7 @@ const VALUES: [Values; 8] =
 struct Draw<'a> {
     rng: &'a mut Rng,
     heating: Heating,
+    tying: Tying,
     values: Values,
     drawn: u32,
     slots: u8,
@@ -167,10 +176,10 @@ struct Draw<'a> {
 
 impl<'a> Draw<'a> {
     fn new(rng: &'a mut Rng) -> Draw<'a> {
-        let heating = Heating::new(rng.0, 60);
+        let (heating, tying) = (Heating::new(rng.0, 60), Tying::new(rng.0, 50));
         let values = rng.pick(&VALUES);
         let slots = rng.pick(&[1, 2, 3, 8, 32]);
-        Draw { rng, heating, values, drawn: 0, slots, out: Vec::new() }
+        Draw { rng, heating, tying, values, drawn: 0, slots, out: Vec::new() }
     }
 
     fn edge(&mut self) -> u32 {
@@ -220,9 +229,13 @@ impl<'a> Draw<'a> {
         self.asks(slot, k as u8, a, b, c);
     }
 
-    /// A question with a weight for heat, or without one.
+    /// A question with a weight for heat and a tie rule, or without one.
     fn asks(&mut self, slot: u8, k: u8, a: i32, b: i32, c: Option<i32>) {
-        self.out.push(c.map_or_else(|| set(slot, k, a, b), |c| set_heat(slot, k, a, b, c)));
+        self.out.push(match (self.tying.any_rule(), c) {
+            (Some(rule), c) => set_rule(slot, k, [a, b, c.unwrap_or(0)], rule),
+            (None, Some(c)) => set_heat(slot, k, a, b, c),
+            (None, None) => set(slot, k, a, b),
+        });
     }
 
     fn some_payload(&mut self) -> Vec<u8> {
@@ -531,7 +544,7 @@ fn damaged(rng: &mut Rng, mut items: Vec<Item>) -> Vec<Item> {
                     items[at][2] = (length / 256) as u8;
                 }
             }
-            5 => items[at][0] = rng.pick(&[0, 1, 4, 15, 16, 17, 18, 19, 20, 21, 22, 23, 255]),
+            5 => items[at][0] = rng.pick(&[0, 1, 4, 15, 16, 17, 18, 19, 20, 21, 22, 23, 24, 255]),
             6 => {
                 let value: Vec<u8> = (0..rng.below(20)).map(|_| rng.byte()).collect();
                 let tag = rng.byte();
@@ -560,6 +573,7 @@ fn damaged(rng: &mut Rng, mut items: Vec<Item>) -> Vec<Item> {
 pub fn draw(seed: u64, timed: impl FnOnce(&mut [Item])) -> (&'static str, Vec<u8>) {
     let rng = &mut Rng(seed);
     let (kind, mut items) = match rng.below(40) {
+        _ if tying::whole(seed) => ("ties", tying::log(rng)),
         0 => ("large", large(rng)),
         n if n < 10 => ("good", good(rng)),
         n if n < 20 => ("leaving", leaving(rng)),
@@ -612,6 +626,10 @@ pub fn words(item: &[u8]) -> String {
         (22, 8) => {
             let [a, b, c] = [signed(&v[2..4]), signed(&v[4..6]), signed(&v[6..8])];
             format!("question, slot {}, k {}, weights {}, {}, {}", v[0], v[1], a, b, c)
+        }
+        (23, 9) => {
+            let [a, b, c] = [signed(&v[2..4]), signed(&v[4..6]), signed(&v[6..8])];
+            format!("question, slot {}, k {}, weights {}, {}, {}, tie rule {}", v[0], v[1], a, b, c, v[8])
         }
         (21, 16) => format!("at {}, {}", le(&v[..4]), frame_words(le(&v[4..8]), &v[8..])),
         (tag, length) => format!("tag {}, length {}: {}", tag, length, hex(v)),

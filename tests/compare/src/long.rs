@@ -2,7 +2,7 @@
 //! of the reports have times, and the last one too: its last packet is kept, so that a frame before it is refused 26.
 
 use crate::cart::Cart;
-use crate::logs::{at, heated, report, set, set_heat, show, window, Item};
+use crate::logs::{at, heated, report, set, set_heat, set_rule, show, window, Item};
 use crate::rules::MOST_REPORTS;
 use crate::wrong::Wrong;
 use std::io::{Read, Write};
@@ -20,7 +20,7 @@ fn peak(process: u32) -> u64 {
 }
 
 /// The items around report n: values rise slowly, so that each is listed; one in 5,000 stands out, and is searched for when it leaves. A
-/// quarter has a heat.
+/// quarter has a heat. Of 256 of the same score slot 29 lists the first ones.
 fn around(n: u32) -> Vec<Item> {
     let (sender, slowly) = ((n % 254) as u8, n / 256);
     let mut out = match n {
@@ -36,13 +36,14 @@ fn around(n: u32) -> Vec<Item> {
         out.push(at(n, &report(sender, 0, 0)[0]));
     }
     if n % 100_000 == 0 || n > MOST_REPORTS {
-        out.extend([show(0), show(5), show(30), show(31)]);
+        out.extend([show(0), show(5), show(29), show(30), show(31)]);
     }
     out
 }
 
 fn opening() -> Vec<Item> {
-    vec![window(1024), set(0, 1, 2, 1), set(5, 16, 0, -3), set_heat(30, 3, 0, 0, 1), set(31, 4, 0, 0)]
+    let first_come = set_rule(29, 3, [2, 1, 0], 1);
+    vec![window(1024), set(0, 1, 2, 1), set(5, 16, 0, -3), first_come, set_heat(30, 3, 0, 0, 1), set(31, 4, 0, 0)]
 }
 
 pub fn run(mut command: Command) -> bool {

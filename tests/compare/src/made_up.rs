@@ -4,7 +4,7 @@ use crate::board::{Row, Slot, Window, LINES, ROWS};
 use crate::heating::Heating;
 use crate::logs::{carry, identifier, odd_announcement, Rng};
 use crate::ranging::both;
-use crate::rules::{le, Entry, Range, Ranges, Report};
+use crate::rules::{above, le, Entry, Range, Ranges, Report};
 use crate::scripts::{frame_line, hex, some_payload, Script};
 use crate::wrong::Wrong;
 
@@ -64,7 +64,8 @@ fn some_slot(s: &mut Script, rng: &mut Rng) -> Slot {
         _ => rng.among(-3, 3) as i16,
     };
     let weights = [weight(rng), weight(rng), s.heating.any_weight().unwrap_or(0) as i16];
-    let mut slot = Slot { k: rng.among(1, most) as u8, weights, ranges: s.ranges(), ..Slot::fresh() };
+    let rule = s.tying.any_rule().unwrap_or(0);
+    let mut slot = Slot { k: rng.among(1, most) as u8, weights, ranges: s.ranges(), rule, ..Slot::fresh() };
     let mut q = slot.asked();
     let order = q.order(Wrong::No);
     let mut steps = if rng.chance(20) { order.len() } else { rng.below(order.len() + 1) };
@@ -93,7 +94,7 @@ fn some_slot(s: &mut Script, rng: &mut Rng) -> Slot {
 
 fn slot_line(at: usize, s: &Slot) -> String {
     let [a, b, c] = s.weights;
-    format!("poke slot {} {} {} {} {} {} heat {}{}", at, s.k, a, b, s.len, s.next, c, both(s.ranges))
+    format!("poke slot {} {} {} {} {} {} heat {}{} rule {}", at, s.k, a, b, s.len, s.next, c, both(s.ranges), s.rule)
 }
 
 /// The greatest number that a row or a line has room for.
@@ -130,6 +131,7 @@ fn damage(s: &mut Script, rng: &mut Rng, at: usize) -> Vec<String> {
     let (said, back) = match rng.below(14) {
         _ if s.ranging.chance(40) => ranges_damaged(s, at),
         _ if s.heating.chance(45) => heat_damaged(s, at),
+        _ if s.tying.chance(30) => ties_damaged(s, at),
         0 | 1 | 2 => counts_damaged(s, rng),
         3 | 4 | 5 => row_damaged(s, rng),
         6 | 7 | 8 | 9 => slot_damaged(s, rng, at),
@@ -210,6 +212,25 @@ fn heat_damaged(s: &mut Script, at: usize) -> (Vec<String>, Vec<String>) {
     }
 }
 
+/// A tie rule that is unfit or another than before; its lines may be turned round, so that ties are in order under the other rule.
+fn ties_damaged(s: &mut Script, at: usize) -> (Vec<String>, Vec<String>) {
+    let old = s.board().slots[at].clone();
+    let other = 1 - old.rule.min(1);
+    let (mut new, mut turned) = (old.clone(), old.listed().to_vec());
+    turned.sort_by(|x, y| above(x, y, other, Wrong::No));
+    match s.tying.below(8) {
+        0 | 1 => new.rule = s.tying.pick(&[2, 2, 3, 254, 255]),
+        2 => new = Slot { rule: s.tying.pick(&[1, 2, 255]), ..Slot::fresh() },
+        3 | 4 => new.rule = other,
+        5 | 6 => new.list(&turned),
+        _ => {
+            new.rule = other;
+            new.list(&turned);
+        }
+    }
+    (made_of(at, &old, &new), made_of(at, &new, &old))
+}
+
 fn slot_damaged(s: &Script, rng: &mut Rng, at: usize) -> (Vec<String>, Vec<String>) {
     let old = s.board().slots[at].clone();
     let mut new = old.clone();
@@ -226,6 +247,7 @@ fn slot_damaged(s: &Script, rng: &mut Rng, at: usize) -> (Vec<String>, Vec<Strin
                 len: rng.pick(&[0, 0, 1]),
                 next: rng.pick(&[0, 0, 1]),
                 ranges: Ranges::default(),
+                rule: 0,
                 ..old.clone()
             }
         }

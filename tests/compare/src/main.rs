@@ -19,6 +19,8 @@ mod scripts;
 mod shrink;
 mod sittings;
 mod spoilt;
+mod tied;
+mod tying;
 mod wrong;
 
 use cart::text;

@@ -8,7 +8,7 @@ pub enum Order {
     Wrong(String),
     /// A line of numbers, by its first word, or its first two where that is `poke`; a time that may be said comes last.
     Numbers(&'static str, Vec<i64>),
-    /// The same where a weight for heat and ranges may be said.
+    /// The same where a weight for heat, ranges and a tie rule may be said.
     Ranged(&'static str, Vec<i64>, Said),
     /// The same where a report's heat may be said.
     Heated(&'static str, Vec<i64>, Option<u16>),
@@ -24,6 +24,7 @@ pub struct Said {
     pub heat: Option<i16>,
     pub loss: Option<Range>,
     pub shake: Option<Range>,
+    pub rule: Option<u8>,
 }
 
 pub struct Form {
@@ -54,7 +55,7 @@ pub const FORMS: [Form; 22] = [
     form(
         "set",
         &[BYTE, BYTE, SIGNED, SIGNED],
-        " SLOT K A B [heat C] [loss LOW HIGH] [shake LOW HIGH]; SLOT and K are 0 to 255, A, B and C -32768 to 32767, LOW and HIGH 0 to 65535",
+        " SLOT K A B [heat C] [loss LOW HIGH] [shake LOW HIGH] [rule R]; SLOT, K and R are 0 to 255, A, B and C -32768 to 32767, LOW and HIGH 0 to 65535",
     ),
     form("remove", &[BYTE], " SLOT; SLOT is 0 to 255"),
     form("read", &[BYTE], " SLOT; SLOT is 0 to 255"),
@@ -81,7 +82,7 @@ pub const FORMS: [Form; 22] = [
     form(
         "poke slot",
         &[SLOT, BYTE, SIGNED, SIGNED, BYTE, SHORT],
-        " SLOT K A B LEN NEXT [heat C] [loss LOW HIGH] [shake LOW HIGH]; SLOT is 0 to 31, K and LEN 0 to 255, A, B and C -32768 to 32767, NEXT, LOW and HIGH 0 to 65535",
+        " SLOT K A B LEN NEXT [heat C] [loss LOW HIGH] [shake LOW HIGH] [rule R]; SLOT is 0 to 31, K, LEN and R 0 to 255, A, B and C -32768 to 32767, NEXT, LOW and HIGH 0 to 65535",
     ),
     form(
         "poke line",
@@ -190,7 +191,7 @@ fn heat(words: &[&str], range: (i64, i64)) -> Option<Option<u16>> {
     }
 }
 
-/// `heat C`, `loss LOW HIGH` and `shake LOW HIGH` in any order, each once.
+/// `heat C`, `loss LOW HIGH`, `shake LOW HIGH` and `rule R` in any order, each once.
 fn said(mut words: &[&str]) -> Option<Said> {
     let mut out = Said::default();
     while let Some(&name) = words.first() {
@@ -199,12 +200,13 @@ fn said(mut words: &[&str]) -> Option<Said> {
             "heat" => out.heat.replace(number(words.get(1)?, SIGNED)? as i16).is_some(),
             "loss" => out.loss.replace(Range { low: end(1)?, high: end(2)? }).is_some(),
             "shake" => out.shake.replace(Range { low: end(1)?, high: end(2)? }).is_some(),
+            "rule" => out.rule.replace(number(words.get(1)?, BYTE)? as u8).is_some(),
             _ => return None,
         };
         if twice {
             return None;
         }
-        words = &words[if name == "heat" { 2 } else { 3 }..];
+        words = &words[if ["heat", "rule"].contains(&name) { 2 } else { 3 }..];
     }
     Some(out)
 }

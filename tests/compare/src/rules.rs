@@ -1,4 +1,4 @@
-//! Ranking and searching by the rules (docs/RULES.md, sections 5 to 8, 16 and 17), written from them and from nothing else. Plain, not fast: a
+//! Ranking and searching by the rules (docs/RULES.md, sections 5 to 8 and 16 to 18), written from them and from nothing else. Plain, not fast: a
 //! search sorts its cells and takes them one by one, and every step looks at the whole window.
 
 use crate::wrong::Wrong;
@@ -6,6 +6,10 @@ use std::cmp::Ordering;
 use std::collections::VecDeque;
 
 pub const MOST_REPORTS: u32 = 1_000_000;
+
+/// The tie rules (section 18): of equal scores the later report is above, or the earlier.
+pub const NEWEST: u8 = 0;
+pub const FIRST_COME: u8 = 1;
 
 pub fn le(bytes: &[u8]) -> u32 {
     bytes.iter().rev().fold(0, |n, &b| n * 256 + u32::from(b))
@@ -102,13 +106,15 @@ pub struct Question {
     /// For loss, shake and heat.
     pub weights: [i32; 3],
     pub ranges: Ranges,
+    /// Its tie rule.
+    pub rule: u8,
     pub list: Vec<Entry>,
     pub marks: Vec<bool>,
 }
 
 impl Question {
-    pub fn new(k: usize, weights: [i32; 3], ranges: Ranges) -> Question {
-        Question { k, weights, ranges, list: Vec::new(), marks: vec![false; 256] }
+    pub fn new(k: usize, weights: [i32; 3], ranges: Ranges, rule: u8) -> Question {
+        Question { k, weights, ranges, rule, list: Vec::new(), marks: vec![false; 256] }
     }
 
     pub fn score(&self, r: &Report, wrong: Wrong) -> i32 {
@@ -178,6 +184,7 @@ impl Question {
         let mut cells: Vec<(i32, usize)> = cells.map(|c| (self.best(c, wrong), c)).collect();
         match wrong {
             Wrong::EqualCellsFalling => cells.sort_by(|c, d| d.cmp(c)),
+            Wrong::FirstComeCellsFalling if self.rule == FIRST_COME => cells.sort_by(|c, d| d.cmp(c)),
             Wrong::LeastCellFirst => cells.sort(),
             Wrong::CellsByNumber => {}
             _ => cells.sort_by(|c, d| d.0.cmp(&c.0).then(c.1.cmp(&d.1))),
@@ -187,7 +194,7 @@ impl Question {
 
     /// The best k of the entries.
     pub fn rank(&mut self, mut entries: Vec<Entry>, wrong: Wrong) {
-        entries.sort_by(|x, y| above(x, y, wrong));
+        entries.sort_by(|x, y| above(x, y, self.rule, wrong));
         let room = if wrong == Wrong::ListNotCut { 16 } else { self.k };
         entries.truncate(room);
         self.list = entries;
@@ -198,7 +205,8 @@ impl Question {
         match self.list.last() {
             Some(last) if self.list.len() >= self.k => {
                 let best = self.best(cell, wrong);
-                best < last.score || wrong == Wrong::StopAtEqual && best == last.score
+                let early = wrong == Wrong::StopAtEqual || wrong == Wrong::FirstComeStopsAtEqual && self.rule == FIRST_COME;
+                best < last.score || early && best == last.score
             }
             _ => false,
         }
@@ -210,10 +218,15 @@ impl Question {
         let mut entries = self.list.clone();
         for r in held.iter().filter(|r| r.cell() == cell) {
             if wrong == Wrong::ListedByAStepAgain || !self.list.iter().any(|e| e.number == r.number) {
-                entries.extend(self.entry(r, wrong));
+                entries.extend(self.entry(r, wrong).filter(|e| wrong != Wrong::FirstFoundStays || !self.full_at(e.score)));
             }
         }
         self.rank(entries, wrong);
+    }
+
+    /// Whether the list is full, first-come, and its last score is this one: a report that enters has no place then (rule 18.2).
+    fn full_at(&self, score: i32) -> bool {
+        self.rule == FIRST_COME && self.list.len() >= self.k && self.list.last().map_or(false, |e| e.score == score)
     }
 
     /// Searches from the beginning to the end, and answers the steps.
@@ -237,29 +250,51 @@ impl Question {
         steps
     }
 
-    /// Puts a report that enters on the list, where it has a place there (rule 8.1).
+    /// Puts a report that enters on the list, where it has a place there (rules 8.1 and 18.2).
     pub fn offer(&mut self, r: &Report, wrong: Wrong) {
         let new = match self.entry(r, wrong) {
             Some(new) => new,
             None => return,
         };
-        let room = self.list.len() < self.k;
+        let room = self.list.len() < self.k && (wrong != Wrong::FirstComeShortListToo || self.rule != FIRST_COME || self.list.is_empty());
         let last = self.list.last().map_or(i32::MIN, |e| e.score);
         let marked = self.marks.get(r.cell()) == Some(&true);
-        if marked && (room || new.score > last || wrong != Wrong::EntryMustBeAbove && new.score == last) {
+        let equal = new.score == last && self.takes_equals(wrong);
+        if marked && (room || new.score > last || equal) {
             let mut entries = self.list.clone();
+            if wrong == Wrong::FirstComeTakesAnEqual && self.full_at(new.score) {
+                entries.pop();
+            }
             entries.push(new);
+            let rule = self.rule;
+            if wrong == Wrong::EntryRankedByNewest {
+                self.rule = NEWEST;
+            }
             self.rank(entries, wrong);
+            self.rule = rule;
+        }
+    }
+
+    /// Whether a report that enters has a place on a full list whose last score is its own.
+    fn takes_equals(&self, wrong: Wrong) -> bool {
+        match wrong {
+            Wrong::EntryMustBeAbove => false,
+            Wrong::FirstComeTakesAnEqual | Wrong::TieRulePassedOver => true,
+            Wrong::TieRulesSwapped => self.rule == FIRST_COME,
+            _ => self.rule != FIRST_COME,
         }
     }
 }
 
 /// The order of two reports in rank (rule 6.3).
-pub fn above(x: &Entry, y: &Entry, wrong: Wrong) -> Ordering {
-    let newer = match wrong {
-        Wrong::TieToOlder => x.number.cmp(&y.number),
-        Wrong::TieToTheHotter => y.heat.cmp(&x.heat).then(y.number.cmp(&x.number)),
-        _ => y.number.cmp(&x.number),
+pub fn above(x: &Entry, y: &Entry, rule: u8, wrong: Wrong) -> Ordering {
+    let (later, earlier) = (y.number.cmp(&x.number), x.number.cmp(&y.number));
+    let tie = match wrong {
+        Wrong::TieToOlder => earlier,
+        Wrong::TieRulePassedOver => later,
+        Wrong::TieToTheHotter => y.heat.cmp(&x.heat).then(later),
+        _ if (rule == FIRST_COME) != (wrong == Wrong::TieRulesSwapped) => earlier,
+        _ => later,
     };
-    y.score.cmp(&x.score).then(newer)
+    y.score.cmp(&x.score).then(tie)
 }

@@ -10,6 +10,8 @@ use crate::joining::Session;
 use crate::logs::{carry, payload, Item, Rng};
 use crate::ranging::Ranging;
 use crate::rules::{le, Ranges};
+use crate::tied;
+use crate::tying::{self, Tying};
 use crate::wrong::Wrong;
 use crate::{made_up, spoilt};
 
@@ -23,6 +25,7 @@ pub struct Script {
     pub clocks: Clocks,
     pub ranging: Ranging,
     pub heating: Heating,
+    pub tying: Tying,
     /// So many of a hundred lines are spoilt on their way, and the seed for that.
     spoils: usize,
     spoiling: Rng,
@@ -31,9 +34,10 @@ pub struct Script {
 impl Script {
     fn new(kind: &'static str, seed: u64, rng: &mut Rng) -> Script {
         let (clocks, ranging, heating) = (Clocks::new(seed, 50), Ranging::new(seed, 40), Heating::new(seed, 45));
+        let tying = Tying::new(seed, 45);
         let (spoils, spoiling) = (if rng.chance(12) { rng.pick(&[3, 10, 40]) } else { 0 }, Rng(rng.next()));
         let desk = Desk::new(Wrong::No);
-        Script { kind, first: false, lines: Vec::new(), answers: Vec::new(), desk, clocks, ranging, heating, spoils, spoiling }
+        Script { kind, first: false, lines: Vec::new(), answers: Vec::new(), desk, clocks, ranging, heating, tying, spoils, spoiling }
     }
 
     pub fn say(&mut self, line: String) {
@@ -59,13 +63,17 @@ impl Script {
         self.ranging.draw(&held)
     }
 
-    /// Sets a question, with ranges and a weight for heat or without.
+    /// Sets a question, with ranges, a weight for heat and a tie rule or without.
     pub fn set(&mut self, slot: usize, k: i32, a: i32, b: i32) {
         let ranges = self.ranges();
         let mut words = self.ranging.words(ranges);
         if let Some(c) = self.heating.any_weight() {
             let place = self.heating.below(words.len() + 1);
             words.insert(place, format!(" heat {}", c));
+        }
+        if let Some(rule) = self.tying.any_rule() {
+            let place = self.tying.below(words.len() + 1);
+            words.insert(place, format!(" rule {}", rule));
         }
         self.say(format!("set {} {} {} {}{}", slot, k, a, b, words.concat()));
     }
@@ -334,6 +342,7 @@ fn forms(s: &mut Script, rng: &mut Rng) {
 pub fn draw(seed: u64) -> Script {
     let rng = &mut Rng(seed);
     let (kind, fill): (_, fn(&mut Script, &mut Rng)) = match rng.below(100) {
+        _ if tying::whole(seed) => ("ties", tied::script),
         0 => ("early", early),
         1 => ("large", made_up::large),
         n if n < 5 => ("day", day),

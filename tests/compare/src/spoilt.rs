@@ -49,7 +49,7 @@ fn some_heat(rng: &mut Rng) -> Option<String> {
     Some(format!("heat {}", heat)).filter(|_| rng.chance(40))
 }
 
-/// Ranges and a weight for heat, where any are said.
+/// Ranges, a weight for heat and a tie rule, where any are said.
 fn some_ranges(rng: &mut Rng) -> Vec<String> {
     let mut out = Vec::new();
     for name in if rng.chance(50) { ["loss", "shake"] } else { ["shake", "loss"] } {
@@ -61,6 +61,10 @@ fn some_ranges(rng: &mut Rng) -> Vec<String> {
     if rng.chance(30) {
         let place = rng.below(out.len() + 1);
         out.insert(place, format!("heat {}", rng.pick(&[-32768, -1001, -1000, -1, 0, 1, 1000, 1001, 32767])));
+    }
+    if rng.chance(30) {
+        let place = rng.below(out.len() + 1);
+        out.insert(place, format!("rule {}", rng.pick(&[0, 1, 1, 2, 254, 255])));
     }
     out
 }
@@ -117,7 +121,7 @@ const NUMBERS: [&str; 49] = [
     "-",
 ];
 
-const ODD: [&str; 78] = [
+const ODD: [&str; 100] = [
     "",
     " ",
     "\t",
@@ -196,6 +200,28 @@ const ODD: [&str; 78] = [
     "poke line 0 0 1 0 heat 4096",
     "poke slot 0 0 0 0 0 loss 0 0",
     "poke slot 0 0 0 0 0 0 shake 00 00 loss 0 0",
+    "set 0 1 1 1 rule",
+    "set 0 1 1 1 rule -1",
+    "set 0 1 1 1 rule -0",
+    "set 0 1 1 1 rule 001",
+    "set 0 1 1 1 rule 255",
+    "set 0 1 1 1 rule 256",
+    "set 0 1 1 1 rule first",
+    "set 0 1 1 1 rule 1 1",
+    "set 0 1 1 1 rule 1 rule 1",
+    "set 0 1 1 1 rule heat 1",
+    "set 0 1 1 1 rule 1 shake 5 7 heat -2 loss 5 7",
+    "set 0 1 1 1 heat 0 rule 1",
+    "set 0 1 1 1 Rule 1",
+    "set 0 1 1 1 1",
+    "set 0 1 1 rule 1",
+    "set rule 1 0 1 1 1",
+    "enter 1 2 rule 1",
+    "poke row 0 1 0 0 rule 1",
+    "poke line 0 0 1 0 rule 1",
+    "poke slot 0 0 0 0 0 0 rule 0",
+    "poke slot 0 0 0 0 0 0 rule 256",
+    "poke slot 0 0 0 0 0 rule 0",
 ];
 
 /// A line with something changed in it.
@@ -211,7 +237,7 @@ pub fn line(rng: &mut Rng, line: &str) -> Vec<u8> {
             let more = if rng.chance(50) {
                 rng.pick(&NUMBERS)
             } else {
-                rng.pick(&["note", "room", "at", "heat", "loss", "shake", "AB", "x", "#"])
+                rng.pick(&["note", "room", "at", "heat", "rule", "loss", "shake", "AB", "x", "#"])
             };
             words.insert(at + rng.below(2), more.to_string());
         }

@@ -36,7 +36,14 @@ wrong! {
         // heat: what counts, scores and cells
         NoHeatScoredAs0 NoHeatNeverCounts HeatNeedsAWeight HeatNotScored HeatScoredOneHigher HeatAtTheWrongEnd BestWithoutHeat BestOfAnyHeat BestOfHeat4096
         BestHeatByItsCell TieToTheHotter HeldWithoutHeat HeatWeightNotTested HeatWeightOf1001 HeatWeightFirst HeatWeightWithoutSign HeatWeightPassedOver
-        PlainQuestionsWeighHeat EitherTagOfAQuestion;
+        PlainQuestionsWeighHeat EitherTagOfAQuestion
+        // ties
+        TieRulePassedOver TieRulesSwapped FirstComeTakesAnEqual FirstComeShortListToo FirstComeStopsAtEqual FirstFoundStays EntryRankedByNewest
+        TieRuleForgottenOnASearch TieRuleForgottenOnSetting OneTieRuleForAll RemovedTieRuleStays
+        // tag 23 and refusal 33
+        TakesTieRule2 TakesAnyTieRule TieRuleByItsLowestBit ThirtyThreeBeforeThirteen ThirtyThreeBeforeFifteen SixteenBeforeThirtyThree TieRuleRefused15
+        TieRuleReadAsK TieRuleNotRead TieRuleBeforeTheHeatWeight TieRuleWithoutHeat FirstComeWhereNoneIsGiven HeatedQuestionsFirstCome
+        EitherTagOfATieRule Tag23Unknown;
     at_the_desk:
         // steps and beginnings
         EqualCellsFalling CellsByNumber LeastCellFirst WholeSearchAtOnce ListedByAStepAgain StepListNotCut FinishedSteps
@@ -59,6 +66,12 @@ wrong! {
         // unfit: heat
         ThirdWeightNotChecked LineEditionNotChecked LineHeatNotChecked RestHeatNotChecked EmptyRowHeatNotChecked EmptySlotThirdWeightNotChecked
         EmptySlotHeatNotChecked
+        // ties
+        FirstComeCellsFalling SearchLeavesNewest BeginForgetsTheTieRule StepByNewest RemovingLeavesTheTieRule PokeForgetsTheTieRule UnsaidIsFirstCome
+        SaidTieRuleLost SetTakesTieRule2 SetTakesAnyTieRule
+        // unfit: ties
+        TieRuleNotChecked TieRule2IsFit EmptySlotTieRuleNotChecked RankCheckedByNewest RankCheckedByFirstCome RankOfFirstComeNotChecked
+        RankOfEqualsNotChecked
         // unfit: a session
         SessionSizeNotChecked SessionCountNotChecked SessionNextZero SessionNextPastCount HalfClosed
         // unfit: a last time
@@ -66,6 +79,7 @@ wrong! {
         // the order of refusals
         ThirteenFirst TwelveFirst ElevenBeforeTwelve SixteenFirst TwentyFiveFirst TwentyFourFirst TwentyFourLast TwelveBeforeThree
         NineteenBeforeTwelve TwentyFirst TwentySixBeforeTwentyFour ClosingBeforeTwentyFour ThirtyFirst ThirtyBeforeFifteen ThirtyAfterSixteen
+        ThirtyThreeFirst ThirtyThreeBeforeThirty ThirtyThreeAfterSixteen
         // frames, payloads, the bench sender, the board
         OpeningKeepsTheBytes StoresPastTheSize ClosingClearsTheBytes LastPacketNotStored NoteByTheBytes NoteDropped EmptyNoteIsNone
         NoteWithItsHead OwnLostHalf RoomOneByteShort RoomOneByteMore Note65 PaddedWithZeros PrioritySix NoteWithTheHeat HeatByTheBytes WritesAnyHeat

@@ -139,8 +139,8 @@ loop-again-2 c =
     let b = turn known in
     on b (pass-skips (start b .pre .0) (now-taken b) (rows (start b)) (row b) (scored known .score-from .ensures .0) (known .before .scored .given .1) (known .known-told .given .0 .1) (sym (c .before .admits .ensures) ∙ not-true _ (c .if1 .taken)))
 
-ties-requires : tie.Need-ties-requires Inv-loop μ-loop
-ties-requires c κs = search needs
+turns-requires : tie.Need-turns-requires Inv-loop μ-loop
+turns-requires c κs = search needs
 
 loop-less-3 : tie.Need-loop-less-3 Inv-loop μ-loop
 loop-less-3 c = search needs
@@ -213,7 +213,7 @@ upward-spec =
     admits-requires
     loop-less-2
     loop-again-2
-    ties-requires
+    turns-requires
     loop-less-3
     loop-again-3
     put-in-requires

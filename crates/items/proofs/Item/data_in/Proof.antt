@@ -6,7 +6,7 @@ use Prim.Native.Nat.{ℕ}
 use denote.Ref.{now}
 use types.Run.{miss}
 use Rattle.items.specs.declared.Item.{Item}
-use Rattle.items.specs.declared.Item.the-variants.{Window, Set, Frame, Remove, Show, Timed, SetHeat, Unknown}
+use Rattle.items.specs.declared.Item.the-variants.{Window, Set, Frame, Remove, Show, Timed, SetHeat, SetTies, Unknown}
 use Rattle.items.specs.Items.{dataOf}
 use borrow.Author.Needs.{needs}
 use Rattle.items.proofs.Item.data_in.Statement.{statement}
@@ -21,6 +21,7 @@ none (Remove slot) v f t = refl
 none (Show slot) v f t = refl
 none (Timed time id) v f t = absurd (t time id refl)
 none (SetHeat s) v f t = refl
+none (SetTies s) v f t = refl
 none Unknown v f t = refl
 
 enum-told : tie.Need-enum-told
@@ -52,7 +53,7 @@ returns-3 c =
     let k = c .before .match .keys3 in
     let a = c .before .before .before .args in
     c .front .ensures
-    ∙ sym (none (a .self) (now (a .value)) (λ id e. miss (0 ∷ 1 ∷ 3 ∷ 4 ∷ 6 ∷ 7 ∷ []) 2 tt (rw e at k)) (λ time id e. miss (0 ∷ 1 ∷ 3 ∷ 4 ∷ 6 ∷ 7 ∷ []) 5 tt (rw e at k)))
+    ∙ sym (none (a .self) (now (a .value)) (λ id e. miss (0 ∷ 1 ∷ 3 ∷ 4 ∷ 6 ∷ 7 ∷ 8 ∷ []) 2 tt (rw e at k)) (λ time id e. miss (0 ∷ 1 ∷ 3 ∷ 4 ∷ 6 ∷ 7 ∷ 8 ∷ []) 5 tt (rw e at k)))
 
 pub data-in-spec : {M : Type 1} → statement M
 data-in-spec =

@@ -7,9 +7,8 @@ use denote.Ref.{now}
 use lib.ListN.{length}
 use Rattle.wire.specs.Bytes.{bytes}
 use Rattle.wire.proofs.Fields.{length-field}
-use Rattle.items.specs.declared.Item.the-variants.{Window, Set, Frame, Remove, Show, Timed, SetHeat, Unknown}
-use Rattle.items.specs.Items.{settingBytes, heatBytes}
-use Rattle.items.proofs.Writing.{frame-long, timed-long, six-of, eight-of, put-is}
+use Rattle.items.specs.declared.Item.the-variants.{Window, Set, Frame, Remove, Show, Timed, SetHeat, SetTies, Unknown}
+use Rattle.items.proofs.Writing.{frame-long, timed-long, six-of, eight-of, nine-of, put-is}
 use borrow.Author.Needs.{needs}
 use Rattle.items.proofs.Item.put.Statement.{statement}
 use Rattle.items.proofs.Item.put.Tie as tie
@@ -29,9 +28,6 @@ enum-known-self-2 c = search needs
 put-setting-requires : tie.Need-put-setting-requires
 put-setting-requires c κs = search needs
 
-add-result-2 : tie.Need-add-result-2
-add-result-2 c = search needs
-
 enum-known-self-3 : tie.Need-enum-known-self-3
 enum-known-self-3 c = search needs
 
@@ -41,11 +37,11 @@ front-requires c κs = search needs
 put-frame-requires : tie.Need-put-frame-requires
 put-frame-requires c κs = omega (arith, ap length (c .front .ensures))
 
+add-result-2 : tie.Need-add-result-2
+add-result-2 c = search needs
+
 add-result-3 : tie.Need-add-result-3
 add-result-3 c = search needs
-
-add-result-4 : tie.Need-add-result-4
-add-result-4 c = search needs
 
 enum-known-self-4 : tie.Need-enum-known-self-4
 enum-known-self-4 c = search needs
@@ -53,8 +49,8 @@ enum-known-self-4 c = search needs
 put-slot-requires : tie.Need-put-slot-requires
 put-slot-requires c κs = search needs
 
-add-result-5 : tie.Need-add-result-5
-add-result-5 c = search needs
+add-result-4 : tie.Need-add-result-4
+add-result-4 c = search needs
 
 enum-known-self-5 : tie.Need-enum-known-self-5
 enum-known-self-5 c = search needs
@@ -62,8 +58,8 @@ enum-known-self-5 c = search needs
 put-slot-requires-2 : tie.Need-put-slot-requires-2
 put-slot-requires-2 c κs = search needs
 
-add-result-6 : tie.Need-add-result-6
-add-result-6 c = search needs
+add-result-5 : tie.Need-add-result-5
+add-result-5 c = search needs
 
 enum-known-self-6 : tie.Need-enum-known-self-6
 enum-known-self-6 c = search needs
@@ -71,14 +67,14 @@ enum-known-self-6 c = search needs
 put-timed-requires : tie.Need-put-timed-requires
 put-timed-requires c κs = search needs
 
+add-result-6 : tie.Need-add-result-6
+add-result-6 c = search needs
+
 add-result-7 : tie.Need-add-result-7
 add-result-7 c = search needs
 
 add-result-8 : tie.Need-add-result-8
 add-result-8 c = search needs
-
-add-result-9 : tie.Need-add-result-9
-add-result-9 c = search needs
 
 enum-known-self-7 : tie.Need-enum-known-self-7
 enum-known-self-7 c = search needs
@@ -86,8 +82,11 @@ enum-known-self-7 c = search needs
 put-setting-requires-2 : tie.Need-put-setting-requires-2
 put-setting-requires-2 c κs = search needs
 
-add-result-10 : tie.Need-add-result-10
-add-result-10 c = search needs
+enum-known-self-8 : tie.Need-enum-known-self-8
+enum-known-self-8 c = search needs
+
+put-setting-requires-3 : tie.Need-put-setting-requires-3
+put-setting-requires-3 c κs = search needs
 
 enum-told : tie.Need-enum-told
 enum-told c = search needs
@@ -113,12 +112,11 @@ same-length-2 : tie.Need-same-length-2
 same-length-2 c = search needs
 
 returns-2 : tie.Need-returns-2
-unfolding bytes settingBytes
 returns-2 c =
     let p = c .before .before in
     let m = p .before .before .before in
     let a = m .before .before .before .before .args in
-    put-is (a .self) (Set (m .self2 .given .0 .0)) (now (a .data)) (now (a .room)) (a .at) (m .self2 .given .1) (sym (length-field 17 (settingBytes (m .self2 .given .0 .0))), p .put-setting .ensures ∙ rw (six-of (m .self2 .given .0 .0)))
+    put-is (a .self) (Set (m .self2 .given .0 .0)) (now (a .data)) (now (a .room)) (a .at) (m .self2 .given .1) (p .put-setting .ensures .0 ∙ rw (six-of (m .self2 .given .0 .0)), p .put-setting .ensures .1 ∙ rw (six-of (m .self2 .given .0 .0)))
 
 same-length-3 : tie.Need-same-length-3
 same-length-3 c = search needs
@@ -167,18 +165,27 @@ same-length-7 : tie.Need-same-length-7
 same-length-7 c = search needs
 
 returns-7 : tie.Need-returns-7
-unfolding bytes settingBytes heatBytes
 returns-7 c =
     let p = c .before .before in
     let m = p .before .before .before in
     let a = m .before .before .before .before .args in
-    put-is (a .self) (SetHeat (m .self7 .given .0 .0)) (now (a .data)) (now (a .room)) (a .at) (m .self7 .given .1) (sym (length-field 22 (heatBytes (m .self7 .given .0 .0))), p .put-setting2 .ensures ∙ rw (eight-of (m .self7 .given .0 .0)))
+    put-is (a .self) (SetHeat (m .self7 .given .0 .0)) (now (a .data)) (now (a .room)) (a .at) (m .self7 .given .1) (p .put-setting2 .ensures .0 ∙ rw (eight-of (m .self7 .given .0 .0)), p .put-setting2 .ensures .1 ∙ rw (eight-of (m .self7 .given .0 .0)))
 
 same-length-8 : tie.Need-same-length-8
 same-length-8 c = search needs
 
 returns-8 : tie.Need-returns-8
 returns-8 c =
+    let p = c .before .before in
+    let m = p .before .before .before in
+    let a = m .before .before .before .before .args in
+    put-is (a .self) (SetTies (m .self8 .given .0 .0)) (now (a .data)) (now (a .room)) (a .at) (m .self8 .given .1) (p .put-setting3 .ensures .0 ∙ rw (nine-of (m .self8 .given .0 .0)), p .put-setting3 .ensures .1 ∙ rw (nine-of (m .self8 .given .0 .0)))
+
+same-length-9 : tie.Need-same-length-9
+same-length-9 c = search needs
+
+returns-9 : tie.Need-returns-9
+returns-9 c =
     let p = c .before .before in
     let m = p .before .before .before in
     let a = m .before .before .before .before .args in
@@ -193,26 +200,26 @@ put-spec =
     add-result
     enum-known-self-2
     put-setting-requires
-    add-result-2
     enum-known-self-3
     front-requires
     put-frame-requires
+    add-result-2
     add-result-3
-    add-result-4
     enum-known-self-4
     put-slot-requires
-    add-result-5
+    add-result-4
     enum-known-self-5
     put-slot-requires-2
-    add-result-6
+    add-result-5
     enum-known-self-6
     put-timed-requires
+    add-result-6
     add-result-7
     add-result-8
-    add-result-9
     enum-known-self-7
     put-setting-requires-2
-    add-result-10
+    enum-known-self-8
+    put-setting-requires-3
     enum-told
     front-requires-2
     put-field-requires
@@ -231,4 +238,6 @@ put-spec =
     same-length-7
     returns-7
     same-length-8
-    returns-8)
+    returns-8
+    same-length-9
+    returns-9)

@@ -8,7 +8,7 @@ use denote.Ref.{now}
 use lib.ListN.{getD}
 use Rattle.wire.specs.Bytes.{number, part}
 use Rattle.items.specs.declared.Item.{Item}
-use Rattle.items.specs.declared.Item.the-variants.{Window, Set, Frame, Remove, Show, Timed, SetHeat, Unknown}
+use Rattle.items.specs.declared.Item.the-variants.{Window, Set, Frame, Remove, Show, Timed, SetHeat, SetTies, Unknown}
 use Rattle.items.specs.Items.{isItem, settingIn, itemIn}
 use borrow.Author.Needs.{needs}
 use Rattle.items.proofs.Item.read.Statement.{statement}
@@ -16,8 +16,11 @@ use Rattle.items.proofs.Item.read.Tie as tie
 
 -- What is left of the definition behind its first tests.
 module _ (tag : ℕ) (v : List ℕ) where
+  abbrev tied : Item
+  tied = cond (isItem tag v 23 9) (SetTies (settingIn v)) Unknown
+
   abbrev heated : Item
-  heated = cond (isItem tag v 22 8) (SetHeat (settingIn v)) Unknown
+  heated = cond (isItem tag v 22 8) (SetHeat (settingIn v)) tied
 
   abbrev timed : Item
   timed = cond (isItem tag v 21 16) (Timed (number (part 0 4 v)) (number (part 4 4 v))) heated
@@ -62,6 +65,9 @@ no-show c = no-remove (c .before .before) ∙ rw (sym (c .before .is-item5 .ensu
 
 no-timed : (c : tie.Else6) → let s = c .before .before .before .before .before .before .before .before .before .before .before .before in all s ≡ heated (tag s) (value s)
 no-timed c = no-show (c .before .before) ∙ rw (sym (c .before .is-item6 .ensures) ∙ c .if6 .left)
+
+no-heated : (c : tie.Else7) → let s = c .before .before .before .before .before .before .before .before .before .before .before .before .before .before in all s ≡ tied (tag s) (value s)
+no-heated c = no-timed (c .before .before) ∙ rw (sym (c .before .is-item7 .ensures) ∙ c .if7 .left)
 
 is-item-requires : tie.Need-is-item-requires
 is-item-requires c κs = search needs
@@ -132,8 +138,17 @@ read-requires-2 c κs = search needs
 returns-7 : tie.Need-returns-7
 returns-7 c = rw (no-timed (c .before .before .before), sym (c .before .before .is-item7 .ensures) ∙ c .before .if7 .taken) (ap SetHeat (c .read2 .ensures))
 
+is-item-requires-8 : tie.Need-is-item-requires-8
+is-item-requires-8 c κs = search needs
+
+read-requires-3 : tie.Need-read-requires-3
+read-requires-3 c κs = search needs
+
 returns-8 : tie.Need-returns-8
-returns-8 c = rw (no-timed (c .before .before), sym (c .before .is-item7 .ensures) ∙ c .if7 .left)
+returns-8 c = rw (no-heated (c .before .before .before), sym (c .before .before .is-item8 .ensures) ∙ c .before .if8 .taken) (ap SetTies (c .read3 .ensures))
+
+returns-9 : tie.Need-returns-9
+returns-9 c = rw (no-heated (c .before .before), sym (c .before .is-item8 .ensures) ∙ c .if8 .left)
 
 pub read-spec : {M : Type 1} → statement M
 read-spec =
@@ -161,4 +176,7 @@ read-spec =
     is-item-requires-7
     read-requires-2
     returns-7
-    returns-8)
+    is-item-requires-8
+    read-requires-3
+    returns-8
+    returns-9)

@@ -1,10 +1,12 @@
 -- `journal::Log::by_item` meets its contract: each item has its function.
 -- Assumes nothing.
-use mathlib.Core.Path.{_≡_, refl, sym, ap}
+use mathlib.Core.Path.{_≡_, refl, sym, ap, _∙_}
+use mathlib.Core.Logic.{⊎-elim}
 use mathlib.Core.List.{List}
 use Prim.Native.Nat.{ℕ}
 use denote.Ref.{now}
 use Rattle.items.specs.declared.Item.{Item}
+use Rattle.items.specs.declared.Item.the-variants.{Set, SetHeat, SetTies}
 use Rattle.journal.specs.declared.Log.{Log}
 use Rattle.journal.specs.Log.{Stores, byItem}
 use Rattle.journal.proofs.Calls.{outcome-is, silent}
@@ -21,44 +23,44 @@ module _ (c : tie.After-slice-known) {i : Item} {left : List ℕ} {next : ℕ} {
 enum-known-item : tie.Need-enum-known-item
 enum-known-item c = search needs
 
-window-item-requires : tie.Need-window-item-requires
-window-item-requires c κs = search needs
-
 enum-known-item-2 : tie.Need-enum-known-item-2
 enum-known-item-2 c = search needs
-
-set-item-requires : tie.Need-set-item-requires
-set-item-requires c κs = search needs
 
 enum-known-item-3 : tie.Need-enum-known-item-3
 enum-known-item-3 c = search needs
 
-frame-item-requires : tie.Need-frame-item-requires
-frame-item-requires c κs = search needs
-
 enum-known-item-4 : tie.Need-enum-known-item-4
 enum-known-item-4 c = search needs
-
-remove-item-requires : tie.Need-remove-item-requires
-remove-item-requires c κs = search needs
 
 enum-known-item-5 : tie.Need-enum-known-item-5
 enum-known-item-5 c = search needs
 
-show-item-requires : tie.Need-show-item-requires
-show-item-requires c κs = search needs
-
 enum-known-item-6 : tie.Need-enum-known-item-6
 enum-known-item-6 c = search needs
-
-timed-item-requires : tie.Need-timed-item-requires
-timed-item-requires c κs = search needs
 
 enum-known-item-7 : tie.Need-enum-known-item-7
 enum-known-item-7 c = search needs
 
-set-item-requires-2 : tie.Need-set-item-requires-2
-set-item-requires-2 c κs = search needs
+enum-known-item-8 : tie.Need-enum-known-item-8
+enum-known-item-8 c = search needs
+
+window-item-requires : tie.Need-window-item-requires
+window-item-requires c κs = search needs
+
+frame-item-requires : tie.Need-frame-item-requires
+frame-item-requires c κs = search needs
+
+remove-item-requires : tie.Need-remove-item-requires
+remove-item-requires c κs = search needs
+
+show-item-requires : tie.Need-show-item-requires
+show-item-requires c κs = search needs
+
+timed-item-requires : tie.Need-timed-item-requires
+timed-item-requires c κs = search needs
+
+set-item-requires : tie.Need-set-item-requires
+set-item-requires c κs = search needs
 
 enum-told : tie.Need-enum-told
 enum-told c = search needs
@@ -81,7 +83,7 @@ unfolding byItem
 returns-2 c =
     let p = c .before .before in
     let m = p .before .before .before in
-    said (m .before .before) (m .item2 .given .1) (p .set-item .ensures)
+    said (m .before .before) (m .item5 .given .1) (p .frame-item .ensures)
 
 same-length-3 : tie.Need-same-length-3
 same-length-3 c = search needs
@@ -91,7 +93,7 @@ unfolding byItem
 returns-3 c =
     let p = c .before .before in
     let m = p .before .before .before in
-    said (m .before .before) (m .item3 .given .1) (p .frame-item .ensures)
+    said (m .before .before) (m .item6 .given .1) (p .remove-item .ensures)
 
 same-length-4 : tie.Need-same-length-4
 same-length-4 c = search needs
@@ -101,7 +103,7 @@ unfolding byItem
 returns-4 c =
     let p = c .before .before in
     let m = p .before .before .before in
-    said (m .before .before) (m .item4 .given .1) (p .remove-item .ensures)
+    said (m .before .before) (m .item7 .given .1) (p .show-item .ensures)
 
 same-length-5 : tie.Need-same-length-5
 same-length-5 c = search needs
@@ -111,33 +113,27 @@ unfolding byItem
 returns-5 c =
     let p = c .before .before in
     let m = p .before .before .before in
-    said (m .before .before) (m .item5 .given .1) (p .show-item .ensures)
-
-same-length-6 : tie.Need-same-length-6
-same-length-6 c = search needs
+    said (m .before .before) (m .item8 .given .1) (p .timed-item .ensures)
 
 returns-6 : tie.Need-returns-6
 unfolding byItem
 returns-6 c =
-    let p = c .before .before in
-    let m = p .before .before .before in
-    said (m .before .before) (m .item6 .given .1) (p .timed-item .ensures)
+    let a = c .before .before .before .before .args in
+    said (c .before .before) (c .enum-told .given .1) (silent (now (a .out)) (a .at) (a .self) (search needs) refl)
 
-same-length-7 : tie.Need-same-length-7
-same-length-7 c = search needs
+same-length-6 : tie.Need-same-length-6
+same-length-6 c = search needs
 
 returns-7 : tie.Need-returns-7
 unfolding byItem
 returns-7 c =
     let p = c .before .before in
-    let m = p .before .before .before in
-    said (m .before .before) (m .item7 .given .1) (p .set-item2 .ensures)
-
-returns-8 : tie.Need-returns-8
-unfolding byItem
-returns-8 c =
-    let a = c .before .before .before .before .args in
-    said (c .before .before) (c .enum-told .given .1) (silent (now (a .out)) (a .at) (a .self) (search needs) refl)
+    let m = p .before .before in
+    ⊎-elim (λ w. said (m .before) (w .1 .given .1 ∙ ap Set (sym (w .3))) (p .set-item .ensures))
+    (λ r.
+    ⊎-elim (λ w. said (m .before) (w .1 .given .1 ∙ ap SetHeat (sym (w .3))) (p .set-item .ensures))
+    (λ w. said (m .before) (w .1 .given .1 ∙ ap SetTies (sym (w .3))) (p .set-item .ensures)) r)
+    (m .match .came)
 
 pub by-item-spec : {M : Type 1} → statement M
 by-item-spec =
@@ -146,18 +142,18 @@ by-item-spec =
     enum-known-item
     window-item-requires
     enum-known-item-2
-    set-item-requires
     enum-known-item-3
-    frame-item-requires
     enum-known-item-4
-    remove-item-requires
     enum-known-item-5
-    show-item-requires
+    frame-item-requires
     enum-known-item-6
-    timed-item-requires
+    remove-item-requires
     enum-known-item-7
-    set-item-requires-2
+    show-item-requires
+    enum-known-item-8
+    timed-item-requires
     enum-told
+    set-item-requires
     same-length
     returns
     same-length-2
@@ -168,8 +164,6 @@ by-item-spec =
     returns-4
     same-length-5
     returns-5
-    same-length-6
     returns-6
-    same-length-7
-    returns-7
-    returns-8)
+    same-length-6
+    returns-7)

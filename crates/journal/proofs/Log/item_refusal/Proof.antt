@@ -6,7 +6,7 @@ use Prim.Native.Nat.{ℕ}
 use borrow.Author.Tests.{eq-eqb, ne-eqb}
 use types.Run.{miss}
 use Rattle.items.specs.declared.Item.{Item}
-use Rattle.items.specs.declared.Item.the-variants.{Window, Set, Frame, Remove, Show, Timed, SetHeat, Unknown}
+use Rattle.items.specs.declared.Item.the-variants.{Window, Set, Frame, Remove, Show, Timed, SetHeat, SetTies, Unknown}
 use Rattle.journal.specs.declared.Log.{Log}
 use Rattle.journal.specs.Log.{early, itemRefusal}
 use borrow.Author.Needs.{needs}
@@ -24,6 +24,7 @@ others log (Remove slot) u w = refl
 others log (Show slot) u w = refl
 others log (Timed time id) u w = refl
 others log (SetHeat s) u w = refl
+others log (SetTies s) u w = refl
 
 module _ (c : tie.At-match-keys3) where
   abbrev log : Log
@@ -34,7 +35,7 @@ module _ (c : tie.At-match-keys3) where
 
   needs-window : itemRefusal log it ≡ early log
   needs-window =
-      others log it (λ e. miss (1 ∷ 2 ∷ 3 ∷ 4 ∷ 5 ∷ 6 ∷ []) 7 tt (rw e at (c .match .keys3))) (λ n e. miss (1 ∷ 2 ∷ 3 ∷ 4 ∷ 5 ∷ 6 ∷ []) 0 tt (rw e at (c .match .keys3)))
+      others log it (λ e. miss (1 ∷ 2 ∷ 3 ∷ 4 ∷ 5 ∷ 6 ∷ 7 ∷ []) 8 tt (rw e at (c .match .keys3))) (λ n e. miss (1 ∷ 2 ∷ 3 ∷ 4 ∷ 5 ∷ 6 ∷ 7 ∷ []) 0 tt (rw e at (c .match .keys3)))
 
 enum-told : tie.Need-enum-told
 enum-told c = search needs

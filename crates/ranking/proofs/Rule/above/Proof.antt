@@ -1,24 +1,36 @@
--- The scores are handed on as they are, and the tie is the test of the numbers.
+-- Each branch is a case of the definition, of the scores read back from their bits.
 -- Assumes nothing.
-use mathlib.Core.Path.{ap₂, _∙_}
+use mathlib.Core.Path.{sym, _∙_}
 use borrow.Author.Needs.{needs}
-use lib.Dec.{ltb}
-use mir.Facts.{toZ-ofZ}
-use Rattle.ranking.specs.Cells.{greater}
-use Rattle.ranking.specs.Standing.{above, goesFirst}
+use Rattle.laws.proofs.Whole.{ltZ-strict}
+use Rattle.laws.proofs.Words.{less-kept}
+use Rattle.ranking.proofs.Entries.{score-above, score-below, score-tie}
 use Rattle.ranking.proofs.Rule.above.Statement.{statement}
 use Rattle.ranking.proofs.Rule.above.Tie as tie
 
-greater-requires : tie.Need-greater-requires
-greater-requires c κs = search needs
-
 returns : tie.Need-returns
-unfolding above goesFirst
 returns c =
-    let start = c .before in
-    c .greater .ensures
-    ∙ ap₂ (λ x y. greater x y (ltb (start .args .other-name) (start .args .name)))
-    (toZ-ofZ (start .fits .score)) (toZ-ofZ (start .fits .other-score))
+    let x = c .before .fits in
+    sym (score-above (c .before .args .self) _ _ (sym (less-kept (x .other-score) (x .score)) ∙ c .if1 .taken))
+
+returns-2 : tie.Need-returns-2
+returns-2 c =
+    let start = c .before .before in
+    let x = start .fits in
+    sym (score-below (start .args .self) _ _ (sym (less-kept (x .score) (x .other-score)) ∙ c .if2 .taken))
+
+goes-first-requires : tie.Need-goes-first-requires
+goes-first-requires c κs = search needs
+
+returns-3 : tie.Need-returns-3
+returns-3 c =
+    let at = c .before in
+    let start = at .before .before in
+    let x = start .fits in
+    c .goes-first .ensures
+    ∙ sym
+    (score-tie (start .args .self) _ _
+    (ltZ-strict .total (start .args .score) (start .args .other-score) (sym (less-kept (x .score) (x .other-score)) ∙ at .if2 .left) (sym (less-kept (x .other-score) (x .score)) ∙ at .before .if1 .left)))
 
 pub above-spec : {M : Type 1} → statement M
-above-spec = tie.close (tie.spec greater-requires returns)
+above-spec = tie.close (tie.spec returns returns-2 goes-first-requires returns-3)

@@ -9,7 +9,7 @@ abbrev Inv-loop : tie.InvT-loop
 Inv-loop form line from extras₀ i₀ extras i = Unit {0}
 
 abbrev μ-loop : tie.MeasureT-loop
-μ-loop form line from extras₀ i₀ extras i = 3 - i
+μ-loop form line from extras₀ i₀ extras i = 4 - i
 
 none-requires : tie.Need-none-requires Inv-loop μ-loop
 none-requires c κs = search needs
