@@ -1,4 +1,5 @@
 // The bench sender: a report written as the frames that carry it.
+#![tactic(auto)]
 ghost use Rattle.std.specs.Prelude.{◌≡◌, ◌++◌, ◌+◌, ◌-◌, ◌*◌, ◌≤◌, length};
 ghost use Rattle.std.proofs.lemmas.List.Edits.{sets};
 ghost use Rattle.wire.specs.Bytes.{bytes};
@@ -10,7 +11,7 @@ use joining::{Frame, Session};
 use report::{Payload, Report, Written};
 
 // Writes the frames that a controller would send.
-#[derive(Drop)]
+#[derive(Clone, Copy)]
 pub struct Bench {}
 
 impl Bench {

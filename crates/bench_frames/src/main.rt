@@ -1,6 +1,7 @@
 // Writes the frames of the reports that standard input asks for, for an outside reader to compare. A request has 77 bytes:
 // sender, loss in 2, shake in 2, number in 4, 1 where there is a note, its length, 64 of which the first are the note, and
 // one more than the heat in 2, 0 where there is none.
+#![tactic(auto)]
 use bench::Bench;
 use libc::{STDIN_FILENO, STDOUT_FILENO};
 use report::{Report, Written};

@@ -1,4 +1,5 @@
 // The window with its 32 slots: standing questions that each have a list.
+#![tactic(auto)]
 ghost use Rattle.std.specs.Prelude.{◌≡◌, ◌<◌};
 ghost use Rattle.window.specs.Rows.{report_limit};
 ghost use Rattle.list.specs.Lines.{all_of};
@@ -14,35 +15,35 @@ use values::{Name, Values};
 use window::{Counts, Row, Window};
 
 // The held reports, and a question in each slot that isn't empty.
-#[derive(Drop)]
+#[derive(Clone, Copy)]
 pub struct Board {
     pub window: Window,
     pub slots: [Question; Gauge::SLOTS],
 }
 
 // A board, or the refusal's number and a board of zeros.
-#[derive(Drop)]
+#[derive(Clone, Copy)]
 pub struct NewBoard {
     pub refusal: u8,
     pub board: Board,
 }
 
 // What setting a question answers: the steps of its search.
-#[derive(Drop)]
+#[derive(Clone, Copy)]
 pub struct Placed {
     pub refusal: u8,
     pub steps: u16,
     pub board: Board,
 }
 
-#[derive(Drop)]
+#[derive(Clone, Copy)]
 pub struct Removed {
     pub refusal: u8,
     pub board: Board,
 }
 
 // What entering a report answers: its number, which questions were searched, and the steps of each.
-#[derive(Drop)]
+#[derive(Clone, Copy)]
 pub struct Entered {
     pub refusal: u8,
     pub number: u32,
@@ -53,7 +54,7 @@ pub struct Entered {
 
 // What a report's entry comes to: the refusal's number, or 0; then its number and its name, and the number of the report that
 // leaves, 0 for none.
-#[derive(Drop)]
+#[derive(Clone, Copy)]
 pub struct Arrival {
     pub refusal: u8,
     pub number: u32,

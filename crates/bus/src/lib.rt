@@ -1,4 +1,5 @@
 // The sessions of all senders in bytes that a caller lends: a frame changes its sender's 92 bytes where they stand.
+#![tactic(auto)]
 ghost use Rattle.std.specs.Prelude.{◌≡◌, true, [], ◌∷◌, ◌++◌, ◌+◌, ◌≤◌, length, take, drop, set, replicate};
 ghost use Rattle.std.proofs.lemmas.List.Edits.{sets};
 ghost use Rattle.report.specs.Payload.{largest_payload};
@@ -11,7 +12,7 @@ use joining::{Answer, Frame, Session};
 use report::Payload;
 
 // A session for each sender from 0 to 253, in their order.
-#[derive(Drop)]
+#[derive(Clone, Copy)]
 pub struct Bus {
     pub sessions: [Session; Bus::SENDERS],
 }

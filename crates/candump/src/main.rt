@@ -2,6 +2,7 @@
 // log does not hold, or that aren't asked for, are counted, and a broken line is named, on standard error. Its words are `ours` for the frames
 // that a report can be joined from, or another for all frames; `untimed` for frames without their times, or another; and then the name of an
 // interface, or none for all of them.
+#![tactic(auto)]
 use capture::Sort;
 use input::{Input, Next};
 use items::Item;
@@ -9,7 +10,7 @@ use libc::{STDERR_FILENO, STDOUT_FILENO};
 use stamps::{Since, Stamp};
 
 // How many lines were of each sort, and how many frames were written without a time.
-#[derive(Drop)]
+#[derive(Clone, Copy)]
 struct Counts {
     frames: u64,
     untimed: u64,
@@ -27,7 +28,7 @@ struct Counts {
 }
 
 // What is asked for besides an interface: the frames that a report can be joined from, or all; with their times, or without.
-#[derive(Drop)]
+#[derive(Clone, Copy)]
 struct Asked {
     ours: bool,
     timed: bool,
@@ -35,7 +36,7 @@ struct Asked {
 
 // What the lines were, whether what was written for them was taken, and how long the name of the first interface is that a frame was written
 // of, until a second one was named; where times count from, the last one that was written, and whether one before it was named.
-#[derive(Drop)]
+#[derive(Clone, Copy)]
 struct Reader {
     counts: Counts,
     going: bool,

@@ -1,4 +1,5 @@
 // Captured frames: what a line of the text that `candump` prints holds, and the log item of its frame.
+#![tactic(auto)]
 ghost use Rattle.std.specs.Prelude.{◌≡◌, ◌+◌, min, not, ◌&&◌, eqb, length, replicate};
 ghost use Rattle.joining.specs.Frame.{frame_refusal};
 ghost use Rattle.std.proofs.lemmas.List.Edits.{sets};
@@ -13,7 +14,7 @@ use stamps::{Since, Stamp};
 
 // What a line holds: a frame that a log can hold, perhaps with a mark for a length over 8; one that isn't asked for; a frame of another kind, or
 // past the last time that a log can hold; how many frames were missed; nothing; or nothing that can be read.
-#[derive(Drop)]
+#[derive(Clone, Copy)]
 pub enum Sort {
     Frame,
     Marked,

@@ -1,4 +1,5 @@
 // The log program: a log on standard input, its lines on standard output.
+#![tactic(auto)]
 ghost use Rattle.std.specs.Prelude.{◌≡◌, ◌≤◌, length, take};
 ghost use Rattle.cart.specs.Turns.{Turns, Ends};
 
@@ -7,14 +8,14 @@ use libc::{STDERR_FILENO, STDIN_FILENO, STDOUT_FILENO};
 use pieces::Waiting;
 
 // What was handed over for printing: so many bytes from the start of a room, and whether they could be printed.
-#[derive(Drop)]
+#[derive(Clone, Copy)]
 struct Printed {
     count: usize,
     ok: bool,
 }
 
 // The log and what waits, behind the bytes that were taken; and what was handed over for printing.
-#[derive(Drop)]
+#[derive(Clone, Copy)]
 struct Turn {
     log: Log,
     waiting: Waiting,

@@ -4,6 +4,7 @@
 // for a report whose note may be empty; with heat these are `heated SENDER LOSS SHAKE HEAT NUMBER` and `heated-noted`.
 // `time MS` gives the frames behind it that time, in milliseconds, until `untimed` ends that. Empty lines and those that start
 // with # say nothing.
+#![tactic(auto)]
 ghost use Rattle.std.specs.Prelude.{◌≡◌, [], ◌∷◌, map, Bool, not, ◌||◌, ◌*◌, ◌≤◌, length, take};
 ghost use Rattle.std.proofs.lemmas.List.Edits.{sets};
 ghost use Rattle.items.specs.Run.{run_bytes};
@@ -19,7 +20,7 @@ use report::{Report, Written};
 use values::{Edition, Values};
 
 // What the first word of a line asks for.
-#[derive(Drop)]
+#[derive(Clone, Copy)]
 pub enum Kind {
     Nothing,
     Window,
@@ -80,14 +81,14 @@ impl Kind {
 }
 
 // What is wrong with a line: the kind of line, and which word behind the first; none where the first is.
-#[derive(Drop)]
+#[derive(Clone, Copy)]
 pub struct Fault {
     pub kind: Kind,
     pub word: u8,
 }
 
 // A report that is to be sent, and whether a note goes with it.
-#[derive(Drop)]
+#[derive(Clone, Copy)]
 pub struct Sending {
     pub sender: u8,
     pub report: Report,
@@ -95,7 +96,7 @@ pub struct Sending {
 }
 
 // The time that frames are written with, in milliseconds; at first they are written without one.
-#[derive(Drop)]
+#[derive(Clone, Copy)]
 pub enum Time {
     Untimed,
     At(u32),
@@ -103,7 +104,7 @@ pub enum Time {
 
 // What a line stands for: nothing, one item of the log, a report's frames, the time of the frames behind it, or nothing that
 // can be read.
-#[derive(Drop)]
+#[derive(Clone, Copy)]
 pub enum Command {
     Nothing,
     Item(Item),
@@ -113,7 +114,7 @@ pub enum Command {
 }
 
 // What came of a line: how many bytes its items take, or what is wrong with it, or the bench sender's refusal.
-#[derive(Drop)]
+#[derive(Clone, Copy)]
 pub enum Answer {
     Items(usize),
     Wrong(Fault),
@@ -121,7 +122,7 @@ pub enum Answer {
 }
 
 // What came of a line, and the time for the lines behind it.
-#[derive(Drop)]
+#[derive(Clone, Copy)]
 pub struct Outcome {
     pub answer: Answer,
     pub time: Time,
@@ -405,7 +406,7 @@ fn question_line(line: &[u8]) -> Command
 }
 
 // A slot, or which word is wrong.
-#[derive(Drop)]
+#[derive(Clone, Copy)]
 struct Slot {
     wrong: u8,
     slot: u8,

@@ -1,4 +1,5 @@
 // The desk: lines of text on standard input, an answer to each on standard output (docs/DESK.md). Every public call can be made, on any state.
+#![tactic(auto)]
 use board::Board;
 use bus::Bus;
 use input::{Input, Next};
@@ -8,14 +9,14 @@ use replies::{put, refused};
 use times::Times;
 
 // The board, and whether there is one: whether a window was made.
-#[derive(Drop)]
+#[derive(Clone, Copy)]
 struct Desk {
     ready: bool,
     board: Board,
 }
 
 // The desk as a line leaves it, and where the line's answer ends; nothing is answered where that is 0.
-#[derive(Drop)]
+#[derive(Clone, Copy)]
 struct Answer {
     desk: Desk,
     end: usize,

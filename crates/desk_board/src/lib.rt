@@ -1,4 +1,5 @@
 // The desk's calls on the board: each is made, and what it answers is written to the front of `out`.
+#![tactic(auto)]
 ghost use Rattle.std.specs.Prelude.{◌<◌};
 ghost use Rattle.window.specs.Rows.{row_count};
 
@@ -12,7 +13,7 @@ use values::{Edition, Name, Values};
 use window::{Counts, Window};
 
 // The board as a call leaves it, and where its answer ends.
-#[derive(Drop)]
+#[derive(Clone, Copy)]
 pub struct Left {
     pub board: Board,
     pub end: usize,

@@ -1,6 +1,7 @@
 // Lines of the text that can-utils' `candump` prints: the interface of a line, and its frame in the log's form, `ID#DATA`.
 // Into a log (`-L`) it prints `(TIME) INTERFACE ID#DATA`, perhaps with R or T behind it. On a screen it prints
 // `INTERFACE ID [LENGTH] XX XX ..`, perhaps with a time before it (`-t`), marks before the identifier (`-x`), and letters behind the data (`-a`).
+#![tactic(auto)]
 ghost use Rattle.std.specs.Prelude.{◌≡◌, ◌+◌, ◌≤◌, min, length, take, drop};
 ghost use Rattle.std.proofs.lemmas.List.Edits.{sets};
 ghost use Rattle.dump.specs.Dump.{opens, closes, behind_time, time_in, interface_in, is_log, ended, logged_in, fields_in, between, count_in, pair_of, pairs_in, mark_of, closed_at, data_of, text_of, is_id, shown_in, is_drop};
@@ -9,7 +10,7 @@ use lines::{Number, Run};
 use stamps::Stamp;
 
 // A frame in the log's form.
-#[derive(Drop)]
+#[derive(Clone, Copy)]
 pub struct Text {}
 
 impl Text {
@@ -232,7 +233,7 @@ fn least(n: u8) -> u8
 
 // What the data of a frame on a screen are: CAN FD's; a remote frame's, which has none; so many bytes, where a length over 8 stands for 8; or
 // nothing that can be read.
-#[derive(Drop)]
+#[derive(Clone, Copy)]
 pub enum Data {
     Flexible,
     Remote,

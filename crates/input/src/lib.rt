@@ -1,4 +1,5 @@
 // Standard input, a line at a time. The line, and what was read of the lines behind it, stand in bytes that the caller lends.
+#![tactic(auto)]
 ghost use Rattle.std.specs.Prelude.{◌≡◌, ◌+◌, ◌-◌, ◌<◌, min, false, length, drop, nat_le};
 ghost use Rattle.std.proofs.lemmas.List.Edits.{sets};
 ghost use Rattle.input.specs.Lines.{longest, fresh_input, first_line, unread, line_taken};
@@ -9,7 +10,7 @@ use libc::STDIN_FILENO;
 use lines::Run;
 
 // Whether more can be read: the text goes on, it has ended, or a read failed.
-#[derive(Drop)]
+#[derive(Clone, Copy)]
 pub enum Source {
     Open,
     Ended,
@@ -31,7 +32,7 @@ impl Source {
 
 // A line of standard input, and how far the reading has come. Where the line fits, it is the first `size` of the bytes lent for it;
 // of a longer one they hold the front, and its size is one more than they are.
-#[derive(Drop)]
+#[derive(Clone, Copy)]
 pub struct Input {
     pub source: Source,
     // What was read last are the first `held` bytes of the lent space, and the last `left` of them are not taken yet.
@@ -45,7 +46,7 @@ pub struct Input {
 }
 
 // What comes next.
-#[derive(Drop)]
+#[derive(Clone, Copy)]
 pub enum Next {
     Line(Input),
     End,

@@ -1,5 +1,6 @@
 // The log's items: each a tagged field, whose value says what the cart is to do. Here stand their tags and lengths, their
 // reading and their writing, for the log, the bench sender and captured frames alike.
+#![tactic(auto)]
 ghost use Rattle.std.specs.Prelude.{◌≡◌, ◌&&◌, [], ◌∷◌, ◌++◌, ◌≤◌, eqb, length, take};
 ghost use Rattle.std.proofs.lemmas.List.Edits.{sets};
 ghost use Rattle.wire.specs.Bytes.{bytes, part, field};
@@ -8,7 +9,7 @@ ghost use Rattle.items.specs.Items.{signed16, unsigned16, setting_in, ties_bytes
 use wire::Field;
 
 // A question that is to be set: its slot, its k, its weights and its tie rule, 0 newest or 1 first-come; any byte is kept.
-#[derive(Drop)]
+#[derive(Clone, Copy)]
 pub struct Setting {
     pub slot: u8,
     pub k: u8,
@@ -22,7 +23,7 @@ pub struct Setting {
 // a slot to empty, a slot to show, the time and the identifier of a frame that has a time, a question with any weight for heat
 // whose tie rule is 0, a question with any weight for heat and any tie rule. A frame's data bytes stay where they are, behind
 // the identifier. An unknown tag, or a length that isn't its tag's, is unknown.
-#[derive(Drop)]
+#[derive(Clone, Copy)]
 pub enum Item {
     Window(u16),
     Set(Setting),

@@ -1,4 +1,5 @@
 // Frames of the bus joined into reports: a session for each sender, by the broadcast rules of SAE J1939-21.
+#![tactic(auto)]
 ghost use Rattle.std.specs.Prelude.{◌≡◌, true, [], ◌-◌, ◌*◌, take, drop};
 ghost use Rattle.std.proofs.lemmas.List.Edits.{sets};
 ghost use Rattle.report.specs.Payload.{read_payload};
@@ -12,7 +13,7 @@ mod lent;
 use report::{Note, Payload, Reading, Report};
 
 // Whose session a frame is for, 0 to 253, or why it is for none.
-#[derive(Drop)]
+#[derive(Clone, Copy)]
 pub enum Sender {
     Of(u8),
     Refused(u8),
@@ -20,7 +21,7 @@ pub enum Sender {
 
 // What a frame is answered: the refusal's number; kept, as it opened a session or was its next packet; or the report that
 // its last packet completed.
-#[derive(Drop)]
+#[derive(Clone, Copy)]
 pub enum Answer {
     Refused(u8),
     Kept,
@@ -29,7 +30,7 @@ pub enum Answer {
 
 // What one sender has sent of a report: the payload's bytes so far, its size and packet count, and the packet that is due.
 // All three numbers are 0 where no report is under way.
-#[derive(Drop)]
+#[derive(Clone, Copy)]
 pub struct Session {
     pub bytes: [u8; Payload::LARGEST],
     pub size: u8,
@@ -38,14 +39,14 @@ pub struct Session {
 }
 
 // A frame's answer and the session that it leaves.
-#[derive(Drop)]
+#[derive(Clone, Copy)]
 pub struct Taken {
     pub answer: Answer,
     pub session: Session,
 }
 
 // A frame's answer and the numbers of the session that it leaves, whose bytes are changed where they stand.
-#[derive(Drop)]
+#[derive(Clone, Copy)]
 struct Step {
     answer: Answer,
     size: u8,
@@ -54,7 +55,7 @@ struct Step {
 }
 
 // An identifier and the data bytes, as they come from the bus.
-#[derive(Drop)]
+#[derive(Clone, Copy)]
 pub struct Frame {}
 
 impl Frame {

@@ -13,6 +13,7 @@
 //                                the bench sender, with a note of that length: its answer, and the room that it leaves
 //
 // ID and DATA are hexadecimal, the other numbers decimal. EDITION is one more than the heat, and 0 or nothing without one.
+#![tactic(auto)]
 mod calls;
 mod print;
 

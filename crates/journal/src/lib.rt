@@ -1,4 +1,5 @@
 // A log of the bench: its items, what each does, and the lines of text that it prints.
+#![tactic(auto)]
 ghost use Rattle.std.specs.Prelude.{◌≡◌, cond, [], ◌<◌, set};
 ghost use Rattle.std.proofs.lemmas.List.Edits.{sets};
 ghost use Rattle.joining.specs.Run.{senders};
@@ -16,7 +17,7 @@ use times::{Station, Times};
 use values::Values;
 
 // The items so far, the window with its questions, and each sender's session and last time. A window of no rows is none yet.
-#[derive(Drop)]
+#[derive(Clone, Copy)]
 pub struct Log {
     pub items: u64,
     pub board: Board,
@@ -25,7 +26,7 @@ pub struct Log {
 }
 
 // The log that an item leaves, and the place behind the text that it printed.
-#[derive(Drop)]
+#[derive(Clone, Copy)]
 pub struct Done {
     pub log: Log,
     pub at: usize,

@@ -1,4 +1,5 @@
 // The board with the senders of its reports and each sender's tally: every call that is handed all of it.
+#![tactic(auto)]
 ghost use Rattle.std.specs.Prelude.{◌≡◌};
 ghost use Rattle.board.specs.Work.{enter_work};
 ghost use Rattle.ledger.specs.Calls.{fit_ledger, with_board, fresh_ledger, set_call, remove_call, read_call, not_entered, entered_with, enter_call, tally_call, report_call};
@@ -11,35 +12,35 @@ use tally::Tally;
 use values::Values;
 
 // The window with its questions, and beside it the senders of the held reports and every sender's tally.
-#[derive(Drop)]
+#[derive(Clone, Copy)]
 pub struct Ledger {
     pub board: Board,
     pub senders: Senders,
 }
 
 // A ledger, or the refusal's number and one of zeros.
-#[derive(Drop)]
+#[derive(Clone, Copy)]
 pub struct NewLedger {
     pub refusal: u8,
     pub ledger: Ledger,
 }
 
 // What setting a question answers: the steps of its search.
-#[derive(Drop)]
+#[derive(Clone, Copy)]
 pub struct Placed {
     pub refusal: u8,
     pub steps: u16,
     pub ledger: Ledger,
 }
 
-#[derive(Drop)]
+#[derive(Clone, Copy)]
 pub struct Removed {
     pub refusal: u8,
     pub ledger: Ledger,
 }
 
 // What entering a report answers: its number, which questions were searched, and the steps of each.
-#[derive(Drop)]
+#[derive(Clone, Copy)]
 pub struct Entered {
     pub refusal: u8,
     pub number: u32,

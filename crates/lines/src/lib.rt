@@ -1,12 +1,13 @@
 // Words and numbers in a line of text.
 // Words stand between blanks; a blank is the space or any byte below it, so tabs and carriage returns are blanks too.
+#![tactic(auto)]
 ghost use Rattle.std.specs.Prelude.{◌≡◌, ◌+◌, ◌*◌, ◌≤◌, drop, length};
 ghost use Rattle.wire.specs.Bytes.{same};
 ghost use Rattle.lines.specs.Words.{is_of_kind, run_length, tail_at, word_at, trimmed, behind_word};
 ghost use Rattle.lines.specs.Numbers.{no_number, digit_of, with_digit, number_on, number_in, short_in, negated};
 
 // Which bytes in a row are counted.
-#[derive(Drop)]
+#[derive(Clone, Copy)]
 pub enum Run {
     Blanks,
     Letters,
@@ -99,7 +100,7 @@ pub fn same(s: &[u8], t: &[u8]) -> bool
 }
 
 // A number that was read, or that a text is none: then its value is 0.
-#[derive(Drop)]
+#[derive(Clone, Copy)]
 pub struct Number {
     pub known: bool,
     pub value: u32,

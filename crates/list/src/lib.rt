@@ -1,5 +1,6 @@
 // A list in its two arrays, the reports' names and their scores, best first, and the pass over a window's rows that fills
 // one. A length over the room counts as the room.
+#![tactic(auto)]
 ghost use Rattle.std.specs.Prelude.{◌≡◌, [], min, ◌≤◌, ◌<◌, take, drop, pos};
 ghost use Rattle.search.specs.Best.{best, placed};
 ghost use Rattle.ranking.specs.Standing.{above, top};
@@ -14,7 +15,7 @@ use values::Name;
 use window::Window;
 
 // The first `len` places are its lines. In a list that is well stored the others are 0.
-#[derive(Drop)]
+#[derive(Clone, Copy)]
 pub struct Lines {
     pub names: [u32; Lines::MOST],
     pub scores: [i32; Lines::MOST],
@@ -22,7 +23,7 @@ pub struct Lines {
 }
 
 // What an entry has to rank above to change a list that is full: its last line.
-#[derive(Drop)]
+#[derive(Clone, Copy)]
 pub struct Bar {
     pub full: bool,
     pub name: u32,
@@ -30,7 +31,7 @@ pub struct Bar {
 }
 
 // How many lines a pass over rows has left, and how many rows it took.
-#[derive(Drop)]
+#[derive(Clone, Copy)]
 struct Passed {
     len: usize,
     rows: usize,

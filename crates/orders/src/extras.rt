@@ -4,7 +4,7 @@ use ranges::{Numbers, short};
 use values::Edition;
 
 // Such a word; None is any other.
-#[derive(Drop)]
+#[derive(Clone, Copy)]
 enum Word {
     Heat,
     Loss,
@@ -17,7 +17,7 @@ enum Word {
 }
 
 // Whether a word is said, and the numbers behind it: one, or the two of a range.
-#[derive(Drop)]
+#[derive(Clone, Copy)]
 pub struct Said {
     pub said: bool,
     pub first: u32,
@@ -25,7 +25,7 @@ pub struct Said {
 }
 
 // What the words in brackets say, and whether they are right. The next one is read at the word `at`.
-#[derive(Drop)]
+#[derive(Clone, Copy)]
 pub struct Extras {
     pub right: bool,
     pub at: u8,

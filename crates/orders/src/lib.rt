@@ -1,4 +1,5 @@
 // The desk's lines (docs/DESK.md): what a line asks for, or which form it should have had.
+#![tactic(auto)]
 mod extras;
 
 pub use extras::{Extras, Said};
@@ -7,7 +8,7 @@ use ranges::{Numbers, byte, score, short, weight};
 use values::{Edition, Values};
 
 // What a line asks for. A line that is passed over asks for nothing.
-#[derive(Drop)]
+#[derive(Clone, Copy)]
 pub enum Order {
     Nothing,
     NoText,
@@ -19,7 +20,7 @@ pub enum Order {
 }
 
 // What needs a window.
-#[derive(Drop)]
+#[derive(Clone, Copy)]
 pub enum BoardOrder {
     Set {
         slot: u8,
@@ -67,7 +68,7 @@ pub enum BoardOrder {
 }
 
 // What needs none. Where bytes belong to it, they stand in a word of the line, where `ranges::bytes` reads them.
-#[derive(Drop)]
+#[derive(Clone, Copy)]
 pub enum BusOrder {
     Frame {
         id: u32,

@@ -1,4 +1,5 @@
 // A log that comes in pieces of any size: what has come of the next item waits, and whole items are done as they come.
+#![tactic(auto)]
 ghost use Rattle.std.specs.Prelude.{◌≡◌, ◌&&◌, ◌+◌, min, ltb, eqb, get_or, drop};
 ghost use Rattle.std.proofs.lemmas.List.Edits.{sets};
 ghost use Rattle.text.specs.Text.{behind};
@@ -11,14 +12,14 @@ use journal::{Done, Log};
 use wire::Field;
 
 // What has come of an item that is not whole yet: its first 19 bytes, and how many there were. No longer item is known.
-#[derive(Drop)]
+#[derive(Clone, Copy)]
 pub struct Waiting {
     pub bytes: [u8; Waiting::KEPT],
     pub have: u32,
 }
 
 // The log and what waits, behind the bytes that were taken; and how many bytes of text were written.
-#[derive(Drop)]
+#[derive(Clone, Copy)]
 pub struct Fed {
     pub log: Log,
     pub waiting: Waiting,

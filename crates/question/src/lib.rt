@@ -1,4 +1,5 @@
 // One question: its rule, its list of at most 16 lines, and how far its search has come.
+#![tactic(auto)]
 ghost use Rattle.std.specs.Prelude.{◌≡◌, [], min, ◌≤◌, take, drop};
 ghost use Rattle.search.specs.Best.{best, placed};
 ghost use Rattle.ranking.specs.Standing.{above};
@@ -17,7 +18,7 @@ use window::{Counts, Row, Window};
 // `next` is the cell that the search takes next, 256 where none is left: the cells before it in the visiting order are the
 // marked ones. An empty slot has k 0 and everything else 0, and so has every line past the first `len`. The fields' order is
 // for speed (docs/SPEED.md).
-#[derive(Drop)]
+#[derive(Clone, Copy)]
 pub struct Question {
     pub names: [u32; Lines::MOST],
     pub rule: Rule,
@@ -28,14 +29,14 @@ pub struct Question {
 }
 
 // A question whose search has ended, and the steps that it took.
-#[derive(Drop)]
+#[derive(Clone, Copy)]
 pub struct Searched {
     pub steps: u16,
     pub question: Question,
 }
 
 // What a step or a beginning answers: the refusal's number, or 0, and the question as it leaves it.
-#[derive(Drop)]
+#[derive(Clone, Copy)]
 pub struct Stepped {
     pub refusal: u8,
     pub question: Question,

@@ -1,4 +1,5 @@
 // A question's rule: its scores, the rank order, the grid and the order in which a search takes its cells.
+#![tactic(auto)]
 
 ghost use Rattle.std.specs.Prelude.{◌≡◌, true, ◌&&◌, ◌+◌, ◌*◌, ◌-◌, ◌%◌, ◌<◌, ◌≤◌, min, pos, ◌*ℤ◌};
 ghost use Rattle.laws.specs.Whole.{equal};
@@ -10,7 +11,7 @@ ghost use Rattle.ranking.specs.Inner.{leads, nearer, place_after, met, met_row, 
 use values::{Edition, Name, Values};
 
 // What a score is made with: a for loss, b for shake, c for heat.
-#[derive(Drop)]
+#[derive(Clone, Copy)]
 pub struct Weights {
     pub loss: i16,
     pub shake: i16,
@@ -75,21 +76,21 @@ impl Weights {
 }
 
 // The values from one to another, both included.
-#[derive(Drop)]
+#[derive(Clone, Copy)]
 pub struct Range {
     pub low: u16,
     pub high: u16,
 }
 
 // The losses and the shakes that count.
-#[derive(Drop)]
+#[derive(Clone, Copy)]
 pub struct Ranges {
     pub loss: Range,
     pub shake: Range,
 }
 
 // All that a question goes by. The tie rule is NEWEST or FIRST_COME; any other is unfit, and ranks as FIRST_COME does.
-#[derive(Drop)]
+#[derive(Clone, Copy)]
 pub struct Rule {
     pub weights: Weights,
     pub ranges: Ranges,
@@ -97,7 +98,7 @@ pub struct Rule {
 }
 
 // What a report is for a question: a score, or none where it doesn't count.
-#[derive(Drop)]
+#[derive(Clone, Copy)]
 pub enum Score {
     Scored(i32),
     DoesNotCount,
@@ -105,14 +106,14 @@ pub enum Score {
 
 // How many of the cells that a search can take have a best possible score of at least some score, and which of the others it
 // takes first; CELLS, where there is none.
-#[derive(Drop)]
+#[derive(Clone, Copy)]
 pub struct Reach {
     pub cells: u16,
     pub next: u16,
 }
 
 // What a look at some cells has found: how many reach the score, which of the others is taken first, and its best score.
-#[derive(Drop)]
+#[derive(Clone, Copy)]
 struct Sought {
     cells: u16,
     next: u16,
@@ -120,7 +121,7 @@ struct Sought {
 }
 
 // Columns or rows of the grid: from the first up to the end.
-#[derive(Drop)]
+#[derive(Clone, Copy)]
 struct Stripes {
     first: u16,
     end: u16,
@@ -826,7 +827,7 @@ fn greater(a: i32, b: i32, tie: bool) -> bool
 }
 
 // The grid over loss and shake: COLUMNS by ROWS cells of SIDE by SIDE values.
-#[derive(Drop)]
+#[derive(Clone, Copy)]
 pub struct Grid {}
 
 impl Grid {

@@ -9,6 +9,7 @@
 // count AT BYTES..                         how many of the 255 other bytes at a place the reader takes
 //
 // BYTES are hexadecimal, the other numbers decimal. EDITION is one more than the heat, and 0 or nothing without one.
+#![tactic(auto)]
 use printing::{bytes, end, number, refused, text};
 use report::{Payload, Reading, Report, Written};
 use values::{Edition, Values};

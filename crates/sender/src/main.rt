@@ -1,5 +1,6 @@
 // The bench sender: lines of text on standard input, the log items that they stand for on standard output. A wrong line is
 // named on standard error with what is expected, and nothing of it is written.
+#![tactic(auto)]
 use commands::{Answer, Command, Fault, Kind, Time};
 use input::{Input, Next};
 use libc::{STDERR_FILENO, STDOUT_FILENO};
@@ -37,7 +38,7 @@ fn stopped(next: Next) {
 }
 
 // Whether a line's items could be written, and the time of the frames behind it.
-#[derive(Drop)]
+#[derive(Clone, Copy)]
 struct Sent {
     fine: bool,
     time: Time,

@@ -1,4 +1,5 @@
 // An item for one slot, done over the rows that are lent: what the slot holds then, and the line that is printed.
+#![tactic(auto)]
 ghost use Rattle.std.specs.Prelude.{◌≡◌, cond, []};
 ghost use Rattle.std.proofs.lemmas.List.Edits.{sets};
 ghost use Rattle.text.specs.Text.{behind, r_line};
@@ -12,7 +13,7 @@ use slot::Shown;
 use window::Window;
 
 // What a slot holds behind an item for it, and the place behind what that printed.
-#[derive(Drop)]
+#[derive(Clone, Copy)]
 pub struct Slot {
     pub question: Question,
     pub at: usize,

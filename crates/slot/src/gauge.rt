@@ -11,7 +11,7 @@ use values::Values;
 
 // The weights, the last score of the list, and the lowest name on it; 0 for that while the list has room, which no name is
 // below.
-#[derive(Drop)]
+#[derive(Clone, Copy)]
 pub struct Gauge {
     pub weights: Weights,
     pub least: i32,

@@ -1,4 +1,5 @@
 // What setting, removing, reading and entering do to one slot: a standing question with its list, or none.
+#![tactic(auto)]
 ghost use Rattle.std.specs.Prelude.{◌≡◌, ◌&&◌, min};
 ghost use Rattle.window.specs.Rows.{row_count, report_at, standing};
 ghost use Rattle.list.specs.Lines.{most_lines};
@@ -19,7 +20,7 @@ use values::Name;
 use window::{Row, Window};
 
 // What setting a question answers: the steps of its search, and what the slot holds then.
-#[derive(Drop)]
+#[derive(Clone, Copy)]
 pub struct Seated {
     pub refusal: u8,
     pub steps: u16,
@@ -28,7 +29,7 @@ pub struct Seated {
 
 // A list: its first `len` lines, and 0 past them. Of each its report's number and score, and the heat: 0 for a report of the
 // first edition, one more than its heat for one of the second.
-#[derive(Drop)]
+#[derive(Clone, Copy)]
 pub struct Shown {
     pub refusal: u8,
     pub len: u8,
@@ -38,7 +39,7 @@ pub struct Shown {
 }
 
 // What a report's entry leaves of a question: whether it was searched, the steps of that, and what the slot holds then.
-#[derive(Drop)]
+#[derive(Clone, Copy)]
 pub struct Turned {
     pub searched: bool,
     pub steps: u16,

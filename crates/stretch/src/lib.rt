@@ -1,5 +1,6 @@
 // A stretch of a log's whole items, done where the log stands: frames, and items for a slot that there is. The window, the slots, the
 // sessions and their last times are locals of one function for the whole stretch, so that a frame changes them in place and copies none of them.
+#![tactic(auto)]
 ghost use Rattle.std.specs.Prelude.{◌≡◌, true, cond, ◌&&◌, [], ◌+◌, ◌≤◌, ◌<◌, length};
 ghost use Rattle.std.proofs.lemmas.List.Edits.{sets};
 ghost use Rattle.wire.specs.Bytes.{number, part};
@@ -25,7 +26,7 @@ use window::{Counts, Place, Row, Window};
 use wire::Field;
 
 // The log that the items leave, how many bytes they have, and the place behind their text.
-#[derive(Drop)]
+#[derive(Clone, Copy)]
 pub struct Stretch {
     pub log: Log,
     pub taken: usize,
@@ -34,7 +35,7 @@ pub struct Stretch {
 
 // What a frame brought: the line of a refusal, or a report with its number and as its row has it, and the number of the report that
 // is gone then, 0 for none.
-#[derive(Drop)]
+#[derive(Clone, Copy)]
 struct Brought {
     refused: bool,
     code: u8,
@@ -45,7 +46,7 @@ struct Brought {
 
 // The place of a frame, 3 bytes before its identifier, and what its time refuses before it is taken, 0 for nothing. Beside it, of the last
 // frame that had a time, its place and what its sender's last time was before: that is put back if the frame is refused.
-#[derive(Drop)]
+#[derive(Clone, Copy)]
 struct Begun {
     place: usize,
     refusal: u8,
@@ -55,7 +56,7 @@ struct Begun {
 }
 
 // Where `run` starts and ends: the items' count and the board, how many bytes were taken, and the place behind the text.
-#[derive(Drop)]
+#[derive(Clone, Copy)]
 struct Standing {
     items: u64,
     board: Board,

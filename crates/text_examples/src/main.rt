@@ -1,5 +1,6 @@
 // The log program's lines tried at the edges of their numbers and of the room. The file `stdout` has the lines that
 // the rules (docs/RULES.md) ask for.
+#![tactic(auto)]
 use libc::STDOUT_FILENO;
 use text::Text;
 

@@ -1,4 +1,5 @@
 // Frames with times: each sender's last kept time beside its session, and packets that come too late.
+#![tactic(auto)]
 ghost use Rattle.std.specs.Prelude.{◌≡◌, true, cond, ◌<◌, length, set, eqb};
 ghost use Rattle.joining.specs.Frame.{sender_of, frame_refusal};
 ghost use Rattle.joining.specs.Joining.{fit, closed, take_frame};
@@ -12,35 +13,35 @@ use bus::Bus;
 use joining::{Answer, Session};
 
 // A sender's last kept time, in milliseconds: whether there is one, and which, 0 where there is none.
-#[derive(Drop)]
+#[derive(Clone, Copy)]
 pub struct Last {
     pub known: bool,
     pub at: u32,
 }
 
 // One sender's session and last kept time.
-#[derive(Drop)]
+#[derive(Clone, Copy)]
 pub struct Station {
     pub session: Session,
     pub last: Last,
 }
 
 // A frame's answer, and what it leaves.
-#[derive(Drop)]
+#[derive(Clone, Copy)]
 pub struct Heard {
     pub answer: Answer,
     pub station: Station,
 }
 
 // What a time settles before its frame is taken: a refusal, 0 for none, and what the sender's last time was.
-#[derive(Drop)]
+#[derive(Clone, Copy)]
 pub struct Met {
     pub refusal: u8,
     pub last: Last,
 }
 
 // The last kept time of each sender from 0 to 253, in their order: whether there is one, and it, 0 where there is none.
-#[derive(Drop)]
+#[derive(Clone, Copy)]
 pub struct Times {
     pub known: [bool; Bus::SENDERS],
     pub at: [u32; Bus::SENDERS],
@@ -319,7 +320,7 @@ fn stopped(room: &mut [u8; Bus::ROOM], last: Last, time: u32, id: u32, data: &[u
 }
 
 // How a time stands to a sender's last kept one: in time, more than 750 ms after it, before it; or what is stored is none and yet not 0.
-#[derive(Drop)]
+#[derive(Clone, Copy)]
 enum Came {
     InTime,
     Late,

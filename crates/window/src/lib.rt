@@ -1,4 +1,5 @@
 // The held reports: the latest N that were entered, in a ring of rows.
+#![tactic(auto)]
 ghost use Rattle.std.specs.Prelude.{◌≡◌, true, min, ◌+◌, ◌-◌, ◌%◌, ◌<◌, ◌≤◌};
 ghost use Rattle.window.specs.Rows.{row_count, report_limit, fresh_window, fit_window, added, sized, empty, row_of, place_for, due, number_at, values_at, no_values, holds, rows_fit, counts_fit};
 
@@ -6,7 +7,7 @@ use values::{Edition, Name, Values};
 
 // How many rows are used, N; how many reports were entered, which is the last one's number; and how many of the latest are
 // held.
-#[derive(Drop)]
+#[derive(Clone, Copy)]
 pub struct Counts {
     pub size: u16,
     pub entered: u32,
@@ -14,7 +15,7 @@ pub struct Counts {
 }
 
 // Report m lies in row (m - 1) mod N, by its loss, its shake, and its name. A row that holds nothing is 0.
-#[derive(Drop)]
+#[derive(Clone, Copy)]
 pub struct Window {
     pub losses: [u16; Window::ROWS],
     pub shakes: [u16; Window::ROWS],
@@ -23,7 +24,7 @@ pub struct Window {
 }
 
 // A report as its row has it: the name has its number and its edition.
-#[derive(Drop)]
+#[derive(Clone, Copy)]
 pub struct Row {
     pub loss: u16,
     pub shake: u16,
@@ -31,14 +32,14 @@ pub struct Row {
 }
 
 // A window, or the refusal's number and a window of zeros.
-#[derive(Drop)]
+#[derive(Clone, Copy)]
 pub struct Fresh {
     pub refusal: u8,
     pub window: Window,
 }
 
 // Where the next report goes: its row, and how many are held with it.
-#[derive(Drop)]
+#[derive(Clone, Copy)]
 pub struct Place {
     pub row: u16,
     pub held: u16,
