@@ -38,7 +38,7 @@ put-all-requires c κs = search rules
 returns : tie.Need-returns
 returns c =
     let a = c.before.before.before.before.before.before.before.before.args in
-    packet-stored a.p.now a.i c.before.before.before.before.before.put.ensures c.before.put_all_lem.ensures
+    packet-stored a.p.now a.i c.before.before.before.before.before.put.ensures c.before.put_all.ensures
 
 pub packet-data-spec : {M : Type 1} → statement M
 packet-data-spec =

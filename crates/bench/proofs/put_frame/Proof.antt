@@ -20,7 +20,7 @@ same_length c = search rules
 returns : tie.Need-returns
 returns c =
     let a = c.before.before.before.before.before.before.before.before.before.before.args in
-    put_behind a.room.now a.at a.id a.carried.now c.before.before.before.before.before.before.before.put32.ensures c.before.before.put_all_lem.ensures
+    put_behind a.room.now a.at a.id a.carried.now c.before.before.before.before.before.before.before.put32.ensures c.before.before.put_all.ensures
 
 pub put-frame-spec : {M : Type 1} → statement M
 put-frame-spec =

@@ -27,7 +27,7 @@ add-room-2 c = search rules
 slice-write-room-2 : tie.Need-slice-write-room-2
 slice-write-room-2 c =
     let s = c.before.before.before.before.before.before.before in
-    rw length-set (rw (c.before.before.put_all_lem.ensures, length-sets, s.requires.0) (omega (arith, s.requires.1)))
+    rw length-set (rw (c.before.before.put_all.ensures, length-sets, s.requires.0) (omega (arith, s.requires.1)))
 
 add-room-3 : tie.Need-overflow-add-room-3
 add-room-3 c = search rules
@@ -35,7 +35,7 @@ add-room-3 c = search rules
 slice-write-room-3 : tie.Need-slice-write-room-3
 slice-write-room-3 c =
     let s = c.before.before.before.before.before.before.before in
-    rw (length-set, length-set) (rw (c.before.before.put_all_lem.ensures, length-sets, s.requires.0) (omega (arith, s.requires.1)))
+    rw (length-set, length-set) (rw (c.before.before.put_all.ensures, length-sets, s.requires.0) (omega (arith, s.requires.1)))
 
 same_length : tie.Need-same-length
 same_length c = search rules
@@ -44,7 +44,7 @@ returns : tie.Need-returns
 returns c =
     let a = c.before.before.before.before.before.before.before.args in
     let long : length a.s.bytes ≡ 89 = search rules in
-    (four_stores a.room.now a.at a.s long c.before.before.put_all_lem.ensures, long)
+    (four_stores a.room.now a.at a.s long c.before.before.put_all.ensures, long)
 
 pub put-session-spec : {M : Type 1} → statement M
 put-session-spec =

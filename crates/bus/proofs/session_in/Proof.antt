@@ -56,7 +56,7 @@ returns c =
     let new : List ℕ = take 89 (drop at room) in
     let long : length new ≡ 89 = length-take-le 89 (drop at room) (rw (length-drop, s.requires.0) (omega (arith, s.requires.1))) in
     four_reads room at
-    (c.before.before.before.before.put_all_lem.ensures
+    (c.before.before.before.before.put_all.ensures
     ∙ ap (λ (n : ℕ). sets (replicate 89 255) 0 (take n (drop at room))) (add-sub_cancel_left at 89)
     ∙ overwritten (replicate 89 255) new (long ∙ sym (length-replicate {A = ℕ} 89 255)))
 

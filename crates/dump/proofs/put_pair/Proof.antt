@@ -25,7 +25,7 @@ returns : tie.Need-returns
 unfolding pair_of
 returns c =
     let w = c.before.before.before.before.before.before.before.args.word.now in
-    c.before.before.put_all_lem.ensures ∙ rw (eq-eqb (length w) 2 c.before.before.before.before.if1.true)
+    c.before.before.put_all.ensures ∙ rw (eq-eqb (length w) 2 c.before.before.before.before.if1.true)
 
 same-length-2 : tie.Need-same-length-2
 same-length-2 c = search rules

@@ -59,7 +59,7 @@ returns-2 c =
     let f = c.before.before.before.before.before.before.before.before.before.before.before.before.before.before.before.before.fields.result.now in
     let e = shown_is c.before.before.before.before.before.before.before.before.before.before.before.before.before.before.before.before.before.before.before.before.args.line.now f w (c.before.before.before.before.before.before.before.before.before.before.before.before.before.before.before.before.fields.ensures ∙ ap fields_in c.before.before.before.before.before.before.before.before.before.before.before.before.before.before.before.before.before.behind-time.ensures) c.before.before.before.before.before.before.before.before.before.before.before.before.before.before.before.word.ensures (sym c.before.before.before.before.before.before.before.before.before.before.before.before.before.before.is-id.ensures ∙ not-false _ c.before.before.before.before.before.before.before.before.before.before.before.before.before.if1.false) in
     let t : text_of c.before.before.before.before.of.result f ≡ text_of (data_of f) f = rw c.before.before.before.before.of.ensures in
-    (rw (e, length-append) (omega (arith, c.before.before.put2.ensures.0, ap length t)), stored c.before.before.before.before.before.before.before.before.before.before.before.before.before.before.before.before.before.before.before.before.args.room.now w (text_of (data_of f) f) c.before.before.before.before.before.before.before.before.before.before.before.put_all_lem.ensures c.before.before.before.before.before.before.before.put.ensures (c.before.before.put2.ensures.1 ∙ rw t) ∙ rw e)
+    (rw (e, length-append) (omega (arith, c.before.before.put2.ensures.0, ap length t)), stored c.before.before.before.before.before.before.before.before.before.before.before.before.before.before.before.before.before.before.before.before.args.room.now w (text_of (data_of f) f) c.before.before.before.before.before.before.before.before.before.before.before.put_all.ensures c.before.before.before.before.before.before.before.put.ensures (c.before.before.put2.ensures.1 ∙ rw t) ∙ rw e)
 
 pub shown-spec : {M : Type 1} → statement M
 shown-spec =

@@ -59,7 +59,7 @@ returns c =
     let z = f.before.before.before.before in
     let t = z.before.before.before.before in
     let a = t.before.before.before.before.before.before.args in
-    frame-stored a.room.now a.at a.tag a.first.now a.id a.data.now t.put.ensures z.put16.ensures f.put_all_lem.ensures i.put32.ensures l.put-all2.ensures
+    frame-stored a.room.now a.at a.tag a.first.now a.id a.data.now t.put.ensures z.put16.ensures f.put_all.ensures i.put32.ensures l.put-all2.ensures
 
 returns-2 : tie.Need-returns-2
 returns-2 c =

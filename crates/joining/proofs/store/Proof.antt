@@ -56,7 +56,7 @@ returns-3 : tie.Need-returns-3
 returns-3 c =
     let a = c.before.before.before.before.before.before.before.before.before.before.args in
     let d = a.«data».now in
-    c.before.before.put_all_lem.ensures
+    c.before.before.put_all.ensures
     ∙ ap (sets a.bytes.now (7 * a.sent))
     (c.before.before.before.front.ensures
     ∙ ap (take (a.size - 7 * a.sent)) (take_all (length d - 1) (drop 1 d) (rw length-drop (omega arith))))

@@ -34,7 +34,7 @@ returns-2 : tie.Need-returns-2
 unfolding fraction_in
 returns-2 c =
     let text = c.before.before.before.before.before.before.before.args.text.now in
-    c.read.ensures ∙ rw (le-leb (length text) 9 (omega arith), c.before.before.before.put_all_lem.ensures)
+    c.read.ensures ∙ rw (le-leb (length text) 9 (omega arith), c.before.before.before.put_all.ensures)
 
 pub fraction-spec : {M : Type 1} → statement M
 fraction-spec =

@@ -46,7 +46,7 @@ returns c =
     let n = spelled.before.before.before.args.n in
     let fits = decimal64_longest n (search rules) in
     let size : 20 - spelled.spell.result ≡ length (decimal n) = omega (arith, spelled.spell.ensures.0) in
-    (rw (sym size) c.moved.ensures, rw (spelled.spell.ensures.1, size, take-length (decimal n)) at stored.put_all_lem.ensures)
+    (rw (sym size) c.moved.ensures, rw (spelled.spell.ensures.1, size, take-length (decimal n)) at stored.put_all.ensures)
 
 pub put-decimal-spec : {M : Type 1} → statement M
 put-decimal-spec =

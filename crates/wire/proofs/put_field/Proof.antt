@@ -25,7 +25,7 @@ same_length : tie.Need-same-length
 same_length c = search rules
 
 returns : tie.Need-returns
-returns c = let a = c.before.before.before.before.before.before.before.before.before.before.before.args in put_value a.buf.now a.at a.tag (length a.value.now % 65536) a.value.now (head-low a.tag (length a.value.now)) c.before.before.before.before.before.before.put-head.ensures c.before.before.put_all_lem.ensures
+returns c = let a = c.before.before.before.before.before.before.before.before.before.before.before.args in put_value a.buf.now a.at a.tag (length a.value.now % 65536) a.value.now (head-low a.tag (length a.value.now)) c.before.before.before.before.before.before.put-head.ensures c.before.before.put_all.ensures
 
 returns-2 : tie.Need-returns-2
 returns-2 c = let a = c.before.before.before.args in sym (sets_past a.buf.now a.at (field a.tag a.value.now) c.if1.false)
