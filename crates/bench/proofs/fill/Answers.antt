@@ -7,4 +7,4 @@ use Rattle.bench.proofs.fill.Goals as goal
 pub returns : goal.returns
 returns c =
     let a = c.args in
-    all-stored a.sender a.p.now a.room.now c.identifier.ensures c.announcement-opening.ensures c.packets.ensures c.put_frame.ensures c.put_packets.ensures
+    all-stored c.args.sender c.args.p.now c.args.room.now c.identifier.ensures c.announcement-opening.ensures c.packets.ensures c.put_frame.ensures c.put_packets.ensures

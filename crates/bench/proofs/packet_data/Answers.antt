@@ -7,4 +7,4 @@ use Rattle.bench.proofs.packet_data.Goals as goal
 pub returns : goal.returns
 returns c =
     let a = c.args in
-    packet-stored a.p.now a.i c.put.ensures c.put_all.ensures
+    packet-stored c.args.p.now c.args.i c.put.ensures c.put_all.ensures

@@ -7,4 +7,4 @@ use Rattle.bench.proofs.put_frame.Goals as goal
 pub returns : goal.returns
 returns c =
     let a = c.args in
-    put_behind a.room.now a.at a.id a.carried.now c.put32.ensures c.put_all.ensures
+    put_behind c.args.room.now c.args.at c.args.id c.args.carried.now c.put32.ensures c.put_all.ensures

@@ -30,8 +30,8 @@ loop-sent-preserved c =
     let a = c.args in
     let l = c.loop-sent in (
       omega arith,
-      c.put_packet.auto.0 ∙ l.invariant.1,
-      packets_more a.sender a.p.now a.room.now l.sent l.invariant.2 c.put_packet.ensures,
+      c.put_packet.auto.0 ∙ c.loop-sent.invariant.1,
+      packets_more c.args.sender c.args.p.now c.args.room.now c.loop-sent.sent c.loop-sent.invariant.2 c.put_packet.ensures,
     )
 
 pub shape_of-room : goal.shape_of-room

@@ -16,10 +16,10 @@ use Rattle.bus.proofs.advance_in.Goals as goal
 
 pub returns : goal.returns
 returns c =
-    let a = c.args in
-    let room = a.room.now in
-    let d = a.«data».now in
-    let left = session_bytes (take_frame (session_in (drop a.at room)) a.id d).session in
-    let same = ap (λ (n : ℕ). session_in (take n (drop a.at room))) (add-sub_cancel_left a.at 92) ∙ first_92 (drop a.at room) in record { value = c.advance_at.ensures.value ∙ ap (λ (s : Session). (take_frame s a.id d).answer) same; room_after = ap (λ (l : List ℕ). take a.at room ++ (c.advance_at.new.0 ++ l)) (Post-is a.at (a.at + 92) room (omega arith))
-          ∙ ap (λ (l : List ℕ). take a.at room ++ (l ++ drop (a.at + 92) room)) (c.advance_at.ensures.place_after ∙ ap (λ (s : Session). session_bytes (take_frame s a.id d).session) same)
-          ∙ sym (append_assoc (take a.at room) left (drop (a.at + 92) room)) }
+    let a = c.args in 
+    let room = c.args.room.now in 
+    let d = a.«data».now in 
+    let left = session_bytes (take_frame (session_in (drop c.args.at room)) c.args.id d).session in 
+    let same = ap (λ (n : ℕ). session_in (take n (drop c.args.at room))) (add-sub_cancel_left c.args.at 92) ∙ first_92 (drop c.args.at room) in record { value = c.advance_at.ensures.value ∙ ap (λ (s : Session). (take_frame s c.args.id d).answer) same; room_after = ap (λ (l : List ℕ). take c.args.at room ++ (c.advance_at.new.0 ++ l)) (Post-is c.args.at (c.args.at + 92) room (omega arith))
+          ∙ ap (λ (l : List ℕ). take c.args.at room ++ (l ++ drop (c.args.at + 92) room)) (c.advance_at.ensures.place_after ∙ ap (λ (s : Session). session_bytes (take_frame s c.args.id d).session) same)
+          ∙ sym (append_assoc (take c.args.at room) left (drop (c.args.at + 92) room)) }

@@ -22,7 +22,7 @@ loop-i-smaller c = omega arith
 pub loop-i-preserved : goal.loop-i-preserved
 loop-i-preserved c =
     let l = c.loop-i in
-    (omega arith, length-set l.place l.i 255 ∙ l.invariant.1, cleared l.place l.i (omega (arith, l.invariant.1)) l.invariant.2)
+    (omega arith, length-set c.loop-i.place c.loop-i.i 255 ∙ c.loop-i.invariant.1, cleared c.loop-i.place c.loop-i.i (omega (arith, c.loop-i.invariant.1)) c.loop-i.invariant.2)
 
 pub shape_of-place : goal.shape_of-place
 shape_of-place c = c.loop-i.invariant.1 ∙ sym c.requires
@@ -30,5 +30,5 @@ shape_of-place c = c.loop-i.invariant.1 ∙ sym c.requires
 pub returns : goal.returns
 returns c =
     let l = c.loop-i in
-    let end : l.i ≡ 89 = omega arith in
-    ap (λ (k : ℕ). take k l.place) (sym end) ∙ l.invariant.2 ∙ ap (λ (k : ℕ). replicate k 255) end
+    let end : c.loop-i.i ≡ 89 = omega arith in
+    ap (λ (k : ℕ). take k c.loop-i.place) (sym end) ∙ c.loop-i.invariant.2 ∙ ap (λ (k : ℕ). replicate k 255) end

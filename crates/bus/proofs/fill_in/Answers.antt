@@ -29,7 +29,7 @@ overflow_mul-k c = omega arith
 pub put_session-requires : goal.put_session-requires
 put_session-requires c =
     let l = c.loop-k in
-    (ap length l.invariant.2 ∙ length-sets c.args.room.now 0 (room_of (take l.k c.args.sessions)) ∙ c.requires, omega arith)
+    (ap length c.loop-k.invariant.2 ∙ length-sets c.args.room.now 0 (room_of (take c.loop-k.k c.args.sessions)) ∙ c.requires, omega arith)
 
 pub overflow_add-k : goal.overflow_add-k
 overflow_add-k c = omega arith
@@ -43,20 +43,20 @@ loop-k-preserved c =
     let ss = c.args.sessions in
     let many : length ss ≡ 254 = search rules in
     let put = c.put_session.ensures in
-    let t = stores_more c.args.room.now ss l.k (omega (arith, many)) put.1 l.invariant.1 l.invariant.2 put.0 in
-    (omega arith, t.0, t.1, sized_more l.k ss (omega (arith, many)) l.invariant.3 put.1)
+    let t = stores_more c.args.room.now ss c.loop-k.k (omega (arith, many)) c.put_session.ensures.1 c.loop-k.invariant.1 c.loop-k.invariant.2 c.put_session.ensures.0 in
+    (omega arith, t.0, t.1, sized_more c.loop-k.k ss (omega (arith, many)) c.loop-k.invariant.3 c.put_session.ensures.1)
 
 pub shape_of-room : goal.shape_of-room
 shape_of-room c =
     let l = c.loop-k in
-    ap length l.invariant.2 ∙ length-sets c.args.room.now 0 (room_of (take l.k c.args.sessions))
+    ap length c.loop-k.invariant.2 ∙ length-sets c.args.room.now 0 (room_of (take c.loop-k.k c.args.sessions))
 
 pub returns : goal.returns
 returns c =
-    let l = c.loop-k in
-    let room = c.args.room.now in
-    let ss = c.args.sessions in
-    let many : length ss ≡ 254 = search rules in
-    let all : take l.k ss ≡ ss = take_all l.k ss (omega (arith, many)) in
-    let long : length (room_of ss) ≡ length room = ap (λ (z : List Session). length (room_of z)) (sym all) ∙ l.invariant.1 ∙ omega (arith, c.requires) in
-    let filled = l.invariant.2 ∙ ap (λ (z : List Session). sets room 0 (room_of z)) all ∙ overwritten room (room_of ss) long in record { room_after = filled; room_after_2 = (ap sessions_in filled ∙ read_back ss (subst Sized all l.invariant.3) many, ap length filled ∙ long ∙ c.requires) }
+    let l = c.loop-k in 
+    let room = c.args.room.now in 
+    let ss = c.args.sessions in 
+    let many : length ss ≡ 254 = search rules in 
+    let all : take c.loop-k.k ss ≡ ss = take_all c.loop-k.k ss (omega (arith, many)) in 
+    let long : length (room_of ss) ≡ length room = ap (λ (z : List Session). length (room_of z)) (sym all) ∙ c.loop-k.invariant.1 ∙ omega (arith, c.requires) in 
+    let filled = c.loop-k.invariant.2 ∙ ap (λ (z : List Session). sets room 0 (room_of z)) all ∙ overwritten room (room_of ss) long in record { room_after = filled; room_after_2 = (ap sessions_in filled ∙ read_back ss (subst Sized all c.loop-k.invariant.3) many, ap length filled ∙ long ∙ c.requires) }

@@ -11,7 +11,7 @@ use borrow.Author.Rules.{rules}
 use Rattle.bus.proofs.finish_at.Goals as goal
 
 pub slice_bounds-answered-end-2 : goal.slice_bounds-answered-end-2
-slice_bounds-answered-end-2 c = sym (length-take-le c.args.size c.args.place.now (omega (arith, c.requires.0, c.requires.1)))
+slice_bounds-answered-end-2 c = sym (length-take-le c.args.size c.args.place.now (omega (arith, c.requires.place_len, c.requires.size_le_largest_payload)))
 
 pub returns : goal.returns
-returns c = record { value = c.answered-answer.ensures ∙ ap (λ (l : List ℕ). yields (read_payload l)) (sym (take-take c.args.size 89 c.args.place.now c.requires.1)); place_after = c.close_at.ensures }
+returns c = record { value = c.answered-answer.ensures ∙ ap (λ (l : List ℕ). yields (read_payload l)) (sym (take-take c.args.size 89 c.args.place.now c.requires.size_le_largest_payload)); place_after = c.close_at.ensures }

@@ -17,5 +17,5 @@ bounds-room-at-3 c = rw (length-set, length-set) (rw (c.put_all.ensures, length-
 pub returns : goal.returns
 returns c =
     let a = c.args in
-    let long : length a.s.bytes ≡ 89 = search rules in
-    (four_stores a.room.now a.at a.s long c.put_all.ensures, long)
+    let long : length c.args.s.bytes ≡ 89 = search rules in
+    (four_stores c.args.room.now c.args.at c.args.s long c.put_all.ensures, long)

@@ -18,13 +18,13 @@ put_frame-requires c =
 
 pub returns-in-Frame : goal.returns-in-Frame
 returns-in-Frame c =
-    let w = c.args.word.now in
-    let sorted : c.placed-sort.result ≡ placed c.args.elsewhere (sort_of_frame w) = c.placed-sort.ensures ∙ ap (placed c.args.elsewhere) c.of_frame.ensures in
+    let w = c.args.word.now in 
+    let sorted : c.placed-sort.result ≡ placed c.args.elsewhere (sort_of_frame w) = c.placed-sort.ensures ∙ ap (placed c.args.elsewhere) c.of_frame.ensures in 
     let e = c.in-Frame.is in record { value = c.put_frame.ensures.value ∙ frame_sort c.args.ours c.args.elsewhere c.args.time w sorted e; room_after = c.put_frame.ensures.room_after ∙ rw (frame_items c.args.ours c.args.elsewhere c.args.time w sorted e) }
 
 pub returns-in_default : goal.returns-in_default
 unfolding run_bytes
 returns-in_default c =
-    let w = c.args.word.now in
-    let sorted : c.placed-sort.result ≡ placed c.args.elsewhere (sort_of_frame w) = c.placed-sort.ensures ∙ ap (placed c.args.elsewhere) c.of_frame.ensures in
-    let other : c.placed-sort.result ≡ sort.Frame → ⊥ = λ e. miss (1 ∷ 2 ∷ 3 ∷ 4 ∷ 5 ∷ 6 ∷ 7 ∷ 8 ∷ 9 ∷ 10 ∷ 11 ∷ 12 ∷ []) 0 tt (rw e at c.in_default.keys2) in record { value = other_sort c.args.ours c.args.elsewhere c.args.time w sorted other; room_after = rw (other_items c.args.ours c.args.elsewhere c.args.time w sorted other) }
+    let w = c.args.word.now in 
+    let sorted : c.placed-sort.result ≡ placed c.args.elsewhere (sort_of_frame w) = c.placed-sort.ensures ∙ ap (placed c.args.elsewhere) c.of_frame.ensures in 
+    let other : c.placed-sort.result ≡ sort.Frame → ⊥ = λ e. miss (1 ∷ 2 ∷ 3 ∷ 4 ∷ 5 ∷ 6 ∷ 7 ∷ 8 ∷ 9 ∷ 10 ∷ 11 ∷ 12 ∷ []) 0 tt (rw e at c.in_default.in_default-own.keys2) in record { value = other_sort c.args.ours c.args.elsewhere c.args.time w sorted other; room_after = rw (other_items c.args.ours c.args.elsewhere c.args.time w sorted other) }

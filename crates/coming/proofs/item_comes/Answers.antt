@@ -14,16 +14,16 @@ pub returns-then-bytes-i : goal.returns-then-bytes-i
 unfolding item_comes
 returns-then-bytes-i c =
     let a = c.args in
-    rw (lt-leb (a.i + (3 + a.size)) (length a.bytes.now) (omega (arith, c.if-bytes-i.true)))
+    rw (lt-leb (c.args.i + (3 + c.args.size)) (length c.args.bytes.now) (omega (arith, c.if-bytes-i.true)))
 
 pub returns-then-byte-tag : goal.returns-then-byte-tag
 unfolding item_comes
 returns-then-byte-tag c =
     let a = c.args in
-    rw (le-leb (a.i + (3 + a.size)) (length a.bytes.now) (omega (arith, c.if-bytes-i.false)), ne_eqb (get_or a.bytes.now a.i 0) a.tag (λ e. c.if-byte-tag.true (c.byte.ensures ∙ e)))
+    rw (le-leb (c.args.i + (3 + c.args.size)) (length c.args.bytes.now) (omega (arith, c.if-bytes-i.false)), ne_eqb (get_or c.args.bytes.now c.args.i 0) c.args.tag (λ e. c.if-byte-tag.true (c.byte.ensures ∙ e)))
 
 pub returns : goal.returns
 unfolding item_comes
 returns c =
     let a = c.args in
-    rw (le-leb (a.i + (3 + a.size)) (length a.bytes.now) (omega (arith, c.if-bytes-i.false)), eq-eqb (get_or a.bytes.now a.i 0) a.tag (sym c.byte.ensures ∙ c.if-byte-tag.false)) (ap (λ n. eqb n a.size) c.read16.ensures)
+    rw (le-leb (c.args.i + (3 + c.args.size)) (length c.args.bytes.now) (omega (arith, c.if-bytes-i.false)), eq-eqb (get_or c.args.bytes.now c.args.i 0) c.args.tag (sym c.byte.ensures ∙ c.if-byte-tag.false)) (ap (λ n. eqb n c.args.size) c.read16.ensures)

@@ -27,7 +27,7 @@ pub returns-then-size-eq0 : goal.returns-then-size-eq0
 returns-then-size-eq0 c =
     let a = c.args in
     let size = c.slot_size-size.ensures ∙ ap slot_size c.byte-tag.ensures in
-    rw (slot_tag a.bytes.now a.i, eq-eqb _ 0 (sym size ∙ c.if-size-eq0.true))
+    rw (slot_tag c.args.bytes.now c.args.i, eq-eqb _ 0 (sym size ∙ c.if-size-eq0.true))
 
 pub item_comes-requires : goal.item_comes-requires
 item_comes-requires c = (c.requires, rw c.slot_size-size.ensures (slot_small c.byte-tag.result))
@@ -37,5 +37,5 @@ returns c =
     let a = c.args in
     let tag = c.byte-tag.ensures in
     let size = c.slot_size-size.ensures ∙ ap slot_size tag in
-    rw (slot_tag a.bytes.now a.i, ne_eqb _ 0 (λ e. c.if-size-eq0.false (size ∙ e)), a_slot c.byte.ensures c.if-byte-ge-SLOTS.false, and-true)
-    (c.item_comes.ensures ∙ ap₂ (item_comes a.bytes.now a.i) tag size)
+    rw (slot_tag c.args.bytes.now c.args.i, ne_eqb _ 0 (λ e. c.if-size-eq0.false (size ∙ e)), a_slot c.byte.ensures c.if-byte-ge-SLOTS.false, and-true)
+    (c.item_comes.ensures ∙ ap₂ (item_comes c.args.bytes.now c.args.i) tag size)

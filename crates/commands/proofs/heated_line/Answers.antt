@@ -8,7 +8,7 @@ use Rattle.commands.proofs.heated_line.Goals as goal
 pub returns-then-wrong-ne0 : goal.returns-then-wrong-ne0
 returns-then-wrong-ne0 c =
     let a = c.args in
-    heated_wrong a.line.now a.noted c.value-sender.result c.value-loss.result c.value-shake.result c.value-heat.result c.value-own.result c.first_false-wrong.result
+    heated_wrong c.args.line.now c.args.noted c.value-sender.result c.value-loss.result c.value-shake.result c.value-heat.result c.value-own.result c.first_false-wrong.result
     c.value-sender.ensures c.value-loss.ensures c.value-shake.ensures c.value-heat.ensures c.value-own.ensures c.first_false-wrong.ensures c.heated_kind.ensures c.if-wrong-ne0.true
 
 pub overflow_cast-result : goal.overflow_cast-result
@@ -26,5 +26,5 @@ overflow_cast-result-4 c = omega (arith, value_most 4 65535 c.args.line.now c.va
 pub returns : goal.returns
 returns c =
     let a = c.args in
-    heated_right a.line.now a.noted c.value-sender.result c.value-loss.result c.value-shake.result c.value-heat.result c.value-own.result c.first_false-wrong.result
+    heated_right c.args.line.now c.args.noted c.value-sender.result c.value-loss.result c.value-shake.result c.value-heat.result c.value-own.result c.first_false-wrong.result
     c.value-sender.ensures c.value-loss.ensures c.value-shake.ensures c.value-heat.ensures c.value-own.ensures c.first_false-wrong.ensures c.has_note.result c.has_note.ensures c.if-wrong-ne0.false

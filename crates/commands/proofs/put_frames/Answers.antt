@@ -36,11 +36,11 @@ slice_bounds-put-end c = omega arith
 -- What a turn stores is its frame's item.
 pub overflow_add-at : goal.overflow_add-at
 overflow_add-at c =
-    let size_is : let a = c.args in c.put-size.result ≡ length (item_at a.time (12 * c.loop-i.i) a.frames.now) = let i = c.loop-i.i in
+    let size_is : let a = c.args in c.put-size.result ≡ length (item_at c.args.time (12 * c.loop-i.i) c.args.frames.now) = let i = c.loop-i.i in
     let eight : 12 * i + 12 - (12 * i + 4) ≡ 8 = omega arith in
     rw (eight, c.frame_item-item.ensures, c.read32.ensures) at c.put-size.ensures.value in
     let a = c.args in
-    omega (arith, size_is, item_most a.time (12 * c.loop-i.i) a.frames.now, c.loop-i.invariant.3, c.loop-i.invariant.0)
+    omega (arith, size_is, item_most c.args.time (12 * c.loop-i.i) c.args.frames.now, c.loop-i.invariant.3, c.loop-i.invariant.0)
 
 pub overflow_add-i : goal.overflow_add-i
 overflow_add-i c = omega arith
@@ -50,18 +50,18 @@ loop-i-smaller c = omega arith
 
 pub loop-i-preserved : goal.loop-i-preserved
 loop-i-preserved c =
-    let size_is : let a = c.args in c.put-size.result ≡ length (item_at a.time (12 * c.loop-i.i) a.frames.now) = let i = c.loop-i.i in
+    let size_is : let a = c.args in c.put-size.result ≡ length (item_at c.args.time (12 * c.loop-i.i) c.args.frames.now) = let i = c.loop-i.i in
     let eight : 12 * i + 12 - (12 * i + 4) ≡ 8 = omega arith in
     rw (eight, c.frame_item-item.ensures, c.read32.ensures) at c.put-size.ensures.value in
     let a = c.args in
-    let frames = a.frames.now in
+    let frames = c.args.frames.now in
     let i = c.loop-i.i in
     let eight : 12 * i + 12 - (12 * i + 4) ≡ 8 = omega arith in (
       omega arith,
       rw (c.put-size.ensures.room_after, length-sets) c.loop-i.invariant.1,
-      frames_longer a.time i frames c.loop-i.invariant.2 (size_is),
-      omega (arith, size_is, item_most a.time (12 * i) frames, c.loop-i.invariant.3),
-      frames_more a.time a.room.now i frames c.loop-i.invariant.2 c.loop-i.invariant.4 (rw (eight, c.frame_item-item.ensures, c.read32.ensures) at c.put-size.ensures.room_after),
+      frames_longer c.args.time i frames c.loop-i.invariant.2 (size_is),
+      omega (arith, size_is, item_most c.args.time (12 * i) frames, c.loop-i.invariant.3),
+      frames_more c.args.time c.args.room.now i frames c.loop-i.invariant.2 c.loop-i.invariant.4 (rw (eight, c.frame_item-item.ensures, c.read32.ensures) at c.put-size.ensures.room_after),
     )
 
 pub shape_of-room : goal.shape_of-room
@@ -69,5 +69,5 @@ shape_of-room c = c.loop-i.invariant.1
 
 pub returns : goal.returns
 returns c =
-    let a = c.args in
-    let all : c.loop-i.i ≡ a.count = omega arith in record { value = c.loop-i.invariant.2 ∙ rw all; room_after = c.loop-i.invariant.4 ∙ rw all }
+    let a = c.args in 
+    let all : c.loop-i.i ≡ c.args.count = omega arith in record { value = c.loop-i.invariant.2 ∙ rw all; room_after = c.loop-i.invariant.4 ∙ rw all }

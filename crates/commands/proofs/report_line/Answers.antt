@@ -8,7 +8,7 @@ use Rattle.commands.proofs.report_line.Goals as goal
 pub returns-then-wrong-ne0 : goal.returns-then-wrong-ne0
 returns-then-wrong-ne0 c =
     let a = c.args in
-    report_wrong a.line.now a.noted c.value-sender.result c.value-loss.result c.value-shake.result c.value-own.result c.first_false-wrong.result
+    report_wrong c.args.line.now c.args.noted c.value-sender.result c.value-loss.result c.value-shake.result c.value-own.result c.first_false-wrong.result
     c.value-sender.ensures c.value-loss.ensures c.value-shake.ensures c.value-own.ensures c.first_false-wrong.ensures c.report_kind.ensures c.if-wrong-ne0.true
 
 pub overflow_cast-result : goal.overflow_cast-result
@@ -23,5 +23,5 @@ overflow_cast-result-3 c = omega (arith, value_most 3 65535 c.args.line.now c.va
 pub returns : goal.returns
 returns c =
     let a = c.args in
-    report_right a.line.now a.noted c.value-sender.result c.value-loss.result c.value-shake.result c.value-own.result c.first_false-wrong.result
+    report_right c.args.line.now c.args.noted c.value-sender.result c.value-loss.result c.value-shake.result c.value-own.result c.first_false-wrong.result
     c.value-sender.ensures c.value-loss.ensures c.value-shake.ensures c.value-own.ensures c.first_false-wrong.ensures c.has_note.result c.has_note.ensures c.if-wrong-ne0.false

@@ -42,8 +42,8 @@ loop-i-preserved c =
     let k = c.args.k in
     let p = c.put_pair in
     let l = c.loop-i in
-    let left = p.ensures ∙ ap (λ (w : List ℕ). sets l.room (at + 2 * l.i) (pair_of w)) c.word.ensures in
-    (omega arith, rw (p.ensures, length-sets) l.invariant.1, pairs_turn f l.room at l.i k (omega arith) left ∙ l.invariant.2)
+    let left = c.put_pair.ensures ∙ ap (λ (w : List ℕ). sets c.loop-i.room (at + 2 * c.loop-i.i) (pair_of w)) c.word.ensures in
+    (omega arith, rw (c.put_pair.ensures, length-sets) c.loop-i.invariant.1, pairs_turn f c.loop-i.room at c.loop-i.i k (omega arith) left ∙ c.loop-i.invariant.2)
 
 pub shape_of-room : goal.shape_of-room
 shape_of-room c = c.loop-i.invariant.1
@@ -51,4 +51,4 @@ shape_of-room c = c.loop-i.invariant.1
 pub returns : goal.returns
 returns c =
     let l = c.loop-i in
-    rw (pairs_end c.args.f.now (2 + l.i) (c.args.k - l.i) (omega arith)) at l.invariant.2
+    rw (pairs_end c.args.f.now (2 + c.loop-i.i) (c.args.k - c.loop-i.i) (omega arith)) at c.loop-i.invariant.2

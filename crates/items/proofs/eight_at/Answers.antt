@@ -11,12 +11,12 @@ use Rattle.items.proofs.eight_at.Goals as goal
 pub returns-then-value-at : goal.returns-then-value-at
 returns-then-value-at c =
     let a = c.args in
-    let s = a.value.now in
+    let s = c.args.value.now in
     let none : length s - length s ≡ 0 = omega arith in
-    ap (λ (n : ℕ). take n (drop (length s) s)) none ∙ sym (ap (take 8) (drop_of_length-le s {i = a.at} (omega arith)))
+    ap (λ (n : ℕ). take n (drop (length s) s)) none ∙ sym (ap (take 8) (drop_of_length-le s {i = c.args.at} (omega arith)))
 
 pub returns : goal.returns
 returns c =
     let a = c.args in
-    let s = a.value.now in
-    c.front.ensures ∙ ap (take 8) (take_all (length s - a.at) (drop a.at s) (omega (arith, length-drop a.at s)))
+    let s = c.args.value.now in
+    c.front.ensures ∙ ap (take 8) (take_all (length s - c.args.at) (drop c.args.at s) (omega (arith, length-drop c.args.at s)))

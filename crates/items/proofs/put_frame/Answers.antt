@@ -11,9 +11,9 @@ use Rattle.items.proofs.put_frame.Goals as goal
 pub returns-then-at-room : goal.returns-then-at-room
 returns-then-at-room c =
     let a = c.args in
-    frame-stored a.room.now a.at a.tag a.first.now a.id a.data.now c.put.ensures c.put16.ensures c.put_all.ensures c.put32.ensures c.put_all-then-at-room.ensures
+    frame-stored c.args.room.now c.args.at c.args.tag c.args.first.now c.args.id c.args.data.now c.put.ensures c.put16.ensures c.put_all.ensures c.put32.ensures c.put_all-then-at-room.ensures
 
 pub returns-else-at-room : goal.returns-else-at-room
 returns-else-at-room c =
     let a = c.args in
-    sym (sets_past a.room.now a.at (field a.tag (a.first.now ++ (bytes 4 a.id ++ a.data.now))) c.if-at-room.false)
+    sym (sets_past c.args.room.now c.args.at (field c.args.tag (c.args.first.now ++ (bytes 4 c.args.id ++ c.args.data.now))) c.if-at-room.false)

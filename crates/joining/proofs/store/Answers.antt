@@ -20,18 +20,18 @@ none_left size at d h = let e : size - at ≡ 0 = omega arith in rw e
 pub returns-then-data-eq0 : goal.returns-then-data-eq0
 returns-then-data-eq0 c =
     let a = c.args in
-    sym (ap (sets a.bytes.now (7 * a.sent)) (no_packet (a.size - 7 * a.sent) a.«data».now c.if-data-eq0.true))
+    sym (ap (sets c.args.bytes.now (7 * c.args.sent)) (no_packet (c.args.size - 7 * c.args.sent) a.«data».now c.if-data-eq0.true))
 
 pub returns-then-end-at : goal.returns-then-end-at
 returns-then-end-at c =
     let a = c.args in
-    sym (ap (sets a.bytes.now (7 * a.sent)) (none_left a.size (7 * a.sent) (drop 1 a.«data».now) c.if-end-at.true))
+    sym (ap (sets c.args.bytes.now (7 * c.args.sent)) (none_left c.args.size (7 * c.args.sent) (drop 1 a.«data».now) c.if-end-at.true))
 
 pub returns : goal.returns
 returns c =
     let a = c.args in
     let d = a.«data».now in
     c.put_all.ensures
-    ∙ ap (sets a.bytes.now (7 * a.sent))
+    ∙ ap (sets c.args.bytes.now (7 * c.args.sent))
     (c.front.ensures
-    ∙ ap (take (a.size - 7 * a.sent)) (take_all (length d - 1) (drop 1 d) (rw length-drop (omega arith))))
+    ∙ ap (take (c.args.size - 7 * c.args.sent)) (take_all (length d - 1) (drop 1 d) (rw length-drop (omega arith))))

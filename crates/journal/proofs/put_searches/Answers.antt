@@ -16,7 +16,7 @@ use Rattle.journal.proofs.put_searches.Goals as goal
 pub loop-i-init : goal.loop-i-init
 loop-i-init c =
     let a = c.args in
-    (omega arith, refl, said (sym (lines_none a.item a.t4 a.t5)) (none a.out.now a.at (search rules)))
+    (omega arith, refl, said (sym (lines_none c.args.item c.args.searched c.args.steps)) (none c.args.out.now c.args.at (search rules)))
 
 pub overflow_cast-i : goal.overflow_cast-i
 overflow_cast-i c = omega arith
@@ -40,21 +40,20 @@ pub loop-i-preserved : goal.loop-i-preserved
 loop-i-preserved c =
     let a = c.args in
     let l = c.loop-i in
-    let h : length a.out.now < 2 ^ 64 = search rules in
-    let bs : length a.t4 ≡ 32 = search rules in
-    let ns : length a.t5 ≡ 32 = search rules in
-    (omega arith, search rules, said (lines_more a.item a.t4 a.t5 false 0 l.i (omega arith) (omega arith)) (then h l.invariant.2 (put c.put_search-next.ensures)))
+    let h : length c.args.out.now < 2 ^ 64 = search rules in
+    let bs : length c.args.searched ≡ 32 = search rules in
+    let ns : length c.args.steps ≡ 32 = search rules in
+    (omega arith, search rules, said (lines_more c.args.item c.args.searched c.args.steps false 0 c.loop-i.i (omega arith) (omega arith)) (then h c.loop-i.invariant.2 (put (c.put_search-next.ensures.value, c.put_search-next.ensures.out_after))))
 
 pub shape_of-out : goal.shape_of-out
 shape_of-out c = c.loop-i.invariant.1
 
 pub returns : goal.returns
 returns c =
-    let a = c.args in
-    let l = c.loop-i in
-    let all : l.i ≡ 32 = omega arith in
-    let bs : length a.t4 ≡ 32 = search rules in
-    let ns : length a.t5 ≡ 32 = search rules in
-    let whole : s_lines a.item 0 (take l.i a.t4) (take l.i a.t5) ≡ s_lines a.item 0 a.t4 a.t5 =
-    ap₂ (λ (x : List Bool) (y : List ℕ). s_lines a.item 0 x y) (take_all l.i a.t4 (omega arith)) (take_all l.i a.t5 (omega arith)) in
-    both {l = a.out.now} (said whole l.invariant.2)
+    let a = c.args in 
+    let l = c.loop-i in 
+    let all : c.loop-i.i ≡ 32 = omega arith in 
+    let bs : length c.args.searched ≡ 32 = search rules in 
+    let ns : length c.args.steps ≡ 32 = search rules in 
+    let whole : s_lines c.args.item 0 (take c.loop-i.i c.args.searched) (take c.loop-i.i c.args.steps) ≡ s_lines c.args.item 0 c.args.searched c.args.steps =
+    ap₂ (λ (x : List Bool) (y : List ℕ). s_lines c.args.item 0 x y) (take_all c.loop-i.i c.args.searched (omega arith)) (take_all c.loop-i.i c.args.steps (omega arith)) in record { value = (both {l = c.args.out.now} (said whole c.loop-i.invariant.2)).0; out_after = (both {l = c.args.out.now} (said whole c.loop-i.invariant.2)).1 }

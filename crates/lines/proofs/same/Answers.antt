@@ -23,7 +23,7 @@ bounds-t-i c = omega arith
 pub returns-then-s-i : goal.returns-then-s-i
 returns-then-s-i c =
     let a = c.args in
-    sym (same_stop a.s.now a.t.now c.loop-i.i (omega arith) (omega arith) c.if-s-i.true) ∙ c.loop-i.invariant.2
+    sym (same_stop c.args.s.now c.args.t.now c.loop-i.i (omega arith) (omega arith) c.if-s-i.true) ∙ c.loop-i.invariant.2
 
 pub overflow_add-i : goal.overflow_add-i
 overflow_add-i c = omega arith
@@ -34,9 +34,9 @@ loop-i-smaller c = omega arith
 pub loop-i-preserved : goal.loop-i-preserved
 loop-i-preserved c =
     let a = c.args in
-    (omega arith, c.loop-i.invariant.1, sym (same_more a.s.now a.t.now c.loop-i.i (omega arith) (omega arith) c.if-s-i.false) ∙ c.loop-i.invariant.2)
+    (omega arith, c.loop-i.invariant.1, sym (same_more c.args.s.now c.args.t.now c.loop-i.i (omega arith) (omega arith) c.if-s-i.false) ∙ c.loop-i.invariant.2)
 
 pub returns : goal.returns
 returns c =
     let a = c.args in
-    sym (same_end a.s.now a.t.now c.loop-i.i (omega arith) (omega arith)) ∙ c.loop-i.invariant.2
+    sym (same_end c.args.s.now c.args.t.now c.loop-i.i (omega arith) (omega arith)) ∙ c.loop-i.invariant.2

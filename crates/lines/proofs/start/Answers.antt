@@ -46,5 +46,5 @@ loop-i-preserved c =
 pub returns : goal.returns
 returns c =
     let a = c.args in
-    let all : c.loop-i.i ≡ a.n = omega arith in
+    let all : c.loop-i.i ≡ c.args.n = omega arith in
     (c.loop-i.invariant.0, c.loop-i.invariant.2 ∙ rw all)

@@ -13,12 +13,12 @@ use Rattle.list.proofs.bar_in.Goals as goal
 pub returns-then-len-eq0 : goal.returns-then-len-eq0
 returns-then-len-eq0 c =
     let a = c.args in
-    sym (bar_at_none a.names.now a.scores.now a.len a.full c.if-len-eq0.true)
+    sym (bar_at_none c.args.names.now c.args.scores.now c.args.len c.args.full c.if-len-eq0.true)
 
 pub returns : goal.returns
 returns c =
     let a = c.args in
-    let ns = a.names.now in
-    let ss = a.scores.now in
-    ap (λ s. record { full = a.full; name = get_or ns (a.len - 1) 0; score = s }) (kept w32 (get_or ss (a.len - 1) (pos 0)) c.result-2-1.given)
-    ∙ sym (bar_at_some ns ss a.len a.full c.if-len-eq0.false)
+    let ns = c.args.names.now in
+    let ss = c.args.scores.now in
+    ap (λ s. record { full = c.args.full; name = get_or ns (c.args.len - 1) 0; score = s }) (kept w32 (get_or ss (c.args.len - 1) (pos 0)) c.result-2-1.given)
+    ∙ sym (bar_at_some ns ss c.args.len c.args.full c.if-len-eq0.false)

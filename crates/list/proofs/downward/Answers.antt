@@ -18,6 +18,7 @@ use Rattle.list.specs.Lines.{columns_of}
 use Rattle.list.specs.Rows.{rows_of}
 use Rattle.list.proofs.Sliding.{placing_few}
 use Rattle.list.proofs.Gathering.{with_row, with_rows, Pass, gathered_down, gathered_few, pass_few, pass_room, pass_out, pass_skips, pass_puts}
+use mathlib.Core.Bool.{not}
 use Rattle.list.proofs.downward.Goals as goal
 
 -- and of a row that has a score
@@ -33,7 +34,7 @@ loop-row-init c =
       record {
         lines = c.requires.3 ∙ ap (λ n. columns_of (top c.args.rule c.args.most (reports c.args.high n))) none;
         bar_is = c.bar_in-bar.ensures;
-        least-is = kept w32 c.least-least.result c.least-least.type-inv ∙ c.least-least.ensures;
+        least-is = kept w32 c.least-least.result c.least-least.type_inv ∙ c.least-least.ensures;
       },
     )
 
@@ -57,7 +58,7 @@ loop-row-preserved-then-not-admits c =
       omega (arith, c.loop-row.invariant.1),
       subst (λ hs. ((Pass c.args.rule c.args.most)) hs ns ss len bar least) (ap (λ r. with_row ((rows_of c.args.losses.now c.args.shakes.now c.args.names.now)) ((c.loop-row.row - 1)) (reports r (c.args.high - c.loop-row.row))) one ∙ ap (reports ((c.loop-row.row - 1))) more) p,
     ) in
-    on (pass_skips c.requires.0 c.loop-row.invariant.2 ((rows_of c.args.losses.now c.args.shakes.now c.args.names.now)) ((c.loop-row.row - 1)) c.score_from-scored.ensures.0 c.in-Scored.is c.known_told-1.given.0.1 (sym c.admits.ensures ∙ not-true _ c.if-not-admits.true))
+    on (pass_skips c.requires.0 c.loop-row.invariant.2 ((rows_of c.args.losses.now c.args.shakes.now c.args.names.now)) ((c.loop-row.row - 1)) c.score_from-scored.ensures.0 c.in-Scored.is c.in-Scored.known_told-1-own.given.0.1 (sym c.admits.ensures ∙ not-true _ (ap not c.if-not-admits.true)))
 
 pub put_in-len-requires : goal.put_in-len-requires
 put_in-len-requires c = (pass_few c.requires.0 c.loop-row.invariant.2, c.requires.0, pass_room c.requires.0 c.loop-row.invariant.2)
@@ -75,16 +76,16 @@ loop-row-preserved c =
       subst (λ hs. ((Pass c.args.rule c.args.most)) hs ns ss len bar least) (ap (λ r. with_row ((rows_of c.args.losses.now c.args.shakes.now c.args.names.now)) ((c.loop-row.row - 1)) (reports r (c.args.high - c.loop-row.row))) one ∙ ap (reports ((c.loop-row.row - 1))) more) p,
     ) in
     on
-    (pass_puts c.requires.0 c.loop-row.invariant.2 ((rows_of c.args.losses.now c.args.shakes.now c.args.names.now)) ((c.loop-row.row - 1)) c.score_from-scored.ensures.0 c.in-Scored.is c.known_told-1.given.0.1 (sym c.admits.ensures ∙ not-false _ c.if-not-admits.false)
+    (pass_puts c.requires.0 c.loop-row.invariant.2 ((rows_of c.args.losses.now c.args.shakes.now c.args.names.now)) ((c.loop-row.row - 1)) c.score_from-scored.ensures.0 c.in-Scored.is c.in-Scored.known_told-1-own.given.0.1 (sym c.admits.ensures ∙ not-false _ (ap not c.if-not-admits.false))
     c.put_in-len.ensures.0
     c.put_in-len.ensures.1
     c.bar_in-bar-in-loop-row.ensures
-    (kept w32 c.least-least-in-loop-row.result c.least-least-in-loop-row.type-inv ∙ c.least-least-in-loop-row.ensures))
+    (kept w32 c.least-least-in-loop-row.result c.least-least-in-loop-row.type_inv ∙ c.least-least-in-loop-row.ensures))
 
 pub returns : goal.returns
 returns c =
     let reports : ℕ → ℕ → List Held = λ r n. with_rows ((rows_of c.args.losses.now c.args.shakes.now c.args.names.now)) r n (standing ((rows_of c.args.losses.now c.args.shakes.now c.args.names.now)) c.args.low) in
     let l = c.loop-row in
     let a = c.args in
-    let end : l.row ≡ a.low = omega (arith, c.loop-row-test.false, l.invariant.0) in
-    l.invariant.2.lines ∙ ap columns_of (ap (λ r. top a.rule a.most (reports r (a.high - r))) end ∙ gathered_down a.rule a.most ((rows_of c.args.losses.now c.args.shakes.now c.args.names.now)) a.low a.high c.requires.1)
+    let end : c.loop-row.row ≡ c.args.low = omega (arith, c.loop-row-test.false, c.loop-row.invariant.0) in
+    c.loop-row.invariant.2.lines ∙ ap columns_of (ap (λ r. top c.args.rule c.args.most (reports r (c.args.high - r))) end ∙ gathered_down c.args.rule c.args.most ((rows_of c.args.losses.now c.args.shakes.now c.args.names.now)) c.args.low c.args.high c.requires.1)

@@ -22,7 +22,7 @@ same_lines p q r = λ i. record { names = p i; scores = q i; len = r i }
 pub upward-up-requires : goal.upward-up-requires
 upward-up-requires c =
     let most = c.smaller-most in
-    (omega (arith, most.ensures), omega (arith, c.smaller-end.ensures), gathered_none c.args.rule most.result)
+    (omega (arith, c.smaller-most.ensures), omega (arith, c.smaller-end.ensures), gathered_none c.args.rule c.smaller-most.result)
 
 pub overflow_cast-count : goal.overflow_cast-count
 overflow_cast-count c =

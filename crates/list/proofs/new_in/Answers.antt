@@ -21,25 +21,25 @@ none = record { name = 0; score = pos 0 }
 pub returns-then-at-len : goal.returns-then-at-len
 returns-then-at-len c =
     let a = c.args in
-    let ns = a.names.now in
-    let ss = a.scores.now in
+    let ns = c.args.names.now in
+    let ss = c.args.scores.now in
     let room = c.requires.1 in
     let few = c.requires.0 in
-    let x : Entry = record { name = a.name; score = a.score } in
-    let l = take a.len (lines_of ns ss) in
-    let line = line_at ns ss a.at in
+    let x : Entry = record { name = c.args.name; score = c.args.score } in
+    let l = take c.args.len (lines_of ns ss) in
+    let line = line_at ns ss c.args.at in
     c.above.ensures
-    ∙ ap₂ (λ s t. above a.rule (record { name = a.name; score = s }) (record { name = line.name; score = t })) (to_z-of_z c.ranges.score) (kept w32 line.score c.above-arg-then-at-len-1.given)
+    ∙ ap₂ (λ s t. above c.args.rule (record { name = c.args.name; score = s }) (record { name = line.name; score = t })) (to_z-of_z c.ranges.score) (kept w32 line.score c.above-arg-then-at-len-1.given)
     ∙ sym
-    (new_there (above a.rule) (above_strict a.rule) x l none (omega (arith, length_front ns ss room a.len few, c.if-at-len.true, c.requires.2))
-    ∙ ap (above a.rule x) (ap (λ i. get_or l i none) (sym c.requires.2) ∙ line_at_lem ns ss room a.len few a.at c.if-at-len.true))
+    (new_there (above c.args.rule) (above_strict c.args.rule) x l none (omega (arith, length_front ns ss room c.args.len few, c.if-at-len.true, c.requires.2))
+    ∙ ap (above c.args.rule x) (ap (λ i. get_or l i none) (sym c.requires.2) ∙ line_at_lem ns ss room c.args.len few c.args.at c.if-at-len.true))
 
 pub returns : goal.returns
 returns c =
     let a = c.args in
-    let ns = a.names.now in
-    let ss = a.scores.now in
+    let ns = c.args.names.now in
+    let ss = c.args.scores.now in
     let room = c.requires.1 in
     sym
-    (new_last (above a.rule) (above_strict a.rule) (record { name = a.name; score = a.score }) (take a.len (lines_of ns ss))
-    (omega (arith, length_front ns ss room a.len c.requires.0, c.if-at-len.false, c.requires.2)))
+    (new_last (above c.args.rule) (above_strict c.args.rule) (record { name = c.args.name; score = c.args.score }) (take c.args.len (lines_of ns ss))
+    (omega (arith, length_front ns ss room c.args.len c.requires.0, c.if-at-len.false, c.requires.2)))

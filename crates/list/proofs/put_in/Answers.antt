@@ -13,6 +13,7 @@ use Rattle.list.specs.Lines.{lines_of}
 use Rattle.list.specs.Inner.{rank_in, new_in, slid, Placing}
 use Rattle.list.proofs.Stored.{length-all}
 use Rattle.list.proofs.Sliding.{placing_over, placing_old, placing_new, at_last, last_low, slid-roomy, slid-lines}
+use mathlib.Core.Bool.{not}
 use Rattle.list.proofs.put_in.Goals as goal
 
 pub returns-then-most-at : goal.returns-then-most-at
@@ -29,7 +30,7 @@ returns-then-not-new_in c =
     let is_new : c.new_in.result ≡ new_in (above c.args.rule) ((record { name = c.args.name; score = c.args.score })) (take c.args.len ((lines_of c.args.names.now c.args.scores.now))) = c.new_in.ensures
     ∙ ap (λ s. new_in (above c.args.rule) (record { name = c.args.name; score = s }) (take c.args.len ((lines_of c.args.names.now c.args.scores.now)))) (to_z-of_z c.ranges.score) in
     let a = c.args in
-    (placing_old (above a.rule) (above_strict a.rule) ((record { name = c.args.name; score = c.args.score })) a.len a.most ((lines_of c.args.names.now c.args.scores.now)) (long) c.requires.0 (sym (is_new) ∙ not-true _ c.if-not-new_in.true) c.smaller.result c.smaller.ensures, c.requires.2)
+    (placing_old (above a.rule) (above_strict a.rule) ((record { name = c.args.name; score = c.args.score })) a.len a.most ((lines_of c.args.names.now c.args.scores.now)) (long) c.requires.0 (sym (is_new) ∙ not-true _ (ap not c.if-not-new_in.true)) c.smaller.result c.smaller.ensures, c.requires.2)
 
 pub slide-requires : goal.slide-requires
 slide-requires c =
@@ -59,6 +60,6 @@ returns c =
     let right = c.slide.ensures.1 ∙ ap (λ s. slid at last s a.scores.now) (to_z-of_z c.ranges.score) in (
       subst (λ l. Placing (above a.rule) ((record { name = c.args.name; score = c.args.score })) a.len a.most ((lines_of c.args.names.now c.args.scores.now)) l (last + 1)) (sym (slid-lines c.requires.2 at last a.name a.score order low c.slide.ensures.0 right))
           (placing_new (above a.rule) (above_strict a.rule) ((record { name = c.args.name; score = c.args.score })) a.len a.most ((lines_of c.args.names.now c.args.scores.now)) (long) c.requires.0 c.requires.1 at (found) under last c.smaller-last.ensures
-          (sym (is_new) ∙ not-false _ c.if-not-new_in.false)),
+          (sym (is_new) ∙ not-false _ (ap not c.if-not-new_in.false))),
       slid-roomy c.requires.2 at last a.name a.score order low c.slide.ensures.0 right,
     )

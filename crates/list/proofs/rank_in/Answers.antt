@@ -17,6 +17,7 @@ use Rattle.list.specs.Lines.{lines_of}
 use Rattle.list.specs.Inner.{rank_in}
 use Rattle.list.proofs.Stored.{Roomy, line_at, drop_line, none_left}
 use Rattle.list.proofs.Placed.{Ranked, ranked_none, ranked_on, ranked_here, ranked_end}
+use mathlib.Core.Bool.{not}
 use Rattle.list.proofs.rank_in.Goals as goal
 
 pub loop-i-init : goal.loop-i-init
@@ -31,43 +32,43 @@ loop-i-init c =
 pub returns-then-not-above : goal.returns-then-not-above
 returns-then-not-above c =
     let a = c.args in
-    let ns = a.names.now in
-    let ss = a.scores.now in
+    let ns = c.args.names.now in
+    let ss = c.args.scores.now in
     let i = c.loop-i.i in
     let inv = c.loop-i.invariant in
-    let x : Entry = record { name = a.name; score = to_z w32 (of_z w32 a.score) } in
-    ranked_here (above a.rule) (above_strict a.rule) x (line_at ns ss i) (take a.len (lines_of ns ss)) _ i inv.3
-    (drop_line ns ss inv.2 a.len inv.1 i (search rules))
-    (ap (λ s. above a.rule (record { name = get_or ns i 0; score = s }) x) (sym (kept w32 (get_or ss i (pos 0)) c.above-arg-in-loop-i-1.given))
+    let x : Entry = record { name = c.args.name; score = to_z w32 (of_z w32 c.args.score) } in
+    ranked_here (above c.args.rule) (above_strict c.args.rule) x (line_at ns ss i) (take c.args.len (lines_of ns ss)) _ i c.loop-i.invariant.3
+    (drop_line ns ss c.loop-i.invariant.2 c.args.len c.loop-i.invariant.1 i (search rules))
+    (ap (λ s. above c.args.rule (record { name = get_or ns i 0; score = s }) x) (sym (kept w32 (get_or ss i (pos 0)) c.above-arg-in-loop-i-1.given))
     ∙ sym c.above.ensures
-    ∙ not-true _ c.if-not-above.true)
-    ∙ ap (λ s. rank_in (above a.rule) (record { name = a.name; score = s }) (take a.len (lines_of ns ss))) (to_z-of_z c.ranges.score)
+    ∙ not-true _ (ap not c.if-not-above.true))
+    ∙ ap (λ s. rank_in (above c.args.rule) (record { name = c.args.name; score = s }) (take c.args.len (lines_of ns ss))) (to_z-of_z c.ranges.score)
 
 pub loop-i-preserved : goal.loop-i-preserved
 loop-i-preserved c =
     let a = c.args in
-    let ns = a.names.now in
-    let ss = a.scores.now in
+    let ns = c.args.names.now in
+    let ss = c.args.scores.now in
     let i = c.loop-i.i in
     let inv = c.loop-i.invariant in
-    let x : Entry = record { name = a.name; score = to_z w32 (of_z w32 a.score) } in (
+    let x : Entry = record { name = c.args.name; score = to_z w32 (of_z w32 c.args.score) } in (
       search rules,
-      inv.1,
-      inv.2,
-      ranked_on (above a.rule) (above_strict a.rule) x (line_at ns ss i) (take a.len (lines_of ns ss)) i inv.3
-          (drop_line ns ss inv.2 a.len inv.1 i (search rules))
-          (ap (λ s. above a.rule (record { name = get_or ns i 0; score = s }) x) (sym (kept w32 (get_or ss i (pos 0)) c.above-arg-in-loop-i-1.given))
+      c.loop-i.invariant.1,
+      c.loop-i.invariant.2,
+      ranked_on (above c.args.rule) (above_strict c.args.rule) x (line_at ns ss i) (take c.args.len (lines_of ns ss)) i c.loop-i.invariant.3
+          (drop_line ns ss c.loop-i.invariant.2 c.args.len c.loop-i.invariant.1 i (search rules))
+          (ap (λ s. above c.args.rule (record { name = get_or ns i 0; score = s }) x) (sym (kept w32 (get_or ss i (pos 0)) c.above-arg-in-loop-i-1.given))
           ∙ sym c.above.ensures
-          ∙ not-false _ c.if-not-above.false),
+          ∙ not-false _ (ap not c.if-not-above.false)),
     )
 
 pub returns : goal.returns
 returns c =
     let a = c.args in
-    let ns = a.names.now in
-    let ss = a.scores.now in
+    let ns = c.args.names.now in
+    let ss = c.args.scores.now in
     let inv = c.loop-i.invariant in
-    let all : c.loop-i.i ≡ a.len = omega (arith, inv.0) in
+    let all : c.loop-i.i ≡ c.args.len = omega (arith, c.loop-i.invariant.0) in
     sym all
-    ∙ ranked_end (above a.rule) (above_strict a.rule) _ (take a.len (lines_of ns ss)) c.loop-i.i inv.3 (none_left ns ss inv.2 a.len inv.1 c.loop-i.i all)
-    ∙ ap (λ s. rank_in (above a.rule) (record { name = a.name; score = s }) (take a.len (lines_of ns ss))) (to_z-of_z c.ranges.score)
+    ∙ ranked_end (above c.args.rule) (above_strict c.args.rule) _ (take c.args.len (lines_of ns ss)) c.loop-i.i c.loop-i.invariant.3 (none_left ns ss c.loop-i.invariant.2 c.args.len c.loop-i.invariant.1 c.loop-i.i all)
+    ∙ ap (λ s. rank_in (above c.args.rule) (record { name = c.args.name; score = s }) (take c.args.len (lines_of ns ss))) (to_z-of_z c.ranges.score)

@@ -21,8 +21,8 @@ loop-i-init c =
       omega arith,
       c.requires.1,
       room,
-      sym (opened-none a.last a.names.now (omega (arith, room.names, c.requires.1))),
-      sym (opened-none a.last a.scores.now (omega (arith, room.scores, c.requires.1))),
+      sym (opened-none c.args.last c.args.names.now (omega (arith, c.requires.2.names, c.requires.1))),
+      sym (opened-none c.args.last c.args.scores.now (omega (arith, c.requires.2.scores, c.requires.1))),
     )
 
 pub loop-i-preserved : goal.loop-i-preserved
@@ -33,22 +33,22 @@ loop-i-preserved c =
     let one : i ≡ suc (i - 1) = omega (arith, c.loop-i-test.true) in (
       search rules,
       search rules,
-      inv.2,
-      inv.3,
-      opened_more 0 i (i - 1) a.last a.names.now c.loop-i.names one inv.1 (omega (arith, inv.3.names, inv.2)) inv.4,
+      c.loop-i.invariant.2,
+      c.loop-i.invariant.3,
+      opened_more 0 i (i - 1) c.args.last c.args.names.now c.loop-i.names one c.loop-i.invariant.1 (omega (arith, c.loop-i.invariant.3.names, c.loop-i.invariant.2)) c.loop-i.invariant.4,
       ap (set c.loop-i.scores i) (kept w32 (get_or c.loop-i.scores (i - 1) (pos 0)) c.scores-1.given)
-          ∙ opened_more (pos 0) i (i - 1) a.last a.scores.now c.loop-i.scores one inv.1 (omega (arith, inv.3.scores, inv.2)) inv.5,
+          ∙ opened_more (pos 0) i (i - 1) c.args.last c.args.scores.now c.loop-i.scores one c.loop-i.invariant.1 (omega (arith, c.loop-i.invariant.3.scores, c.loop-i.invariant.2)) c.loop-i.invariant.5,
     )
 
 pub returns : goal.returns
 returns c =
     let a = c.args in
     let inv = c.loop-i.invariant in
-    let all : c.loop-i.i ≡ a.at = omega (arith, inv.0, c.loop-i-test.false) in
-    let in_order_lem : a.at ≤ a.last = c.requires.0 in (
-      ap (λ l. set l a.at a.name) (inv.4 ∙ ap (λ i. opened i a.last a.names.now) all)
-          ∙ closed a.name a.at a.last a.names.now in_order_lem (omega (arith, inv.3.names, inv.2)),
-      ap (set c.loop-i.scores a.at) (to_z-of_z c.ranges.score)
-          ∙ ap (λ l. set l a.at a.score) (inv.5 ∙ ap (λ i. opened i a.last a.scores.now) all)
-          ∙ closed a.score a.at a.last a.scores.now in_order_lem (omega (arith, inv.3.scores, inv.2)),
+    let all : c.loop-i.i ≡ c.args.at = omega (arith, c.loop-i.invariant.0, c.loop-i-test.false) in
+    let in_order_lem : c.args.at ≤ c.args.last = c.requires.0 in (
+      ap (λ l. set l c.args.at c.args.name) (c.loop-i.invariant.4 ∙ ap (λ i. opened i c.args.last c.args.names.now) all)
+          ∙ closed c.args.name c.args.at c.args.last c.args.names.now in_order_lem (omega (arith, c.loop-i.invariant.3.names, c.loop-i.invariant.2)),
+      ap (set c.loop-i.scores c.args.at) (to_z-of_z c.ranges.score)
+          ∙ ap (λ l. set l c.args.at c.args.score) (c.loop-i.invariant.5 ∙ ap (λ i. opened i c.args.last c.args.scores.now) all)
+          ∙ closed c.args.score c.args.at c.args.last c.args.scores.now in_order_lem (omega (arith, c.loop-i.invariant.3.scores, c.loop-i.invariant.2)),
     )

@@ -18,6 +18,7 @@ use Rattle.list.specs.Lines.{columns_of}
 use Rattle.list.specs.Rows.{rows_of}
 use Rattle.list.proofs.Sliding.{placing_few}
 use Rattle.list.proofs.Gathering.{Pass, pass_few, pass_room, pass_out, pass_skips, pass_puts}
+use mathlib.Core.Bool.{not}
 use Rattle.list.proofs.upward.Goals as goal
 
 pub loop-row-init : goal.loop-row-init
@@ -28,7 +29,7 @@ loop-row-init c =
       record {
         lines = c.requires.2 ∙ ap (stored) none;
         bar_is = c.bar_in-bar.ensures;
-        least-is = kept w32 c.least-least.result c.least-least.type-inv ∙ c.least-least.ensures;
+        least-is = kept w32 c.least-least.result c.least-least.type_inv ∙ c.least-least.ensures;
       },
     )
 
@@ -48,7 +49,7 @@ loop-row-preserved-then-not-admits c =
     (c.loop-row.invariant.0, subst (λ n. (Taken) n ns ss len bar least) e p) in
     let now_taken : (Taken) (c.loop-row.row) c.loop-row.found c.loop-row.by c.loop-row.len c.loop-row.bar c.loop-row.least = let e : min (c.loop-row.row) c.loop-row.stop ≡ (c.loop-row.row) = omega (arith, c.loop-row-test.true) in
     subst (λ n. (Taken) n c.loop-row.found c.loop-row.by c.loop-row.len c.loop-row.bar c.loop-row.least) e c.loop-row.invariant.1 in
-    on (pass_skips c.requires.0 (now_taken) ((rows_of c.args.losses.now c.args.shakes.now c.args.names.now)) (c.loop-row.row) c.score_from-scored.ensures.0 c.in-Scored.is c.known_told-1.given.0.1 (sym c.admits.ensures ∙ not-true _ c.if-not-admits.true))
+    on (pass_skips c.requires.0 (now_taken) ((rows_of c.args.losses.now c.args.shakes.now c.args.names.now)) (c.loop-row.row) c.score_from-scored.ensures.0 c.in-Scored.is c.in-Scored.known_told-1-own.given.0.1 (sym c.admits.ensures ∙ not-true _ (ap not c.if-not-admits.true)))
 
 pub loop-row-preserved-then-turns : goal.loop-row-preserved-then-turns
 loop-row-preserved-then-turns c =
@@ -77,15 +78,15 @@ loop-row-preserved c =
     let now_taken : (Taken) (c.loop-row.row) c.loop-row.found c.loop-row.by c.loop-row.len c.loop-row.bar c.loop-row.least = let e : min (c.loop-row.row) c.loop-row.stop ≡ (c.loop-row.row) = omega (arith, c.loop-row-test.true) in
     subst (λ n. (Taken) n c.loop-row.found c.loop-row.by c.loop-row.len c.loop-row.bar c.loop-row.least) e c.loop-row.invariant.1 in
     on
-    (pass_puts c.requires.0 (now_taken) ((rows_of c.args.losses.now c.args.shakes.now c.args.names.now)) (c.loop-row.row) c.score_from-scored.ensures.0 c.in-Scored.is c.known_told-1.given.0.1 (sym c.admits.ensures ∙ not-false _ c.if-not-admits.false)
+    (pass_puts c.requires.0 (now_taken) ((rows_of c.args.losses.now c.args.shakes.now c.args.names.now)) (c.loop-row.row) c.score_from-scored.ensures.0 c.in-Scored.is c.in-Scored.known_told-1-own.given.0.1 (sym c.admits.ensures ∙ not-false _ (ap not c.if-not-admits.false))
     c.put_in-len.ensures.0
     c.put_in-len.ensures.1
     c.bar_in-bar-in-loop-row.ensures
-    (kept w32 c.least-least-in-loop-row.result c.least-least-in-loop-row.type-inv ∙ c.least-least-in-loop-row.ensures))
+    (kept w32 c.least-least-in-loop-row.result c.least-least-in-loop-row.type_inv ∙ c.least-least-in-loop-row.ensures))
 
 pub returns : goal.returns
 returns c =
     let stored : ℕ → Lines = λ n. columns_of (top c.args.rule c.args.most (standing ((rows_of c.args.losses.now c.args.shakes.now c.args.names.now)) n)) in
     let l = c.loop-row in
-    let all : min l.row l.stop ≡ l.stop = omega (arith, c.loop-row-test.false) in
-    (l.invariant.0, l.invariant.1.lines ∙ ap (stored) all)
+    let all : min c.loop-row.row c.loop-row.stop ≡ c.loop-row.stop = omega (arith, c.loop-row-test.false) in
+    (c.loop-row.invariant.0, c.loop-row.invariant.1.lines ∙ ap (stored) all)

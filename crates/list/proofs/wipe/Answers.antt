@@ -17,8 +17,8 @@ loop-i-init c =
       c.requires.0,
       omega arith,
       room,
-      sym (wiped-none 0 a.names.now room.names),
-      sym (wiped-none (pos 0) a.scores.now room.scores),
+      sym (wiped-none 0 c.args.names.now c.requires.1.names),
+      sym (wiped-none (pos 0) c.args.scores.now c.requires.1.scores),
     )
 
 pub loop-i-preserved : goal.loop-i-preserved
@@ -29,14 +29,14 @@ loop-i-preserved c =
     let one : i ≡ suc (i - 1) = omega (arith, c.loop-i-test.true) in (
       search rules,
       search rules,
-      inv.2,
-      wiped_more 0 i (i - 1) a.names.now c.loop-i.names one inv.1 inv.2.names inv.3,
-      wiped_more (pos 0) i (i - 1) a.scores.now c.loop-i.scores one inv.1 inv.2.scores inv.4,
+      c.loop-i.invariant.2,
+      wiped_more 0 i (i - 1) c.args.names.now c.loop-i.names one c.loop-i.invariant.1 c.loop-i.invariant.2.names c.loop-i.invariant.3,
+      wiped_more (pos 0) i (i - 1) c.args.scores.now c.loop-i.scores one c.loop-i.invariant.1 c.loop-i.invariant.2.scores c.loop-i.invariant.4,
     )
 
 pub returns : goal.returns
 returns c =
     let a = c.args in
     let inv = c.loop-i.invariant in
-    let all : c.loop-i.i ≡ a.from = omega (arith, inv.0, c.loop-i-test.false) in
-    (inv.3 ∙ ap (λ i. wiped i 0 a.names.now) all, inv.4 ∙ ap (λ i. wiped i (pos 0) a.scores.now) all)
+    let all : c.loop-i.i ≡ c.args.from = omega (arith, c.loop-i.invariant.0, c.loop-i-test.false) in
+    (c.loop-i.invariant.3 ∙ ap (λ i. wiped i 0 c.args.names.now) all, c.loop-i.invariant.4 ∙ ap (λ i. wiped i (pos 0) c.args.scores.now) all)

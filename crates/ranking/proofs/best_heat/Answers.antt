@@ -14,7 +14,7 @@ pub returns-then-weight-gt0 : goal.returns-then-weight-gt0
 returns-then-weight-gt0 c =
     let weight = c.args.weight in
     let is = to_z-of_z c.ranges.weight in
-    kept w32 c.weighted.result c.weighted.type-inv
+    kept w32 c.weighted.result c.weighted.type_inv
     ∙ c.weighted.ensures
     ∙ ap (λ z. z *ℤ pos 4095) is
     ∙ ap (λ n. weight *ℤ pos n) (sym (heat_hot weight (sym (ap (lt_z (pos 0)) is) ∙ c.if-weight-gt0.true)))

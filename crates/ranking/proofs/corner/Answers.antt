@@ -12,10 +12,10 @@ pub returns-then-weight-gt0 : goal.returns-then-weight-gt0
 returns-then-weight-gt0 c =
     let a = c.args in
     c.nearest.ensures
-    ∙ sym (corner_high a.weight a.range a.index (sym (ap (lt_z (pos 0)) (to_z-of_z c.ranges.weight)) ∙ c.if-weight-gt0.true))
+    ∙ sym (corner_high c.args.weight c.args.range c.args.index (sym (ap (lt_z (pos 0)) (to_z-of_z c.ranges.weight)) ∙ c.if-weight-gt0.true))
 
 pub returns-else-weight-gt0 : goal.returns-else-weight-gt0
 returns-else-weight-gt0 c =
     let a = c.args in
     c.nearest-else-weight-gt0.ensures
-    ∙ sym (corner-low a.weight a.range a.index (sym (ap (lt_z (pos 0)) (to_z-of_z c.ranges.weight)) ∙ c.if-weight-gt0.false))
+    ∙ sym (corner-low c.args.weight c.args.range c.args.index (sym (ap (lt_z (pos 0)) (to_z-of_z c.ranges.weight)) ∙ c.if-weight-gt0.false))

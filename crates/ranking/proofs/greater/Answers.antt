@@ -11,14 +11,14 @@ returns-then-b-a c =
     let a = c.args.a in
     let b = c.args.b in
     let x = c.ranges in
-    sym (greater_by a b c.args.tie (sym (less_kept x.b x.a) ∙ c.if-b-a.true))
+    sym (greater_by a b c.args.tie (sym (less_kept c.ranges.b c.ranges.a) ∙ c.if-b-a.true))
 
 pub returns-then-a-b : goal.returns-then-a-b
 returns-then-a-b c =
     let a = c.args.a in
     let b = c.args.b in
     let x = c.ranges in
-    sym (less_by a b c.args.tie (sym (less_kept x.a x.b) ∙ c.if-a-b.true))
+    sym (less_by a b c.args.tie (sym (less_kept c.ranges.a c.ranges.b) ∙ c.if-a-b.true))
 
 pub returns : goal.returns
 returns c =
@@ -27,4 +27,4 @@ returns c =
     let x = c.ranges in
     sym
     (greater_tie a b c.args.tie
-    (lt_z_strict.total a b (sym (less_kept x.a x.b) ∙ c.if-a-b.false) (sym (less_kept x.b x.a) ∙ c.if-b-a.false)))
+    (lt_z_strict.total a b (sym (less_kept c.ranges.a c.ranges.b) ∙ c.if-a-b.false) (sym (less_kept c.ranges.b c.ranges.a) ∙ c.if-b-a.false)))

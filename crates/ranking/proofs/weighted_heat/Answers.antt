@@ -27,7 +27,7 @@ returns-in-First c =
 pub returns-in-Second : goal.returns-in-Second
 returns-in-Second c =
     let weight = c.args.weight in
-    kept w32 c.weighted.result c.weighted.type-inv
+    kept w32 c.weighted.result c.weighted.type_inv
     ∙ c.weighted.ensures
     ∙ ap (λ z. z *ℤ pos (c.in-Second.heat % 4096)) (to_z-of_z c.ranges.weight)
     ∙ sym (ap (λ e. weight *ℤ pos (heat_of (low_edition e))) c.in-Second.is)

@@ -7,8 +7,8 @@ use Rattle.serving.proofs.put_seated.Goals as goal
 
 pub returns-then-refusal-eq0 : goal.returns-then-refusal-eq0
 unfolding seated_text
-returns-then-refusal-eq0 c = rw (eq-eqb _ _ c.if-refusal-eq0.true) c.put_s.ensures
+returns-then-refusal-eq0 c = rw (eq-eqb _ _ c.if-refusal-eq0.true) (record { value = c.put_s.ensures.value; out_after = c.put_s.ensures.buf_after })
 
 pub returns : goal.returns
 unfolding seated_text
-returns c = rw (ne_eqb _ _ c.if-refusal-eq0.false) c.put_r.ensures
+returns c = rw (ne_eqb _ _ c.if-refusal-eq0.false) (record { value = c.put_r.ensures.value; out_after = c.put_r.ensures.buf_after })

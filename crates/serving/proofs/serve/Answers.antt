@@ -23,21 +23,21 @@ serves {room} {left} {at} {next} i t f p =
 pub returns-then-tag-eq-SHOW : goal.returns-then-tag-eq-SHOW
 returns-then-tag-eq-SHOW c =
     let a = c.args in
-    serves (served_show a.tag a.item a.value.now a.held (standing (rows_of a.losses.now a.shakes.now a.names.now) 1024) c.if-tag-eq-SHOW.true)
-    (ap (λ (n : ℕ). shown_text a.item n a.held) c.byte.ensures) refl c.put_shown.ensures
+    serves (served_show c.args.tag c.args.item c.args.value.now c.args.held (standing (rows_of c.args.losses.now c.args.shakes.now c.args.names.now) 1024) c.if-tag-eq-SHOW.true)
+    (ap (λ (n : ℕ). shown_text c.args.item n c.args.held) c.byte.ensures) refl (c.put_shown.ensures.value, c.put_shown.ensures.out_after)
 
 pub returns-then-tag-eq-REMOVE : goal.returns-then-tag-eq-REMOVE
 returns-then-tag-eq-REMOVE c =
     let a = c.args in
-    serves (served-remove a.tag a.item a.value.now a.held (standing (rows_of a.losses.now a.shakes.now a.names.now) 1024) c.if-tag-eq-SHOW.false c.if-tag-eq-REMOVE.true)
-    refl c.emptied.ensures c.put_refusal.ensures
+    serves (served-remove c.args.tag c.args.item c.args.value.now c.args.held (standing (rows_of c.args.losses.now c.args.shakes.now c.args.names.now) 1024) c.if-tag-eq-SHOW.false c.if-tag-eq-REMOVE.true)
+    refl c.emptied.ensures (c.put_refusal.ensures.value, c.put_refusal.ensures.out_after)
 
 pub returns : goal.returns
 returns c =
     let a = c.args in
-    let rows = standing (rows_of a.losses.now a.shakes.now a.names.now) 1024 in
+    let rows = standing (rows_of c.args.losses.now c.args.shakes.now c.args.names.now) 1024 in
     let k = c.byte-2.ensures in
     let rule = c.rule_in-rule.ensures in
     let set = c.set_in-seated in
-    serves (served-set a.tag a.item a.value.now a.held rows c.if-tag-eq-SHOW.false c.if-tag-eq-REMOVE.false (set.ensures ∙ (λ j. set_in a.held (k j) (rule j) rows)))
-    (ap (λ (n : ℕ). seated_text a.item n set.result.refusal set.result.steps) c.byte-3.ensures) refl c.put_seated.ensures
+    serves (served-set c.args.tag c.args.item c.args.value.now c.args.held rows c.if-tag-eq-SHOW.false c.if-tag-eq-REMOVE.false (c.set_in-seated.ensures ∙ (λ j. set_in c.args.held (k j) (rule j) rows)))
+    (ap (λ (n : ℕ). seated_text c.args.item n c.set_in-seated.result.refusal c.set_in-seated.result.steps) c.byte-3.ensures) refl (c.put_seated.ensures.value, c.put_seated.ensures.out_after)

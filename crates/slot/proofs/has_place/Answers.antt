@@ -13,8 +13,8 @@ use Rattle.slot.proofs.has_place.Goals as goal
 pub returns : goal.returns
 returns c =
     let q = c.args.question in
-    let good = c.well-formed.0.1.1 in
+    let good = c.well_formed.0.1.1 in
     let last = c.least in
     c.has_place.ensures
-    ∙ ap₂ (place_by q.rule q.k q.len) (kept w32 last.result last.type-inv ∙ last.ensures) (to_z-of_z c.ranges.score)
-    ∙ place_by_lem q (roomy q good.0.1.0.1 good.1.1.0.1.0.1) c.args.score
+    ∙ ap₂ (place_by c.args.question.rule c.args.question.k c.args.question.len) (kept w32 c.least.result c.least.type_inv ∙ c.least.ensures) (to_z-of_z c.ranges.score)
+    ∙ place_by_lem q (roomy q c.well_formed.0.1.1.0.1.0.1 c.well_formed.0.1.1.1.1.0.1.0.1) c.args.score

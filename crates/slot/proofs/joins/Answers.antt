@@ -12,10 +12,10 @@ use Rattle.slot.proofs.joins.Goals as goal
 pub returns-then-has_place : goal.returns-then-has_place
 returns-then-has_place c =
     let a = c.args in
-    let place = sym (c.has_place.ensures ∙ ap (place_on a.question) (to_z-of_z c.ranges.score)) ∙ c.if-has_place.true in
-    c.is_past.ensures ∙ sym (ap (λ b. is_past a.question a.cell && b) place ∙ and_so (is_past a.question a.cell))
+    let place = sym (c.has_place.ensures ∙ ap (place_on c.args.question) (to_z-of_z c.ranges.score)) ∙ c.if-has_place.true in
+    c.is_past.ensures ∙ sym (ap (λ b. is_past c.args.question c.args.cell && b) place ∙ and_so (is_past c.args.question c.args.cell))
 
 pub returns : goal.returns
 returns c =
     let a = c.args in
-    sym (and_no (is_past a.question a.cell) (sym (c.has_place.ensures ∙ ap (place_on a.question) (to_z-of_z c.ranges.score)) ∙ c.if-has_place.false))
+    sym (and_no (is_past c.args.question c.args.cell) (sym (c.has_place.ensures ∙ ap (place_on c.args.question) (to_z-of_z c.ranges.score)) ∙ c.if-has_place.false))

@@ -17,7 +17,7 @@ returns-then-n-eq0 c = sym (least-none c.args.question (sym c.lines_in-n.ensures
 pub returns : goal.returns
 returns c =
     let q = c.args.question in
-    let good = c.well-formed.0.1.1 in
+    let good = c.well_formed.0.1.1 in
     let i = c.lines_in-n.result - 1 in
-    kept w32 (get_or q.scores i (pos 0)) c.result-1.given
-    ∙ sym (least_last q (roomy q good.0.1.0.1 good.1.1.0.1.0.1) i (search rules))
+    kept w32 (get_or c.args.question.scores i (pos 0)) c.result-1.given
+    ∙ sym (least_last q (roomy q c.well_formed.0.1.1.0.1.0.1 c.well_formed.0.1.1.1.1.0.1.0.1) i (search rules))

@@ -24,7 +24,7 @@ pub returns-then-joins : goal.returns-then-joins
 returns-then-joins c =
     let read : c.values-values.result ≡ values_at c.args.row = c.values-values.ensures in
     let is : score c.args.question.rule ((report_at c.args.row)).values ≡ Scored c.in-Scored.score = sym (c.score.ensures ∙ ap (λ v. score c.args.question.rule (low v)) (read)) ∙ c.in-Scored.is in
-    let own : to_z w32 (of_z w32 c.in-Scored.score) ≡ points (score c.args.question.rule ((report_at c.args.row)).values) = kept w32 c.in-Scored.score c.known_told-1.given.0.1 ∙ sym (ap points (is)) in
+    let own : to_z w32 (of_z w32 c.in-Scored.score) ≡ points (score c.args.question.rule ((report_at c.args.row)).values) = kept w32 c.in-Scored.score c.in-Scored.known_told-1-own.given.0.1 ∙ sym (ap points (is)) in
     let test : c.joins.result ≡ takes c.args.question ((report_at c.args.row)).values = let q = c.args.question in
     let v = ((report_at c.args.row)).values in
     let there = counts-order q.rule v (low_in (values_at c.args.row)) (sym (scored_counts q.rule v) ∙ ap is_scored (is)) in
@@ -40,7 +40,7 @@ pub returns-else-joins : goal.returns-else-joins
 returns-else-joins c =
     let read : c.values-values.result ≡ values_at c.args.row = c.values-values.ensures in
     let is : score c.args.question.rule ((report_at c.args.row)).values ≡ Scored c.in-Scored.score = sym (c.score.ensures ∙ ap (λ v. score c.args.question.rule (low v)) (read)) ∙ c.in-Scored.is in
-    let own : to_z w32 (of_z w32 c.in-Scored.score) ≡ points (score c.args.question.rule ((report_at c.args.row)).values) = kept w32 c.in-Scored.score c.known_told-1.given.0.1 ∙ sym (ap points (is)) in
+    let own : to_z w32 (of_z w32 c.in-Scored.score) ≡ points (score c.args.question.rule ((report_at c.args.row)).values) = kept w32 c.in-Scored.score c.in-Scored.known_told-1-own.given.0.1 ∙ sym (ap points (is)) in
     let test : c.joins.result ≡ takes c.args.question ((report_at c.args.row)).values = let q = c.args.question in
     let v = ((report_at c.args.row)).values in
     let there = counts-order q.rule v (low_in (values_at c.args.row)) (sym (scored_counts q.rule v) ∙ ap is_scored (is)) in
@@ -52,5 +52,5 @@ returns-else-joins c =
 pub returns-in-DoesNotCount : goal.returns-in-DoesNotCount
 returns-in-DoesNotCount c =
     let a = c.args in
-    let read = ap (λ v. score a.question.rule (low v)) c.values-values.ensures in
-    sym (listed_out a.question (report_at a.row) (ap is_scored (sym (c.score.ensures ∙ read) ∙ c.in-DoesNotCount.is)))
+    let read = ap (λ v. score c.args.question.rule (low v)) c.values-values.ensures in
+    sym (listed_out c.args.question (report_at c.args.row) (ap is_scored (sym (c.score.ensures ∙ read) ∙ c.in-DoesNotCount.is)))

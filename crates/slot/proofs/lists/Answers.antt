@@ -25,11 +25,11 @@ pub returns-then-question-i : goal.returns-then-question-i
 returns-then-question-i c =
     let last = c.last_name-limit in
     let q = c.args.question in
-    let good = c.well-formed.0.1.1 in
-    let r = roomy q good.0.1.0.1 good.1.1.0.1.0.1 in
-    let here = gone_here q.names c.lines_in-n.result c.loop-i.i (omega (arith, r.names, c.lines_in-n.ensures)) (omega arith) last.result c.if-question-i.true in
+    let good = c.well_formed.0.1.1 in
+    let r = roomy q c.well_formed.0.1.1.0.1.0.1 c.well_formed.0.1.1.1.1.0.1.0.1 in
+    let here = gone_here c.args.question.names c.lines_in-n.result c.loop-i.i (omega (arith, r.names, c.lines_in-n.ensures)) (omega arith) c.last_name-limit.result c.if-question-i.true in
     ap not (sym here ∙ c.loop-i.invariant.1)
-    ∙ lists-names q c.args.gone last.result last.ensures r c.lines_in-n.result c.lines_in-n.ensures
+    ∙ lists-names q c.args.gone c.last_name-limit.result c.last_name-limit.ensures r c.lines_in-n.result c.lines_in-n.ensures
 
 pub overflow_add-i : goal.overflow_add-i
 overflow_add-i c = omega arith
@@ -41,16 +41,16 @@ pub loop-i-preserved : goal.loop-i-preserved
 loop-i-preserved c =
     let last = c.last_name-limit in
     let q = c.args.question in
-    let good = c.well-formed.0.1.1 in
-    let r = roomy q good.0.1.0.1 good.1.1.0.1.0.1 in
-    let later = gone_later q.names c.lines_in-n.result c.loop-i.i (omega (arith, r.names, c.lines_in-n.ensures)) (omega arith) last.result c.if-question-i.false in
+    let good = c.well_formed.0.1.1 in
+    let r = roomy q c.well_formed.0.1.1.0.1.0.1 c.well_formed.0.1.1.1.1.0.1.0.1 in
+    let later = gone_later c.args.question.names c.lines_in-n.result c.loop-i.i (omega (arith, r.names, c.lines_in-n.ensures)) (omega arith) c.last_name-limit.result c.if-question-i.false in
     (omega arith, sym later ∙ c.loop-i.invariant.1)
 
 pub returns : goal.returns
 returns c =
     let last = c.last_name-limit in
     let q = c.args.question in
-    let good = c.well-formed.0.1.1 in
-    let r = roomy q good.0.1.0.1 good.1.1.0.1.0.1 in
-    ap not (sym (gone_nowhere last.result q.names c.lines_in-n.result c.loop-i.i (omega arith)) ∙ c.loop-i.invariant.1)
-    ∙ lists-names q c.args.gone last.result last.ensures r c.lines_in-n.result c.lines_in-n.ensures
+    let good = c.well_formed.0.1.1 in
+    let r = roomy q c.well_formed.0.1.1.0.1.0.1 c.well_formed.0.1.1.1.1.0.1.0.1 in
+    ap not (sym (gone_nowhere c.last_name-limit.result c.args.question.names c.lines_in-n.result c.loop-i.i (omega arith)) ∙ c.loop-i.invariant.1)
+    ∙ lists-names q c.args.gone c.last_name-limit.result c.last_name-limit.ensures r c.lines_in-n.result c.lines_in-n.ensures

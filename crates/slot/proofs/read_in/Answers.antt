@@ -14,4 +14,4 @@ unfolding read_in
 returns c =
     let q = c.args.question in
     rw (ne_eqb _ _ c.if-question-eq0.false)
-    (λ i. record { refusal = 0; len = q.len; numbers = c.numbers_in-numbers.ensures i; scores = q.scores; editions = c.editions_in-editions.ensures i })
+    (λ i. record { refusal = 0; len = c.args.question.len; numbers = c.numbers_in-numbers.ensures i; scores = c.args.question.scores; editions = c.editions_in-editions.ensures i })

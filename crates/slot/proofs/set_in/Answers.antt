@@ -18,11 +18,11 @@ pub returns : goal.returns
 unfolding set_in
 returns c =
     let a = c.args in
-    let rows = rows_of a.losses.now a.shakes.now a.names.now in
+    let rows = rows_of c.args.losses.now c.args.shakes.now c.args.names.now in
     let made = c.fresh-fresh.ensures in
     let found =
     c.searched_in-found.ensures
-    ∙ ap (λ q. searched_first (record { k = a.k; rule = a.rule; names = q.names; scores = q.scores; len = q.len; next = q.next }) rows 1024) made
+    ∙ ap (λ q. searched_first (record { k = c.args.k; rule = c.args.rule; names = q.names; scores = q.scores; len = q.len; next = q.next }) rows 1024) made
     ∙ first_among _ rows 1024 in
     ap (λ (f : Searched). record { refusal = 0; steps = f.steps; question = f.question }) found
     ∙ sym (zero_is _ _ (sym c.ask_refusal-refusal.ensures ∙ c.if-refusal-ne0.false))

@@ -18,4 +18,4 @@ met b v {t} {id} {r} {room} {known} {at} e f m =
 pub returns : goal.returns
 returns c =
     let a = c.args in
-    met (stations_in a.room.now a.known.now a.lasts.now) a.value.now c.read32-time.ensures c.read32-id.ensures c.meet.ensures
+    met (stations_in c.args.room.now c.args.known.now c.args.lasts.now) c.args.value.now c.read32-time.ensures c.read32-id.ensures c.meet.ensures

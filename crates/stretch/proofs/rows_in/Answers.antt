@@ -24,7 +24,7 @@ bounds-names-last c = omega arith
 pub returns-then-names-last-ne0 : goal.returns-then-names-last-ne0
 returns-then-names-last-ne0 c =
     let l = c.loop-rows in
-    sym (l.invariant.1 ∙ used_here (λ k. eqb k 0) 0 c.args.names.now l.rows (l.rows - 1) (omega arith) (ne_eqb _ _ c.if-names-last-ne0.true))
+    sym (c.loop-rows.invariant.1 ∙ used_here (λ k. eqb k 0) 0 c.args.names.now c.loop-rows.rows (c.loop-rows.rows - 1) (omega arith) (ne_eqb _ _ c.if-names-last-ne0.true))
 
 pub loop-rows-smaller : goal.loop-rows-smaller
 loop-rows-smaller c = omega arith
@@ -32,7 +32,7 @@ loop-rows-smaller c = omega arith
 pub loop-rows-preserved : goal.loop-rows-preserved
 loop-rows-preserved c =
     let l = c.loop-rows in
-    (omega arith, l.invariant.1 ∙ used_below (λ k. eqb k 0) 0 c.args.names.now l.rows (l.rows - 1) (omega arith) (eq-eqb _ _ c.if-names-last-ne0.false))
+    (omega arith, c.loop-rows.invariant.1 ∙ used_below (λ k. eqb k 0) 0 c.args.names.now c.loop-rows.rows (c.loop-rows.rows - 1) (omega arith) (eq-eqb _ _ c.if-names-last-ne0.false))
 
 pub returns : goal.returns
 returns c = sym (c.loop-rows.invariant.1 ∙ none-used (λ k. eqb k 0) 0 c.args.names.now c.loop-rows.rows (omega arith))

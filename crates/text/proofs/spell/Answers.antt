@@ -57,7 +57,7 @@ loop-rest-preserved c =
     let fewer = length_more rest (search rules) in
     let room = decimal64_longest c.args.n (search rules) in
     let positive = length_some rest in
-    (rw length-set inv.0, omega arith, omega arith, next c.loop-rest.digits c.loop-rest.i rest c.args.n inv.3 (omega arith) (omega arith) c.loop-rest-test.true)
+    (rw length-set c.loop-rest.invariant.0, omega arith, omega arith, next c.loop-rest.digits c.loop-rest.i rest c.args.n c.loop-rest.invariant.3 (omega arith) (omega arith) c.loop-rest-test.true)
 
 pub overflow_sub-i-2 : goal.overflow_sub-i-2
 overflow_sub-i-2 c = omega (arith, decimal64_longest c.args.n (search rules), length_some c.loop-rest.rest)
@@ -76,7 +76,7 @@ shape_of-digits c = simp length-set (c.loop-rest.invariant.0 ∙ sym c.requires)
 
 pub returns : goal.returns
 returns c =
-    let inv = c.loop-rest.invariant in
-    let rest = c.loop-rest.rest in
-    let room = decimal64_longest c.args.n (search rules) in
-    let one = length_one rest (search rules) in record { value = omega arith; digits_after = last c.loop-rest.digits c.loop-rest.i rest c.args.n inv.3 (omega arith) (omega arith) c.loop-rest-test.false }
+    let inv = c.loop-rest.invariant in 
+    let rest = c.loop-rest.rest in 
+    let room = decimal64_longest c.args.n (search rules) in 
+    let one = length_one rest (search rules) in record { value = omega arith; digits_after = last c.loop-rest.digits c.loop-rest.i rest c.args.n c.loop-rest.invariant.3 (omega arith) (omega arith) c.loop-rest-test.false }

@@ -11,19 +11,19 @@ pub returns-then-time-last : goal.returns-then-time-last
 unfolding came_at fit_last is_before is_late
 returns-then-time-last c =
     let a = c.args in
-    rw (c.if-known.true, lt-ltb a.time a.last (omega arith))
+    rw (c.if-known.true, lt-ltb c.args.time c.args.last (omega arith))
 
 pub returns-then-time-last-gt-LONGEST : goal.returns-then-time-last-gt-LONGEST
 unfolding came_at fit_last is_before is_late
 returns-then-time-last-gt-LONGEST c =
     let a = c.args in
-    rw (c.if-known.true, le-ltb a.time a.last (omega arith), lt-ltb 750 (a.time - a.last) (omega arith))
+    rw (c.if-known.true, le-ltb c.args.time c.args.last (omega arith), lt-ltb 750 (c.args.time - c.args.last) (omega arith))
 
 pub returns-then-known : goal.returns-then-known
 unfolding came_at fit_last is_before is_late
 returns-then-known c =
     let a = c.args in
-    rw (c.if-known.true, le-ltb a.time a.last (omega arith), le-ltb 750 (a.time - a.last) (omega arith))
+    rw (c.if-known.true, le-ltb c.args.time c.args.last (omega arith), le-ltb 750 (c.args.time - c.args.last) (omega arith))
 
 pub returns-then-last-ne0 : goal.returns-then-last-ne0
 unfolding came_at fit_last is_before is_late

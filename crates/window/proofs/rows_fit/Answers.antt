@@ -10,6 +10,7 @@ use Rattle.window.specs.Rows.{number_in, values_in, due, holds, row_fit, rows_fi
 use Rattle.window.specs.declared.Window.{Window}
 use Rattle.laws.proofs.Tests.{and_true}
 use Rattle.window.proofs.Fitness.{ranges_of, unfit_row}
+use mathlib.Core.Bool.{not}
 use Rattle.window.proofs.rows_fit.Goals as goal
 
 -- what the two calls of a turn say of the row
@@ -62,7 +63,7 @@ pub returns-then-not-holds : goal.returns-then-not-holds
 returns-then-not-holds c =
     let w = c.args.w in
     let row : c.loop-row.row < 1024 = omega arith in
-    sym (unfit_row w 1024 c.loop-row.row row (judged w c.loop-row.row c.due-n.result c.holds.ensures c.due-n.ensures ∙ not-true _ c.if-not-holds.true))
+    sym (unfit_row w 1024 c.loop-row.row row (judged w c.loop-row.row c.due-n.result c.holds.ensures c.due-n.ensures ∙ not-true _ (ap not c.if-not-holds.true)))
 
 pub overflow_add-row : goal.overflow_add-row
 overflow_add-row c = omega arith
@@ -76,7 +77,7 @@ loop-row-preserved c =
     let w = c.args.w in (
       omega arith,
       rw (add-one c.loop-row.row)
-          (and_true c.loop-row.invariant.1 (judged w c.loop-row.row c.due-n.result c.holds.ensures c.due-n.ensures ∙ not-false _ c.if-not-holds.false)),
+          (and_true c.loop-row.invariant.1 (judged w c.loop-row.row c.due-n.result c.holds.ensures c.due-n.ensures ∙ not-false _ (ap not c.if-not-holds.false))),
     )
 
 pub returns : goal.returns

@@ -10,8 +10,8 @@ use Rattle.window.proofs.steps_back.Goals as goal
 pub returns-then-row-last : goal.returns-then-row-last
 returns-then-row-last c =
     let a = c.args in
-    let around : a.last + a.size - a.row ≡ a.last - a.row + a.size = omega arith in
-    sym (ap (λ n. n % a.size) around ∙ add-mod_right (a.last - a.row) a.size ∙ mod-eq_of_lt (omega arith))
+    let around : c.args.last + c.args.size - c.args.row ≡ c.args.last - c.args.row + c.args.size = omega arith in
+    sym (ap (λ n. n % c.args.size) around ∙ add-mod_right (c.args.last - c.args.row) c.args.size ∙ mod-eq_of_lt (omega arith))
 
 pub returns-else-row-last : goal.returns-else-row-last
 returns-else-row-last c = sym (mod-eq_of_lt (omega arith))

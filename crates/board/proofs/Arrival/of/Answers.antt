@@ -31,6 +31,6 @@ unfolding arrival
 returns c =
     let may_enter : Enterable c.args.counts c.args.values = enterable c.args.counts c.args.values (sym c.enter_refusal-refusal.ensures ∙ c.if-refusal-ne0.false) in
     let a = c.args in
-    let named = c.of.ensures ∙ new_name a.counts.entered a.values.edition (may_enter).room in
-    (λ i. record { refusal = 0; number = a.counts.entered + 1; name = named i; oldest = c.leaving.ensures i })
+    let named = c.of.ensures ∙ new_name c.args.counts.entered c.args.values.edition (may_enter).room in
+    (λ i. record { refusal = 0; number = c.args.counts.entered + 1; name = named i; oldest = c.leaving.ensures i })
     ∙ sym (zero_is _ _ (sym c.enter_refusal-refusal.ensures ∙ c.if-refusal-ne0.false))

@@ -63,5 +63,5 @@ pub returns : goal.returns
 returns c =
     let may_enter : Enterable c.args.self.window.counts c.args.values = enterable c.args.self.window.counts c.args.values c.requires in
     let v = c.args.values in
-    let name = c.of.ensures ∙ new_name c.args.self.window.counts.entered v.edition (may_enter).room in
-    turns-all c.args.self v c.requires (λ i. record { loss = v.loss; shake = v.shake; name = name i }) c.leaving-gone.ensures c.added-window.ensures (omega (arith, c.loop-i.invariant.1)) c.loop-i.invariant.2
+    let name = c.of.ensures ∙ new_name c.args.self.window.counts.entered c.args.values.edition (may_enter).room in
+    turns-all c.args.self v c.requires (λ i. record { loss = c.args.values.loss; shake = c.args.values.shake; name = name i }) c.leaving-gone.ensures c.added-window.ensures (omega (arith, c.loop-i.invariant.1)) c.loop-i.invariant.2

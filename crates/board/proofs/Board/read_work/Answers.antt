@@ -8,9 +8,9 @@ use Rattle.board.proofs.Board.read_work.Goals as goal
 pub returns-then-slot-ge-SLOTS : goal.returns-then-slot-ge-SLOTS
 returns-then-slot-ge-SLOTS c =
     let a = c.args in
-    c.refused.ensures ∙ sym (read_nowhere a.self a.slot c.if-slot-ge-SLOTS.true)
+    c.refused.ensures ∙ sym (read_nowhere c.args.self c.args.slot c.if-slot-ge-SLOTS.true)
 
 pub returns : goal.returns
 returns c =
     let a = c.args in
-    c.read_in.ensures ∙ sym (read_there a.self a.slot (search rules))
+    c.read_in.ensures ∙ sym (read_there c.args.self c.args.slot (search rules))

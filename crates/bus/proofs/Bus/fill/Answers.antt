@@ -4,4 +4,4 @@ use borrow.Author.Rules.{rules}
 use Rattle.bus.proofs.Bus.fill.Goals as goal
 
 pub returns : goal.returns
-returns c = c.fill_in.ensures
+returns c = record { room_after = c.fill_in.ensures.room_after; room_after_2 = c.fill_in.ensures.room_after_2 }

@@ -36,11 +36,11 @@ pub loop-k-preserved : goal.loop-k-preserved
 loop-k-preserved c =
     let l = c.loop-k in
     let room = c.args.room.now in
-    (omega arith, length-set l.sessions l.k c.session_in-session.result ∙ l.invariant.1, reads_more room l.sessions l.k (omega (arith, l.invariant.1)) l.invariant.2 c.session_in-session.ensures)
+    (omega arith, length-set c.loop-k.sessions c.loop-k.k c.session_in-session.result ∙ c.loop-k.invariant.1, reads_more room c.loop-k.sessions c.loop-k.k (omega (arith, c.loop-k.invariant.1)) c.loop-k.invariant.2 c.session_in-session.ensures)
 
 pub returns : goal.returns
 returns c =
     let l = c.loop-k in
     let room = c.args.room.now in
-    let end : l.k ≡ 254 = omega arith in
-    sym (take_all l.k l.sessions (omega (arith, l.invariant.1))) ∙ l.invariant.2 ∙ ap (λ (n : ℕ). first_sessions_in n room) end
+    let end : c.loop-k.k ≡ 254 = omega arith in
+    sym (take_all c.loop-k.k c.loop-k.sessions (omega (arith, c.loop-k.invariant.1))) ∙ c.loop-k.invariant.2 ∙ ap (λ (n : ℕ). first_sessions_in n room) end

@@ -4,4 +4,4 @@ use borrow.Author.Rules.{rules}
 use Rattle.bus.proofs.Bus.take.Goals as goal
 
 pub returns : goal.returns
-returns c = c.take_in.ensures
+returns c = record { value = c.take_in.ensures.value; room_after = c.take_in.ensures.room_after }

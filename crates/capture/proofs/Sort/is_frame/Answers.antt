@@ -38,6 +38,6 @@ returns-in-Broken c = rw c.in-Broken.is
 
 pub returns-in_default : goal.returns-in_default
 returns-in_default c =
-    let k = c.in_default.keys4 in
+    let k = c.in_default.in_default-own.keys4 in
     let at : List ℕ = 0 ∷ 1 ∷ 2 ∷ 3 ∷ 4 ∷ 5 ∷ 6 ∷ 7 ∷ 8 ∷ 9 ∷ [] in
     some c.args.self (λ e. miss at 10 tt (rw e at k)) (λ e. miss at 11 tt (rw e at k)) (λ e. miss at 12 tt (rw e at k))

@@ -20,32 +20,26 @@ alone i = sym (append-nil (item_bytes i []))
 
 pub returns-in-Nothing : goal.returns-in-Nothing
 unfolding run_bytes
-returns-in-Nothing c =
-    let a = c.args in
-    put_is a.time a.self command.Nothing a.note.now a.room.now c.in-Nothing.is (refl, refl)
+returns-in-Nothing c = let a = c.args in record { value = (put_is c.args.time c.args.self command.Nothing c.args.note.now c.args.room.now c.in-Nothing.is (refl, refl)).0; room_after = (put_is c.args.time c.args.self command.Nothing c.args.note.now c.args.room.now c.in-Nothing.is (refl, refl)).1 }
 
 pub returns-in-Item : goal.returns-in-Item
 returns-in-Item c =
-    let a = c.args in
-    let i = c.in-Item.i in
-    put_is a.time a.self (command.Item i) a.note.now a.room.now c.in-Item.is (
+    let a = c.args in 
+    let i = c.in-Item.i in record { value = (put_is c.args.time c.args.self (command.Item i) c.args.note.now c.args.room.now c.in-Item.is (
       ap answer.Items (c.put-size.ensures.value ∙ ap (λ (ds : List ℕ). length (item_bytes i ds)) c.front.ensures ∙ ap length (alone i)),
-      c.put-size.ensures.room_after ∙ ap (λ (ds : List ℕ). sets a.room.now 0 (item_bytes i ds)) c.front.ensures ∙ ap (sets a.room.now 0) (alone i),
-    )
+      c.put-size.ensures.room_after ∙ ap (λ (ds : List ℕ). sets c.args.room.now 0 (item_bytes i ds)) c.front.ensures ∙ ap (sets c.args.room.now 0) (alone i),
+    )).0; room_after = (put_is c.args.time c.args.self (command.Item i) c.args.note.now c.args.room.now c.in-Item.is (
+      ap answer.Items (c.put-size.ensures.value ∙ ap (λ (ds : List ℕ). length (item_bytes i ds)) c.front.ensures ∙ ap length (alone i)),
+      c.put-size.ensures.room_after ∙ ap (λ (ds : List ℕ). sets c.args.room.now 0 (item_bytes i ds)) c.front.ensures ∙ ap (sets c.args.room.now 0) (alone i),
+    )).1 }
 
 pub returns-in-Report : goal.returns-in-Report
-returns-in-Report c =
-    let a = c.args in
-    put_is a.time a.self (command.Report c.in-Report.s) a.note.now a.room.now c.in-Report.is c.put_report.ensures
+returns-in-Report c = let a = c.args in record { value = (put_is c.args.time c.args.self (command.Report c.in-Report.s) c.args.note.now c.args.room.now c.in-Report.is (c.put_report.ensures.value, c.put_report.ensures.room_after)).0; room_after = (put_is c.args.time c.args.self (command.Report c.in-Report.s) c.args.note.now c.args.room.now c.in-Report.is (c.put_report.ensures.value, c.put_report.ensures.room_after)).1 }
 
 pub returns-in-Time : goal.returns-in-Time
 unfolding run_bytes
-returns-in-Time c =
-    let a = c.args in
-    put_is a.time a.self (command.Time c.in-Time.field-0) a.note.now a.room.now c.in-Time.is (refl, refl)
+returns-in-Time c = let a = c.args in record { value = (put_is c.args.time c.args.self (command.Time c.in-Time.field-0) c.args.note.now c.args.room.now c.in-Time.is (refl, refl)).0; room_after = (put_is c.args.time c.args.self (command.Time c.in-Time.field-0) c.args.note.now c.args.room.now c.in-Time.is (refl, refl)).1 }
 
 pub returns-in-Wrong : goal.returns-in-Wrong
 unfolding run_bytes
-returns-in-Wrong c =
-    let a = c.args in
-    put_is a.time a.self (command.Wrong c.in-Wrong.f) a.note.now a.room.now c.in-Wrong.is (refl, refl)
+returns-in-Wrong c = let a = c.args in record { value = (put_is c.args.time c.args.self (command.Wrong c.in-Wrong.f) c.args.note.now c.args.room.now c.in-Wrong.is (refl, refl)).0; room_after = (put_is c.args.time c.args.self (command.Wrong c.in-Wrong.f) c.args.note.now c.args.room.now c.in-Wrong.is (refl, refl)).1 }

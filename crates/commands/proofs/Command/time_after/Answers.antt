@@ -20,5 +20,5 @@ stays t (command.Wrong f) h = refl
 
 pub returns-in_default : goal.returns-in_default
 returns-in_default c =
-    let k = c.in_default.keys2 in
+    let k = c.in_default.in_default-own.keys2 in
     stays c.args.time c.args.self (λ u e. miss (0 ∷ 1 ∷ 2 ∷ 4 ∷ []) 3 tt (rw e at k))

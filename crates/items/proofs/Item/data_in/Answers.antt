@@ -24,7 +24,7 @@ none Unknown v f t = refl
 
 pub returns-in_default : goal.returns-in_default
 returns-in_default c =
-    let k = c.in_default.keys3 in
+    let k = c.in_default.in_default-own.keys3 in
     let a = c.args in
     c.front.ensures
-    ∙ sym (none a.self a.value.now (λ id e. miss (0 ∷ 1 ∷ 3 ∷ 4 ∷ 6 ∷ 7 ∷ 8 ∷ []) 2 tt (rw e at k)) (λ time id e. miss (0 ∷ 1 ∷ 3 ∷ 4 ∷ 6 ∷ 7 ∷ 8 ∷ []) 5 tt (rw e at k)))
+    ∙ sym (none c.args.self c.args.value.now (λ id e. miss (0 ∷ 1 ∷ 3 ∷ 4 ∷ 6 ∷ 7 ∷ 8 ∷ []) 2 tt (rw e at k)) (λ time id e. miss (0 ∷ 1 ∷ 3 ∷ 4 ∷ 6 ∷ 7 ∷ 8 ∷ []) 5 tt (rw e at k)))

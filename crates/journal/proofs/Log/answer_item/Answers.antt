@@ -11,7 +11,7 @@ returns-in-Refused c = rw c.in-Refused.is c.refused.ensures
 pub returns-in-Kept : goal.returns-in-Kept
 returns-in-Kept c =
     let a = c.args in
-    rw c.in-Kept.is (silent a.out.now a.at a.self (search rules) refl)
+    rw c.in-Kept.is (silent c.args.out.now c.args.at c.args.self (search rules) refl)
 
 pub returns-in-Complete : goal.returns-in-Complete
 returns-in-Complete c = rw c.in-Complete.is c.enter_item.ensures

@@ -11,13 +11,13 @@ pub returns-then-refusal-ne0 : goal.returns-then-refusal-ne0
 unfolding enter_item
 returns-then-refusal-ne0 c =
     let a = c.args in
-    refuses a.self _ (ap (λ (e : Entered). e.refusal) c.enter_work-entered.ensures) c.if-refusal-ne0.true c.refused.ensures
+    refuses c.args.self _ (ap (λ (e : Entered). e.refusal) c.enter_work-entered.ensures) c.if-refusal-ne0.true c.refused.ensures
 
 pub returns : goal.returns
 unfolding enter_item
 returns c =
     let a = c.args in
     let entered = c.enter_work-entered.ensures in
-    does a.self (ap (λ (e : Entered). e.refusal) entered) c.if-refusal-ne0.false
-    (ap (λ (e : Entered). record { text = s_lines a.self.items 0 e.searched e.steps; log = with_board a.self e.board }) entered)
-    (stores _ _ c.with_board.ensures c.put_searches-next.ensures)
+    does c.args.self (ap (λ (e : Entered). e.refusal) entered) c.if-refusal-ne0.false
+    (ap (λ (e : Entered). record { text = s_lines c.args.self.items 0 e.searched e.steps; log = with_board c.args.self e.board }) entered)
+    (stores _ _ c.with_board.ensures (c.put_searches-next.ensures.value, c.put_searches-next.ensures.out_after))

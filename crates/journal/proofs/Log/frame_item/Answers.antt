@@ -9,9 +9,9 @@ use Rattle.journal.proofs.Log.frame_item.Goals as goal
 pub returns-then-k-ge-SENDERS : goal.returns-then-k-ge-SENDERS
 returns-then-k-ge-SENDERS c =
     let a = c.args in
-    outcome_is (unheard a.self (untimed_at a.id a.data.now) c.if-k-ge-SENDERS.true c.frame_refusal.ensures) c.refused.ensures
+    outcome_is (unheard c.args.self (untimed_at c.args.id c.args.data.now) c.if-k-ge-SENDERS.true c.frame_refusal.ensures) c.refused.ensures
 
 pub returns : goal.returns
 returns c =
     let a = c.args in
-    outcome_is (heard a.self a.id a.data.now c.if-k-ge-SENDERS.false c.lend-taken.ensures c.with_session.ensures) c.answer_item.ensures
+    outcome_is (heard c.args.self c.args.id c.args.data.now c.if-k-ge-SENDERS.false c.lend-taken.ensures c.with_session.ensures) c.answer_item.ensures

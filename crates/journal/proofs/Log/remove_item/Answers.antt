@@ -12,12 +12,12 @@ unfolding remove_item
 returns-then-refusal-ne0 c =
     let a = c.args in
     let removed = c.remove_work-removed.ensures in
-    refuses a.self _ (ap (λ (r : Removed). r.refusal) removed) c.if-refusal-ne0.true c.refused.ensures
+    refuses c.args.self _ (ap (λ (r : Removed). r.refusal) removed) c.if-refusal-ne0.true c.refused.ensures
 
 pub returns : goal.returns
 unfolding remove_item
 returns c =
     let a = c.args in
     let removed = c.remove_work-removed.ensures in
-    does a.self (ap (λ (r : Removed). r.refusal) removed) c.if-refusal-ne0.false (ap (λ (r : Removed). no_text (with_board a.self r.board)) removed)
-    (silent a.out.now a.at _ (search rules) c.with_board.ensures)
+    does c.args.self (ap (λ (r : Removed). r.refusal) removed) c.if-refusal-ne0.false (ap (λ (r : Removed). no_text (with_board c.args.self r.board)) removed)
+    (silent c.args.out.now c.args.at _ (search rules) c.with_board.ensures)

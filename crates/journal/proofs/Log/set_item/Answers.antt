@@ -13,14 +13,14 @@ pub returns-then-refusal-ne0 : goal.returns-then-refusal-ne0
 unfolding set_item
 returns-then-refusal-ne0 c =
     let a = c.args in
-    let placed = c.set_work-placed.ensures ∙ ap (set_work a.self.board a.s.slot a.s.k) c.setting_rule-rule.ensures in
-    refuses a.self _ (ap (λ (p : Placed). p.refusal) placed) c.if-refusal-ne0.true c.refused.ensures
+    let placed = c.set_work-placed.ensures ∙ ap (set_work c.args.self.board c.args.s.slot c.args.s.k) c.setting_rule-rule.ensures in
+    refuses c.args.self _ (ap (λ (p : Placed). p.refusal) placed) c.if-refusal-ne0.true c.refused.ensures
 
 pub returns : goal.returns
 unfolding set_item
 returns c =
     let a = c.args in
-    let placed = c.set_work-placed.ensures ∙ ap (set_work a.self.board a.s.slot a.s.k) c.setting_rule-rule.ensures in
-    does a.self (ap (λ (p : Placed). p.refusal) placed) c.if-refusal-ne0.false
-    (ap (λ (p : Placed). record { text = s_line a.self.items a.s.slot p.steps; log = with_board a.self p.board }) placed)
-    (stores _ _ c.with_board.ensures c.put_s-next.ensures)
+    let placed = c.set_work-placed.ensures ∙ ap (set_work c.args.self.board c.args.s.slot c.args.s.k) c.setting_rule-rule.ensures in
+    does c.args.self (ap (λ (p : Placed). p.refusal) placed) c.if-refusal-ne0.false
+    (ap (λ (p : Placed). record { text = s_line c.args.self.items c.args.s.slot p.steps; log = with_board c.args.self p.board }) placed)
+    (stores _ _ c.with_board.ensures (c.put_s-next.ensures.value, c.put_s-next.ensures.buf_after))

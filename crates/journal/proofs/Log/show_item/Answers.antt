@@ -14,13 +14,13 @@ unfolding show_item
 returns-then-refusal-ne0 c =
     let a = c.args in
     let shown = c.read_work-shown.ensures in
-    refuses a.self _ (ap (λ (s : Shown). s.refusal) shown) c.if-refusal-ne0.true c.refused.ensures
+    refuses c.args.self _ (ap (λ (s : Shown). s.refusal) shown) c.if-refusal-ne0.true c.refused.ensures
 
 pub returns : goal.returns
 unfolding show_item
 returns c =
     let a = c.args in
     let shown = c.read_work-shown.ensures in
-    does a.self (ap (λ (s : Shown). s.refusal) shown) c.if-refusal-ne0.false
-    (ap (λ (s : Shown). record { text = q_line a.slot (take s.len (entries_of s.numbers s.scores)); log = a.self }) shown)
-    (stores a.self _ refl c.put_q-next.ensures)
+    does c.args.self (ap (λ (s : Shown). s.refusal) shown) c.if-refusal-ne0.false
+    (ap (λ (s : Shown). record { text = q_line c.args.slot (take s.len (entries_of s.numbers s.scores)); log = c.args.self }) shown)
+    (stores c.args.self _ refl (c.put_q-next.ensures.value, c.put_q-next.ensures.buf_after))

@@ -9,10 +9,10 @@ use Rattle.journal.proofs.Log.timed_item.Goals as goal
 pub returns-then-k-ge-SENDERS : goal.returns-then-k-ge-SENDERS
 returns-then-k-ge-SENDERS c =
     let a = c.args in
-    outcome_is (unheard a.self (timed_at a.time a.id a.data.now) c.if-k-ge-SENDERS.true c.frame_refusal.ensures) c.refused.ensures
+    outcome_is (unheard c.args.self (timed_at c.args.time c.args.id c.args.data.now) c.if-k-ge-SENDERS.true c.frame_refusal.ensures) c.refused.ensures
 
 pub returns : goal.returns
 returns c =
     let a = c.args in
-    outcome_is (heard_timed a.self a.id a.data.now c.if-k-ge-SENDERS.false a.time c.of-last.ensures c.frame-heard.ensures c.with_station.ensures)
+    outcome_is (heard_timed c.args.self c.args.id c.args.data.now c.if-k-ge-SENDERS.false c.args.time c.of-last.ensures c.frame-heard.ensures c.with_station.ensures)
     c.answer_item.ensures

@@ -12,12 +12,12 @@ unfolding window_item
 returns-then-refusal-ne0 c =
     let a = c.args in
     let made = c.fresh-made.ensures in
-    refuses a.self _ (ap (λ (b : NewBoard). b.refusal) made) c.if-refusal-ne0.true c.refused.ensures
+    refuses c.args.self _ (ap (λ (b : NewBoard). b.refusal) made) c.if-refusal-ne0.true c.refused.ensures
 
 pub returns : goal.returns
 unfolding window_item
 returns c =
     let a = c.args in
     let made = c.fresh-made.ensures in
-    does a.self (ap (λ (b : NewBoard). b.refusal) made) c.if-refusal-ne0.false (ap (λ (b : NewBoard). no_text (with_board a.self b.board)) made)
-    (silent a.out.now a.at _ (search rules) c.with_board.ensures)
+    does c.args.self (ap (λ (b : NewBoard). b.refusal) made) c.if-refusal-ne0.false (ap (λ (b : NewBoard). no_text (with_board c.args.self b.board)) made)
+    (silent c.args.out.now c.args.at _ (search rules) c.with_board.ensures)

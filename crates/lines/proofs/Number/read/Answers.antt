@@ -29,11 +29,11 @@ loop-i-smaller c = omega arith
 pub loop-i-preserved : goal.loop-i-preserved
 loop-i-preserved c =
     let a = c.args in
-    (omega arith, c.loop-i.invariant.1, rw c.with_digit-n.ensures (sym (number_more a.base a.most c.loop-i.n a.s.now c.loop-i.i (omega arith)) ∙ c.loop-i.invariant.2))
+    (omega arith, c.loop-i.invariant.1, rw c.with_digit-n.ensures (sym (number_more c.args.base c.args.most c.loop-i.n c.args.s.now c.loop-i.i (omega arith)) ∙ c.loop-i.invariant.2))
 
 pub returns : goal.returns
 unfolding number_in
 returns c =
     let a = c.args in
-    rw (ne_eqb (length a.s.now) 0 (λ e. omega (arith, c.loop-i.invariant.1, e)))
-    (sym (number-end a.base a.most c.loop-i.n a.s.now c.loop-i.i (omega arith)) ∙ c.loop-i.invariant.2)
+    rw (ne_eqb (length c.args.s.now) 0 (λ e. omega (arith, c.loop-i.invariant.1, e)))
+    (sym (number-end c.args.base c.args.most c.loop-i.n c.args.s.now c.loop-i.i (omega arith)) ∙ c.loop-i.invariant.2)

@@ -8,6 +8,8 @@ use Rattle.lines.specs.Words.{run_length}
 use Rattle.lines.proofs.Words.{run_more, run_stop, run_end}
 use borrow.Author.Rules.{rules}
 use native.Mathlib.Omega.{arith}
+use mathlib.Core.Path.{ap}
+use mathlib.Core.Bool.{not}
 use Rattle.lines.proofs.Run.length.Goals as goal
 
 pub loop-i-init : goal.loop-i-init
@@ -19,7 +21,7 @@ bounds-s-i c = omega arith
 pub returns-then-not-is_of_kind : goal.returns-then-not-is_of_kind
 returns-then-not-is_of_kind c =
     let a = c.args in
-    omega (arith, c.loop-i.invariant.1, run_stop a.self a.s.now c.loop-i.i (omega arith) (sym c.is_of_kind.ensures ∙ not-true _ c.if-not-is_of_kind.true))
+    omega (arith, c.loop-i.invariant.1, run_stop c.args.self c.args.s.now c.loop-i.i (omega arith) (sym c.is_of_kind.ensures ∙ not-true _ (ap not c.if-not-is_of_kind.true)))
 
 pub overflow_add-i : goal.overflow_add-i
 overflow_add-i c = omega arith
@@ -30,9 +32,9 @@ loop-i-smaller c = omega arith
 pub loop-i-preserved : goal.loop-i-preserved
 loop-i-preserved c =
     let a = c.args in
-    (omega arith, sym (run_more a.self a.s.now c.loop-i.i (omega arith) (sym c.is_of_kind.ensures ∙ not-false _ c.if-not-is_of_kind.false)) ∙ c.loop-i.invariant.1)
+    (omega arith, sym (run_more c.args.self c.args.s.now c.loop-i.i (omega arith) (sym c.is_of_kind.ensures ∙ not-false _ (ap not c.if-not-is_of_kind.false))) ∙ c.loop-i.invariant.1)
 
 pub returns : goal.returns
 returns c =
     let a = c.args in
-    omega (arith, c.loop-i.invariant.1, run_end a.self a.s.now c.loop-i.i (omega arith))
+    omega (arith, c.loop-i.invariant.1, run_end c.args.self c.args.s.now c.loop-i.i (omega arith))

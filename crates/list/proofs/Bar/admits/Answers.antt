@@ -18,16 +18,16 @@ line name score = record { name = name; score = score }
 pub returns-then-number-eq0 : goal.returns-then-number-eq0
 returns-then-number-eq0 c =
     let a = c.args in
-    sym (admits-none (above a.rule) a.self (line a.name a.score) (eq-eqb (a.name / 4097) 0 (sym c.number.ensures ∙ c.if-number-eq0.true)))
+    sym (admits-none (above c.args.rule) c.args.self (line c.args.name c.args.score) (eq-eqb (c.args.name / 4097) 0 (sym c.number.ensures ∙ c.if-number-eq0.true)))
 
 pub returns-then-self : goal.returns-then-self
 returns-then-self c =
     let a = c.args in
     c.above.ensures
-    ∙ ap₂ (λ s t. above a.rule (line a.name s) (line a.self.name t)) (to_z-of_z c.ranges.score) (kept w32 a.self.score c.struct_told-1.given.1.1.0.1)
-    ∙ sym (admits-full (above a.rule) a.self (line a.name a.score) (ne_eqb (a.name / 4097) 0 (λ e. c.if-number-eq0.false (c.number.ensures ∙ e))) c.if-self.true)
+    ∙ ap₂ (λ s t. above c.args.rule (line c.args.name s) (line c.args.self.name t)) (to_z-of_z c.ranges.score) (kept w32 c.args.self.score c.struct_told-1.given.1.1.0.1)
+    ∙ sym (admits-full (above c.args.rule) c.args.self (line c.args.name c.args.score) (ne_eqb (c.args.name / 4097) 0 (λ e. c.if-number-eq0.false (c.number.ensures ∙ e))) c.if-self.true)
 
 pub returns : goal.returns
 returns c =
     let a = c.args in
-    sym (admits_room (above a.rule) a.self (line a.name a.score) (ne_eqb (a.name / 4097) 0 (λ e. c.if-number-eq0.false (c.number.ensures ∙ e))) c.if-self.false)
+    sym (admits_room (above c.args.rule) c.args.self (line c.args.name c.args.score) (ne_eqb (c.args.name / 4097) 0 (λ e. c.if-number-eq0.false (c.number.ensures ∙ e))) c.if-self.false)

@@ -9,4 +9,4 @@ use Rattle.list.proofs.Lines.bar.Goals as goal
 pub returns : goal.returns
 returns c =
     let a = c.args in
-    c.bar_in.ensures ∙ ap (λ n. bar_at a.t1.names a.t1.scores n (eqb a.t1.len a.k)) c.line_count-n.ensures
+    c.bar_in.ensures ∙ ap (λ n. bar_at c.args.self.names c.args.self.scores n (eqb c.args.self.len c.args.k)) c.line_count-n.ensures

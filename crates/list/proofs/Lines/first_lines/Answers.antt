@@ -10,8 +10,8 @@ use Rattle.list.proofs.Lines.first_lines.Goals as goal
 pub returns : goal.returns
 returns c =
     let a = c.args in
-    let l = a.self in
-    let good = c.well-formed.0.1.1 in
-    let room = roomy_known l.names l.scores good.0.1.0.1 good.1.0.1.0.1 in
-    wiped-stored l.names l.scores room c.smaller-n.result (search rules) c.wipe.ensures.0 c.wipe.ensures.1
-    ∙ ap columns_of (cut_lines l room c.smaller-n.result a.m (c.smaller-n.ensures ∙ ap (min a.m) c.line_count.ensures))
+    let l = c.args.self in
+    let good = c.well_formed.0.1.1 in
+    let room = roomy_known c.args.self.names c.args.self.scores c.well_formed.0.1.1.0.1.0.1 c.well_formed.0.1.1.1.0.1.0.1 in
+    wiped-stored c.args.self.names c.args.self.scores room c.smaller-n.result (search rules) c.wipe.ensures.0 c.wipe.ensures.1
+    ∙ ap columns_of (cut_lines l room c.smaller-n.result c.args.m (c.smaller-n.ensures ∙ ap (min c.args.m) c.line_count.ensures))

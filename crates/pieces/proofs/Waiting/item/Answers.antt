@@ -14,5 +14,5 @@ unfolding value_in
 returns c =
     let a = c.args in
     let end = c.value_end-end.ensures ∙ ap value_end c.read16.ensures in
-    let value = c.behind_head.ensures ∙ ap (drop 3) (c.front.ensures ∙ ap (λ (n : ℕ). take n a.self.bytes) end) in
-    outcome_is (ap₂ (item_done a.log) c.byte-tag.ensures value) c.item.ensures
+    let value = c.behind_head.ensures ∙ ap (drop 3) (c.front.ensures ∙ ap (λ (n : ℕ). take n c.args.self.bytes) end) in
+    outcome_is (ap₂ (item_done c.args.log) c.byte-tag.ensures value) c.item.ensures

@@ -9,9 +9,9 @@ pub returns-then-step_refusal-eq-FINISHED : goal.returns-then-step_refusal-eq-FI
 returns-then-step_refusal-eq-FINISHED c =
     let a = c.args in
     ap (λ b. record { refusal = 0; question = b }) c.begun.ensures
-    ∙ begin_done a.window a.self c.step_refusal.result c.step_refusal.ensures c.if-step_refusal-eq-FINISHED.true
+    ∙ begin_done c.args.window c.args.self c.step_refusal.result c.step_refusal.ensures c.if-step_refusal-eq-FINISHED.true
 
 pub returns : goal.returns
 returns c =
     let a = c.args in
-    c.refused.ensures ∙ begin-refused a.window a.self c.step_refusal.result c.step_refusal.ensures c.if-step_refusal-eq-FINISHED.false
+    c.refused.ensures ∙ begin-refused c.args.window c.args.self c.step_refusal.result c.step_refusal.ensures c.if-step_refusal-eq-FINISHED.false

@@ -9,4 +9,4 @@ use Rattle.question.proofs.Question.begun.Goals as goal
 pub returns : goal.returns
 returns c =
     let q = c.args.self in
-    c.without_lines.ensures ∙ ap (asked q.k q.rule []) c.first_cell.ensures
+    c.without_lines.ensures ∙ ap (asked c.args.self.k c.args.self.rule []) c.first_cell.ensures

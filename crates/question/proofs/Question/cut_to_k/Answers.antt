@@ -11,4 +11,4 @@ pub returns : goal.returns
 returns c =
     let q = c.args.self in
     c.holding.ensures
-    ∙ ap (holding q) (c.first_lines.ensures ∙ ap (λ l. columns_of (take q.k (lines_in l))) c.list.ensures)
+    ∙ ap (holding q) (c.first_lines.ensures ∙ ap (λ l. columns_of (take c.args.self.k (lines_in l))) c.list.ensures)

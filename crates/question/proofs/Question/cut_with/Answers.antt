@@ -14,7 +14,7 @@ use Rattle.question.proofs.Question.cut_with.Goals as goal
 pub returns : goal.returns
 returns c =
     let a = c.args in
-    let q = a.self in
+    let q = c.args.self in
     c.placed_within.ensures
-    ∙ ap (λ s. with_list q (take (min q.k 16) (placed (above q.rule) (record { name = a.name; score = s }) (lines q)))) (to_z-of_z c.ranges.score)
-    ∙ within-joined q (record { name = a.name; score = a.score })
+    ∙ ap (λ s. with_list q (take (min c.args.self.k 16) (placed (above c.args.self.rule) (record { name = c.args.name; score = s }) (lines q)))) (to_z-of_z c.ranges.score)
+    ∙ within-joined q (record { name = c.args.name; score = c.args.score })

@@ -13,10 +13,10 @@ pub returns-then-cell_counts : goal.returns-then-cell_counts
 returns-then-cell_counts c =
     let a = c.args in
     c.is_past.ensures
-    ∙ sym (marked_past a.self a.cell (order_in a.self.rule a.cell c.ranges.cell.fits (sym c.cell_counts.ensures ∙ c.if-cell_counts.true)))
+    ∙ sym (marked_past c.args.self c.args.cell (order_in c.args.self.rule c.args.cell c.ranges.cell.fits (sym c.cell_counts.ensures ∙ c.if-cell_counts.true)))
 
 pub returns : goal.returns
 unfolding in_order
 returns c =
     let a = c.args in
-    sym (marked_out a.self a.cell (and_no (ltb a.cell 256) (sym c.cell_counts.ensures ∙ c.if-cell_counts.false)))
+    sym (marked_out c.args.self c.args.cell (and_no (ltb c.args.cell 256) (sym c.cell_counts.ensures ∙ c.if-cell_counts.false)))

@@ -22,10 +22,10 @@ loop-row-preserved c =
     let window = c.args.window in
     let inv = c.loop-row.invariant in (
       search rules,
-      inv.1,
+      c.loop-row.invariant.1,
       c.taking-list.ensures
-          ∙ ap (λ b. taking b (report_in window c.loop-row.row)) inv.2
-          ∙ taken_more c.ranked-list.result inv.1 window c.loop-row.row,
+          ∙ ap (λ b. taking b (report_in window c.loop-row.row)) c.loop-row.invariant.2
+          ∙ taken_more c.ranked-list.result c.loop-row.invariant.1 window c.loop-row.row,
     )
 
 pub returns : goal.returns

@@ -12,10 +12,10 @@ pub returns-then-next-eq-CELLS : goal.returns-then-next-eq-CELLS
 unfolding next_fits
 returns-then-next-eq-CELLS c =
     let q = c.args.self in
-    sym (ap (λ b. b || in_order q.rule q.next) (eq-eqb q.next 256 c.if-next-eq-CELLS.true))
+    sym (ap (λ b. b || in_order c.args.self.rule c.args.self.next) (eq-eqb c.args.self.next 256 c.if-next-eq-CELLS.true))
 
 pub returns : goal.returns
 unfolding next_fits
 returns c =
     let q = c.args.self in
-    c.in_order.ensures ∙ sym (ap (λ b. b || in_order q.rule q.next) (ne_eqb q.next 256 c.if-next-eq-CELLS.false))
+    c.in_order.ensures ∙ sym (ap (λ b. b || in_order c.args.self.rule c.args.self.next) (ne_eqb c.args.self.next 256 c.if-next-eq-CELLS.false))

@@ -15,7 +15,7 @@ pub returns : goal.returns
 returns c =
     let a = c.args in
     c.holding.ensures
-    ∙ ap (holding a.self)
+    ∙ ap (holding c.args.self)
     (c.placed.ensures
-    ∙ ap₂ (λ s l. columns_of (take (min a.most 16) (placed (above a.self.rule) (record { name = a.name; score = s }) (lines_in l)))) (to_z-of_z c.ranges.score)
+    ∙ ap₂ (λ s l. columns_of (take (min c.args.most 16) (placed (above c.args.self.rule) (record { name = c.args.name; score = s }) (lines_in l)))) (to_z-of_z c.ranges.score)
     c.list.ensures)

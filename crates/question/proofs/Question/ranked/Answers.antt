@@ -13,6 +13,6 @@ use Rattle.question.proofs.Question.ranked.Goals as goal
 pub returns : goal.returns
 returns c =
     let q = c.args.self in
-    let small : min q.k 16 ≡ q.k = omega (arith, c.requires) in
+    let small : min c.args.self.k 16 ≡ c.args.self.k = omega (arith, c.requires) in
     c.holding.ensures
-    ∙ ap (holding q) (c.best.ensures ∙ ap₂ (λ n l. columns_of (best (above q.rule) n (lines_in l))) small c.list.ensures)
+    ∙ ap (holding q) (c.best.ensures ∙ ap₂ (λ n l. columns_of (best (above c.args.self.rule) n (lines_in l))) small c.list.ensures)

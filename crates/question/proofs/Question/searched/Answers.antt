@@ -9,4 +9,4 @@ use Rattle.question.proofs.Question.searched.Goals as goal
 pub returns : goal.returns
 returns c =
     let a = c.args in
-    c.searched_in.ensures ∙ searched_rows a.self (rows_of a.t2.losses a.t2.shakes a.t2.names) 1024 refl ∙ searched_arrays a.self a.t2
+    c.searched_in.ensures ∙ searched_rows c.args.self (rows_of c.args.window.losses c.args.window.shakes c.args.window.names) 1024 refl ∙ searched_arrays c.args.self c.args.window

@@ -14,16 +14,16 @@ use Rattle.question.proofs.Question.searched_in.Goals as goal
 pub returns-then-self-gt-LINES : goal.returns-then-self-gt-LINES
 returns-then-self-gt-LINES c =
     let a = c.args in
-    sym (first_wide a.self (rows_of a.losses.now a.shakes.now a.names.now) c.if-self-gt-LINES.true (min a.rows 1024))
+    sym (first_wide c.args.self (rows_of c.args.losses.now c.args.shakes.now c.args.names.now) c.if-self-gt-LINES.true (min c.args.rows 1024))
 
 pub returns : goal.returns
 returns c =
     let a = c.args in
-    let w = rows_of a.losses.now a.shakes.now a.names.now in
-    let small : min a.self.k 16 ≡ a.self.k = omega (arith, c.if-self-gt-LINES.false) in
+    let w = rows_of c.args.losses.now c.args.shakes.now c.args.names.now in
+    let small : min c.args.self.k 16 ≡ c.args.self.k = omega (arith, c.if-self-gt-LINES.false) in
     c.ended.ensures
     ∙ ap ended_of
     (c.holding.ensures
-    ∙ ap (holding a.self) c.gathered-list.ensures
-    ∙ ap (λ k. with_list a.self (top a.self.rule k (standing w (min a.rows 1024)))) small)
-    ∙ first_small a.self w c.if-self-gt-LINES.false (min a.rows 1024)
+    ∙ ap (holding c.args.self) c.gathered-list.ensures
+    ∙ ap (λ k. with_list c.args.self (top c.args.self.rule k (standing w (min c.args.rows 1024)))) small)
+    ∙ first_small c.args.self w c.if-self-gt-LINES.false (min c.args.rows 1024)

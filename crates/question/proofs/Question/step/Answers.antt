@@ -8,10 +8,10 @@ use Rattle.question.proofs.Question.step.Goals as goal
 pub returns-then-refusal-ne0 : goal.returns-then-refusal-ne0
 returns-then-refusal-ne0 c =
     let a = c.args in
-    c.refused.ensures ∙ step-refused a.window a.self c.step_refusal-refusal.result c.step_refusal-refusal.ensures c.if-refusal-ne0.true
+    c.refused.ensures ∙ step-refused c.args.window c.args.self c.step_refusal-refusal.result c.step_refusal-refusal.ensures c.if-refusal-ne0.true
 
 pub returns : goal.returns
 returns c =
     let a = c.args in
     ap (λ b. record { refusal = 0; question = b }) c.stepped.ensures
-    ∙ step_done a.window a.self c.step_refusal-refusal.result c.step_refusal-refusal.ensures c.if-refusal-ne0.false
+    ∙ step_done c.args.window c.args.self c.step_refusal-refusal.result c.step_refusal-refusal.ensures c.if-refusal-ne0.false

@@ -18,7 +18,7 @@ use Rattle.question.proofs.Question.taking.Goals as goal
 pub returns-then-number-eq0 : goal.returns-then-number-eq0
 returns-then-number-eq0 c =
     let a = c.args in
-    sym (taking-none a.self (report_at a.row) (eq-eqb (number_at a.row) 0 (sym c.number.ensures ∙ c.if-number-eq0.true)))
+    sym (taking-none c.args.self (report_at c.args.row) (eq-eqb (number_at c.args.row) 0 (sym c.number.ensures ∙ c.if-number-eq0.true)))
 
 -- its cell
 pub returns-then-cell-next : goal.returns-then-cell-next
@@ -26,32 +26,32 @@ returns-then-cell-next c =
     let some : eqb (number_at c.args.row) 0 ≡ false = ne_eqb (number_at c.args.row) 0 (λ e. c.if-number-eq0.false (c.number.ensures ∙ e)) in
     let in_cell_lem : c.cell-cell.result ≡ cell (report_at c.args.row).values = c.cell-cell.ensures ∙ ap (λ v. cell (low v)) c.values-values.ensures in
     let a = c.args in
-    let r = report_at a.row in
+    let r = report_at c.args.row in
     sym
-    (taking_other a.self r (some)
-    (ne_eqb (cell r.values) a.self.next (λ e. c.if-cell-next.true (in_cell_lem ∙ e))))
+    (taking_other c.args.self r (some)
+    (ne_eqb (cell r.values) c.args.self.next (λ e. c.if-cell-next.true (in_cell_lem ∙ e))))
 
 pub returns-in-Scored : goal.returns-in-Scored
 returns-in-Scored c =
     let some : eqb (number_at c.args.row) 0 ≡ false = ne_eqb (number_at c.args.row) 0 (λ e. c.if-number-eq0.false (c.number.ensures ∙ e)) in
     let in_cell_lem : c.cell-cell.result ≡ cell (report_at c.args.row).values = c.cell-cell.ensures ∙ ap (λ v. cell (low v)) c.values-values.ensures in
     let a = c.args in
-    let r = report_at a.row in
+    let r = report_at c.args.row in
     let own = c.in-Scored.score in
-    let is = ap (λ v. score a.self.rule (low v)) (sym c.values-values.ensures) ∙ sym c.score.ensures ∙ c.in-Scored.is in
+    let is = ap (λ v. score c.args.self.rule (low v)) (sym c.values-values.ensures) ∙ sym c.score.ensures ∙ c.in-Scored.is in
     c.cut_with.ensures
-    ∙ ap₂ (λ n s. cut_with a.self (record { name = n; score = s })) (sym (name_back a.row.name)) (kept w32 own c.known_told-1.given.0.1 ∙ sym (ap points is))
+    ∙ ap₂ (λ n s. cut_with c.args.self (record { name = n; score = s })) (sym (name_back c.args.row.name)) (kept w32 own c.in-Scored.known_told-1-own.given.0.1 ∙ sym (ap points is))
     ∙ sym
-    (taking_here a.self r (some)
-    (eq-eqb (cell r.values) a.self.next (sym (in_cell_lem) ∙ c.if-cell-next.false)) (ap is_scored is))
+    (taking_here c.args.self r (some)
+    (eq-eqb (cell r.values) c.args.self.next (sym (in_cell_lem) ∙ c.if-cell-next.false)) (ap is_scored is))
 
 pub returns-in-DoesNotCount : goal.returns-in-DoesNotCount
 returns-in-DoesNotCount c =
     let some : eqb (number_at c.args.row) 0 ≡ false = ne_eqb (number_at c.args.row) 0 (λ e. c.if-number-eq0.false (c.number.ensures ∙ e)) in
     let in_cell_lem : c.cell-cell.result ≡ cell (report_at c.args.row).values = c.cell-cell.ensures ∙ ap (λ v. cell (low v)) c.values-values.ensures in
     let a = c.args in
-    let r = report_at a.row in
-    let is = ap (λ v. score a.self.rule (low v)) (sym c.values-values.ensures) ∙ sym c.score.ensures ∙ c.in-DoesNotCount.is in
+    let r = report_at c.args.row in
+    let is = ap (λ v. score c.args.self.rule (low v)) (sym c.values-values.ensures) ∙ sym c.score.ensures ∙ c.in-DoesNotCount.is in
     sym
-    (taking_out a.self r (some)
-    (eq-eqb (cell r.values) a.self.next (sym (in_cell_lem) ∙ c.if-cell-next.false)) (ap is_scored is))
+    (taking_out c.args.self r (some)
+    (eq-eqb (cell r.values) c.args.self.next (sym (in_cell_lem) ∙ c.if-cell-next.false)) (ap is_scored is))

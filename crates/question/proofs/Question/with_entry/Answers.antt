@@ -9,4 +9,4 @@ use Rattle.question.proofs.Question.with_entry.Goals as goal
 pub returns : goal.returns
 returns c =
     let a = c.args in
-    c.placed_within.ensures ∙ ap (λ s. with_entry a.self (record { name = a.name; score = s })) (to_z-of_z c.ranges.score)
+    c.placed_within.ensures ∙ ap (λ s. with_entry c.args.self (record { name = c.args.name; score = s })) (to_z-of_z c.ranges.score)

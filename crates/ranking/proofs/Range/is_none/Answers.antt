@@ -9,10 +9,10 @@ use Rattle.ranking.proofs.Range.is_none.Goals as goal
 pub returns-then-self-eq0 : goal.returns-then-self-eq0
 returns-then-self-eq0 c =
     let range = c.args.self in
-    sym (and_after (eqb range.high 0) (eq-eqb range.low 0 c.if-self-eq0.true))
+    sym (and_after (eqb c.args.self.high 0) (eq-eqb c.args.self.low 0 c.if-self-eq0.true))
 
 pub returns-else-self-eq0 : goal.returns-else-self-eq0
 returns-else-self-eq0 c =
     let range = c.args.self in
-    let other = ne_eqb range.low 0 c.if-self-eq0.false in
-    other ∙ sym (and_stops (eqb range.high 0) other)
+    let other = ne_eqb c.args.self.low 0 c.if-self-eq0.false in
+    other ∙ sym (and_stops (eqb c.args.self.high 0) other)

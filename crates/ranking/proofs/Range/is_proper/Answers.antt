@@ -9,10 +9,10 @@ use Rattle.ranking.proofs.Range.is_proper.Goals as goal
 pub returns-then-self : goal.returns-then-self
 returns-then-self c =
     let range = c.args.self in
-    sym (and_after (leb range.high 4095) (le-leb range.low range.high c.if-self.true))
+    sym (and_after (leb c.args.self.high 4095) (le-leb c.args.self.low c.args.self.high c.if-self.true))
 
 pub returns-else-self : goal.returns-else-self
 returns-else-self c =
     let range = c.args.self in
-    let over = lt-leb range.low range.high c.if-self.false in
-    over ∙ sym (and_stops (leb range.high 4095) over)
+    let over = lt-leb c.args.self.low c.args.self.high c.if-self.false in
+    over ∙ sym (and_stops (leb c.args.self.high 4095) over)

@@ -22,19 +22,19 @@ pub returns-then-self : goal.returns-then-self
 unfolding stripes_of
 returns-then-self c =
     let range = c.args.self in
-    sym (if_not (some range) none (and_stops (leb range.low 4095) (lt-leb range.low range.high c.if-self.true)))
+    sym (if_not (some range) none (and_stops (leb c.args.self.low 4095) (lt-leb c.args.self.low c.args.self.high c.if-self.true)))
 
 pub returns-then-self-gt-LARGEST : goal.returns-then-self-gt-LARGEST
 unfolding stripes_of
 returns-then-self-gt-LARGEST c =
     let range = c.args.self in
-    sym (if_not (some range) none (and_no (leb range.low range.high) (lt-leb range.low 4095 c.if-self-gt-LARGEST.true)))
+    sym (if_not (some range) none (and_no (leb c.args.self.low c.args.self.high) (lt-leb c.args.self.low 4095 c.if-self-gt-LARGEST.true)))
 
 pub returns : goal.returns
 unfolding stripes_of
 returns c =
     let range = c.args.self in
-    ap (λ n. record { first = range.low / side; end = n + 1 }) c.smaller.ensures
+    ap (λ n. record { first = c.args.self.low / side; end = n + 1 }) c.smaller.ensures
     ∙ sym
     (if_so (some range) none
-    (and_true (le-leb range.low range.high c.if-self.false) (le-leb range.low 4095 c.if-self-gt-LARGEST.false)))
+    (and_true (le-leb c.args.self.low c.args.self.high c.if-self.false) (le-leb c.args.self.low 4095 c.if-self-gt-LARGEST.false)))

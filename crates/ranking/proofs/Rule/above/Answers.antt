@@ -10,12 +10,12 @@ use Rattle.ranking.proofs.Rule.above.Goals as goal
 pub returns-then-other_score-score : goal.returns-then-other_score-score
 returns-then-other_score-score c =
     let x = c.ranges in
-    sym (score-above c.args.self _ _ (sym (less_kept x.other-score x.score) ∙ c.if-other_score-score.true))
+    sym (score-above c.args.self _ _ (sym (less_kept c.ranges.other_score c.ranges.score) ∙ c.if-other_score-score.true))
 
 pub returns-then-score-other_score : goal.returns-then-score-other_score
 returns-then-score-other_score c =
     let x = c.ranges in
-    sym (score_below c.args.self _ _ (sym (less_kept x.score x.other-score) ∙ c.if-score-other_score.true))
+    sym (score_below c.args.self _ _ (sym (less_kept c.ranges.score c.ranges.other_score) ∙ c.if-score-other_score.true))
 
 pub returns : goal.returns
 returns c =
@@ -23,4 +23,4 @@ returns c =
     c.goes_first.ensures
     ∙ sym
     (score_tie c.args.self _ _
-    (lt_z_strict.total c.args.score c.args.other-score (sym (less_kept x.score x.other-score) ∙ c.if-score-other_score.false) (sym (less_kept x.other-score x.score) ∙ c.if-other_score-score.false)))
+    (lt_z_strict.total c.args.score c.args.other_score (sym (less_kept c.ranges.score c.ranges.other_score) ∙ c.if-score-other_score.false) (sym (less_kept c.ranges.other_score c.ranges.score) ∙ c.if-other_score-score.false)))

@@ -23,12 +23,12 @@ loop-column-preserved c =
     let parts = c.loop-column.parts in
     let n = c.loop-column.column in
     let inv = c.loop-column.invariant in
-    let v = kept w32 c.loss_part.result c.loss_part.type-inv ∙ c.loss_part.ensures.0 in (
+    let v = kept w32 c.loss_part.result c.loss_part.type_inv ∙ c.loss_part.ensures.0 in (
       omega arith,
-      length-set parts n _ ∙ inv.1,
+      length-set parts n _ ∙ c.loop-column.invariant.1,
       below_more (λ i. get_or (set parts n (to_z w32 (of_z w32 c.loss_part.result))) i (pos 0) ≡ loss_part rule i) n
-          (λ i h. get_or-set_other parts n i _ (pos 0) (λ e. absurd (omega arith)) ∙ inv.2 i h)
-          (get_or-set_same parts n _ (pos 0) (omega (arith, inv.1)) ∙ v),
+          (λ i h. get_or-set_other parts n i _ (pos 0) (λ e. absurd (omega arith)) ∙ c.loop-column.invariant.2 i h)
+          (get_or-set_same parts n _ (pos 0) (omega (arith, c.loop-column.invariant.1)) ∙ v),
       λ h. c.loss_part.ensures.1,
     )
 

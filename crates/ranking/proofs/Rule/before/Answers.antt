@@ -13,6 +13,6 @@ unfolding before
 returns c =
     let args = c.args in
     c.greater.ensures
-    ∙ ap₂ (λ x y. greater x y (ltb args.c args.d))
-    (kept w32 c.best_score.result c.best_score.type-inv ∙ c.best_score.ensures)
-    (kept w32 c.best_score-2.result c.best_score-2.type-inv ∙ c.best_score-2.ensures)
+    ∙ ap₂ (λ x y. greater x y (ltb c.args.c c.args.d))
+    (kept w32 c.best_score.result c.best_score.type_inv ∙ c.best_score.ensures)
+    (kept w32 c.best_score-2.result c.best_score-2.type_inv ∙ c.best_score-2.ensures)

@@ -12,10 +12,10 @@ unfolding cell_counts
 returns-then-meets c =
     let a = c.args in
     c.meets-then-meets.ensures
-    ∙ sym (and_after (meets a.self.ranges.shake (a.cell / 16)) (sym c.meets.ensures ∙ c.if-meets.true))
+    ∙ sym (and_after (meets c.args.self.ranges.shake (c.args.cell / 16)) (sym c.meets.ensures ∙ c.if-meets.true))
 
 pub returns : goal.returns
 unfolding cell_counts
 returns c =
     let a = c.args in
-    sym (and_stops (meets a.self.ranges.shake (a.cell / 16)) (sym c.meets.ensures ∙ c.if-meets.false))
+    sym (and_stops (meets c.args.self.ranges.shake (c.args.cell / 16)) (sym c.meets.ensures ∙ c.if-meets.false))

@@ -10,9 +10,9 @@ pub returns-then-cell_counts : goal.returns-then-cell_counts
 returns-then-cell_counts c =
     let a = c.args in
     c.before-then-cell_counts.ensures
-    ∙ sym (and_after (before a.self a.c a.d) (sym c.cell_counts.ensures ∙ c.if-cell_counts.true))
+    ∙ sym (and_after (before c.args.self c.args.c c.args.d) (sym c.cell_counts.ensures ∙ c.if-cell_counts.true))
 
 pub returns : goal.returns
 returns c =
     let a = c.args in
-    sym (and_stops (before a.self a.c a.d) (sym c.cell_counts.ensures ∙ c.if-cell_counts.false))
+    sym (and_stops (before c.args.self c.args.c c.args.d) (sym c.cell_counts.ensures ∙ c.if-cell_counts.false))

@@ -14,12 +14,12 @@ pub returns-then-has-2 : goal.returns-then-has-2
 unfolding counts
 returns-then-has-2 c =
     let a = c.args in
-    let weight = kept w16 a.self.weights.heat c.struct_told-1.given.1.1.0.1 in
-    let edition = low_edition a.values.edition in
+    let weight = kept w16 c.args.self.weights.heat c.struct_told-1.given.1.1.0.1 in
+    let edition = low_edition c.args.values.edition in
     c.heat_counts.ensures
     ∙ ap (λ z. heat_counts z edition) weight
     ∙ sym
-    (and_after (heat_counts a.self.weights.heat edition)
+    (and_after (heat_counts c.args.self.weights.heat edition)
     (and_true (sym c.has.ensures ∙ c.if-has.true) (sym c.has-then-has.ensures ∙ c.if-has-2.true)))
 
 pub returns-else-has-2 : goal.returns-else-has-2
@@ -27,8 +27,8 @@ unfolding counts
 returns-else-has-2 c =
     let a = c.args in
     sym
-    (and_stops (heat_counts a.self.weights.heat (low_edition a.values.edition))
-    (and_after (inside a.self.ranges.shake (a.values.shake % 4096)) (sym c.has.ensures ∙ c.if-has.true)
+    (and_stops (heat_counts c.args.self.weights.heat (low_edition c.args.values.edition))
+    (and_after (inside c.args.self.ranges.shake (c.args.values.shake % 4096)) (sym c.has.ensures ∙ c.if-has.true)
     ∙ sym c.has-then-has.ensures
     ∙ c.if-has-2.false))
 
@@ -37,5 +37,5 @@ unfolding counts
 returns-else-has c =
     let a = c.args in
     sym
-    (and_stops (heat_counts a.self.weights.heat (low_edition a.values.edition))
-    (and_stops (inside a.self.ranges.shake (a.values.shake % 4096)) (sym c.has.ensures ∙ c.if-has.false)))
+    (and_stops (heat_counts c.args.self.weights.heat (low_edition c.args.values.edition))
+    (and_stops (inside c.args.self.ranges.shake (c.args.values.shake % 4096)) (sym c.has.ensures ∙ c.if-has.false)))

@@ -11,10 +11,10 @@ pub returns-then-cell-lt-CELLS : goal.returns-then-cell-lt-CELLS
 unfolding in_order
 returns-then-cell-lt-CELLS c =
     let a = c.args in
-    c.cell_counts.ensures ∙ sym (and_after (cell_counts a.self a.cell) (lt-ltb a.cell 256 c.if-cell-lt-CELLS.true))
+    c.cell_counts.ensures ∙ sym (and_after (cell_counts c.args.self c.args.cell) (lt-ltb c.args.cell 256 c.if-cell-lt-CELLS.true))
 
 pub returns : goal.returns
 unfolding in_order
 returns c =
     let a = c.args in
-    sym (and_stops (cell_counts a.self a.cell) (le-ltb a.cell 256 c.if-cell-lt-CELLS.false))
+    sym (and_stops (cell_counts c.args.self c.args.cell) (le-ltb c.args.cell 256 c.if-cell-lt-CELLS.false))

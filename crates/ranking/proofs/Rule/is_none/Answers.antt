@@ -14,7 +14,7 @@ returns-then-later_first c =
     let rule = c.args.self in
     let weights = sym c.is_none.ensures ∙ c.if-is_none.true in
     let ties = sym c.later_first.ensures ∙ c.if-later_first.true in
-    c.is_none-then-later_first.ensures ∙ sym (and_after (is_no_range rule.ranges.loss && is_no_range rule.ranges.shake) (and_true weights ties))
+    c.is_none-then-later_first.ensures ∙ sym (and_after (is_no_range c.args.self.ranges.loss && is_no_range c.args.self.ranges.shake) (and_true weights ties))
 
 pub returns-else-later_first : goal.returns-else-later_first
 unfolding is_none
@@ -22,11 +22,11 @@ returns-else-later_first c =
     let rule = c.args.self in
     let weights = sym c.is_none.ensures ∙ c.if-is_none.true in
     let ties = sym c.later_first.ensures ∙ c.if-later_first.false in
-    sym (and_stops (is_no_range rule.ranges.loss && is_no_range rule.ranges.shake) (and_after (eqb rule.ties 0) weights ∙ ties))
+    sym (and_stops (is_no_range c.args.self.ranges.loss && is_no_range c.args.self.ranges.shake) (and_after (eqb c.args.self.ties 0) weights ∙ ties))
 
 pub returns-else-is_none : goal.returns-else-is_none
 unfolding is_none
 returns-else-is_none c =
     let rule = c.args.self in
     let weights = sym c.is_none.ensures ∙ c.if-is_none.false in
-    sym (and_stops (is_no_range rule.ranges.loss && is_no_range rule.ranges.shake) (and_stops (eqb rule.ties 0) weights))
+    sym (and_stops (is_no_range c.args.self.ranges.loss && is_no_range c.args.self.ranges.shake) (and_stops (eqb c.args.self.ties 0) weights))

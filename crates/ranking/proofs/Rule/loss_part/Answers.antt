@@ -13,8 +13,8 @@ unfolding loss_part
 returns c =
     let rule = c.args.self in
     let told = c.struct_told-1.given in (
-      kept w32 c.weighted.result c.weighted.ok
+      kept w32 c.weighted.result c.weighted.type_inv
           ∙ c.weighted.ensures
-          ∙ part_read rule.ranges.loss c.args.column c.requires (kept w16 rule.weights.loss told.0.1) c.corner.ensures,
-      record { loss = record { sfits = told.0.1 }; shake = record { sfits = told.1.0.1 }; heat = record { sfits = told.1.1.0.1 } },
+          ∙ part_read c.args.self.ranges.loss c.args.column c.requires (kept w16 c.args.self.weights.loss c.struct_told-1.given.0.1) c.corner.ensures,
+      record { loss = record { sfits = c.struct_told-1.given.0.1 }; shake = record { sfits = c.struct_told-1.given.1.0.1 }; heat = record { sfits = c.struct_told-1.given.1.1.0.1 } },
     )

@@ -11,7 +11,7 @@ pub returns-then-leads-2 : goal.returns-then-leads-2
 returns-then-leads-2 c =
     let a = c.args in
     sym
-    (nearer_yes a.self a.from a.found a.d
+    (nearer_yes c.args.self c.args.from c.args.found c.args.d
     (and_true (sym c.cell_counts.ensures ∙ c.if-cell_counts.true) (sym c.leads.ensures ∙ c.if-leads.true))
     (sym c.leads-then-leads.ensures ∙ c.if-leads-2.true))
 
@@ -19,8 +19,8 @@ pub returns-else-leads-2 : goal.returns-else-leads-2
 returns-else-leads-2 c =
     let a = c.args in
     sym
-    (nearer_no a.self a.from a.found a.d
-    (and_after (leads a.self a.d a.found)
+    (nearer_no c.args.self c.args.from c.args.found c.args.d
+    (and_after (leads c.args.self c.args.d c.args.found)
     (and_true (sym c.cell_counts.ensures ∙ c.if-cell_counts.true) (sym c.leads.ensures ∙ c.if-leads.true))
     ∙ sym c.leads-then-leads.ensures
     ∙ c.if-leads-2.false))
@@ -29,13 +29,13 @@ pub returns-else-leads : goal.returns-else-leads
 returns-else-leads c =
     let a = c.args in
     sym
-    (nearer_no a.self a.from a.found a.d
-    (and_stops (leads a.self a.d a.found)
-    (and_after (leads a.self a.from a.d) (sym c.cell_counts.ensures ∙ c.if-cell_counts.true) ∙ sym c.leads.ensures ∙ c.if-leads.false)))
+    (nearer_no c.args.self c.args.from c.args.found c.args.d
+    (and_stops (leads c.args.self c.args.d c.args.found)
+    (and_after (leads c.args.self c.args.from c.args.d) (sym c.cell_counts.ensures ∙ c.if-cell_counts.true) ∙ sym c.leads.ensures ∙ c.if-leads.false)))
 
 pub returns-else-cell_counts : goal.returns-else-cell_counts
 returns-else-cell_counts c =
     let a = c.args in
     sym
-    (nearer_no a.self a.from a.found a.d
-    (and_stops (leads a.self a.d a.found) (and_stops (leads a.self a.from a.d) (sym c.cell_counts.ensures ∙ c.if-cell_counts.false))))
+    (nearer_no c.args.self c.args.from c.args.found c.args.d
+    (and_stops (leads c.args.self c.args.d c.args.found) (and_stops (leads c.args.self c.args.from c.args.d) (sym c.cell_counts.ensures ∙ c.if-cell_counts.false))))

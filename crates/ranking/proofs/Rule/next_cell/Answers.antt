@@ -13,7 +13,7 @@ pub seek-requires : goal.seek-requires
 seek-requires c =
     λ h.
     let a = c.args in
-    (in_order_lem a.self a.cell (sym c.in_order.ensures ∙ c.if-in_order.true)).1
+    (in_order_lem c.args.self c.args.cell (sym c.in_order.ensures ∙ c.if-in_order.true)).1
 
 pub returns-then-in_order : goal.returns-then-in_order
 unfolding cell_after
@@ -21,11 +21,11 @@ returns-then-in_order c =
     let a = c.args in
     let there = sym c.in_order.ensures ∙ c.if-in_order.true in
     c.seek.ensures
-    ∙ ap (cell_at a.self) (place_after_lem a.self a.cell (in_order_lem a.self a.cell there).0)
-    ∙ sym (if_so (cell_at a.self (place_of a.self a.cell + 1)) 256 there)
+    ∙ ap (cell_at c.args.self) (place_after_lem c.args.self c.args.cell (in_order_lem c.args.self c.args.cell there).0)
+    ∙ sym (if_so (cell_at c.args.self (place_of c.args.self c.args.cell + 1)) 256 there)
 
 pub returns : goal.returns
 unfolding cell_after
 returns c =
     let a = c.args in
-    sym (if_not (cell_at a.self (place_of a.self a.cell + 1)) 256 (sym c.in_order.ensures ∙ c.if-in_order.false))
+    sym (if_not (cell_at c.args.self (place_of c.args.self c.args.cell + 1)) 256 (sym c.in_order.ensures ∙ c.if-in_order.false))

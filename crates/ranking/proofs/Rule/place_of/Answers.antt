@@ -31,7 +31,7 @@ loop-d-smaller c = omega arith
 pub loop-d-preserved : goal.loop-d-preserved
 loop-d-preserved c =
     let a = c.args in
-    let p : ℕ → Bool = λ e. cell_counts a.self e && before a.self e a.cell in
+    let p : ℕ → Bool = λ e. cell_counts c.args.self e && before c.args.self e c.args.cell in
     ⊎_elim
     (λ w. (
       omega arith,
@@ -51,4 +51,4 @@ pub returns : goal.returns
 returns c =
     let a = c.args in
     let all : c.loop-d.d ≡ 256 = omega arith in
-    subst (λ d. c.loop-d.n ≡ length (only (λ e. cell_counts a.self e && before a.self e a.cell) (numbers_below d []))) all c.loop-d.invariant.2
+    subst (λ d. c.loop-d.n ≡ length (only (λ e. cell_counts c.args.self e && before c.args.self e c.args.cell) (numbers_below d []))) all c.loop-d.invariant.2

@@ -11,11 +11,11 @@ unfolding ranges_proper
 returns-then-is_proper c =
     let rule = c.args.self in
     c.is_proper-then-is_proper.ensures
-    ∙ sym (and_after (is_proper rule.ranges.shake) (sym c.is_proper.ensures ∙ c.if-is_proper.true))
+    ∙ sym (and_after (is_proper c.args.self.ranges.shake) (sym c.is_proper.ensures ∙ c.if-is_proper.true))
 
 pub returns-else-is_proper : goal.returns-else-is_proper
 unfolding ranges_proper
 returns-else-is_proper c =
     let rule = c.args.self in
     c.if-is_proper.false
-    ∙ sym (and_stops (is_proper rule.ranges.shake) (sym c.is_proper.ensures ∙ c.if-is_proper.false))
+    ∙ sym (and_stops (is_proper c.args.self.ranges.shake) (sym c.is_proper.ensures ∙ c.if-is_proper.false))

@@ -11,7 +11,7 @@ use Rattle.ranking.proofs.Reaching.{Met, met-none, met_row_lem, met_all, modest}
 use Rattle.ranking.proofs.Rule.reach.Given as goal
 
 abbrev pub invariant-loop-row : goal.invariant-loop-row
-invariant-loop-row l = (l.row ≤ 16) × Across l.self l.across × Met l.self (to_z w32 l.score) (16 * l.row) l.sought
+invariant-loop-row l = (l.row ≤ 16) × Across l.self l.across × Met l.self l.score (16 * l.row) l.sought
 
 abbrev pub decreases-loop-row : goal.decreases-loop-row
 decreases-loop-row l = 16 - l.row

@@ -17,10 +17,10 @@ overflow_add-result c =
     let is : to_z w32 (of_z w32 c.weighted.result) +ℤ to_z w32 (of_z w32 c.best_heat.result) ≡ row_part c.args.self c.args.row = let rule = c.args.self in
     let told = c.struct_told-1.given in
     ap₂ (λ x y. x +ℤ y)
-    (kept w32 c.weighted.result c.weighted.ok
+    (kept w32 c.weighted.result c.weighted.type_inv
     ∙ c.weighted.ensures
     ∙ part_read rule.ranges.shake c.args.row c.requires (kept w16 rule.weights.shake told.1.0.1) c.corner.ensures)
-    (kept w32 c.best_heat.result c.best_heat.ok ∙ c.best_heat.ensures ∙ ap heat_part (kept w16 rule.weights.heat told.1.1.0.1)) in
+    (kept w32 c.best_heat.result c.best_heat.type_inv ∙ c.best_heat.ensures ∙ ap heat_part (kept w16 rule.weights.heat told.1.1.0.1)) in
     let fits : SFits w32 (row_part c.args.self c.args.row) = let told = c.struct_told-1.given in
     row_word c.args.self (record { loss = record { sfits = told.0.1 }; shake = record { sfits = told.1.0.1 }; heat = record { sfits = told.1.1.0.1 } }) c.args.row c.requires in
     rw (is) (fits)
@@ -31,10 +31,10 @@ returns c =
     let is : to_z w32 (of_z w32 c.weighted.result) +ℤ to_z w32 (of_z w32 c.best_heat.result) ≡ row_part c.args.self c.args.row = let rule = c.args.self in
     let told = c.struct_told-1.given in
     ap₂ (λ x y. x +ℤ y)
-    (kept w32 c.weighted.result c.weighted.ok
+    (kept w32 c.weighted.result c.weighted.type_inv
     ∙ c.weighted.ensures
     ∙ part_read rule.ranges.shake c.args.row c.requires (kept w16 rule.weights.shake told.1.0.1) c.corner.ensures)
-    (kept w32 c.best_heat.result c.best_heat.ok ∙ c.best_heat.ensures ∙ ap heat_part (kept w16 rule.weights.heat told.1.1.0.1)) in
+    (kept w32 c.best_heat.result c.best_heat.type_inv ∙ c.best_heat.ensures ∙ ap heat_part (kept w16 rule.weights.heat told.1.1.0.1)) in
     let fits : SFits w32 (row_part c.args.self c.args.row) = let told = c.struct_told-1.given in
     row_word c.args.self (record { loss = record { sfits = told.0.1 }; shake = record { sfits = told.1.0.1 }; heat = record { sfits = told.1.1.0.1 } }) c.args.row c.requires in
     rw (is) (to_z-of_z (fits))

@@ -17,11 +17,11 @@ pub returns-then-best-score : goal.returns-then-best-score
 returns-then-best-score c =
     let a = c.args in
     let cell = c.row_first-cell.result in
-    let best = kept w32 c.best_score-best.result c.best_score-best.type-inv ∙ c.best_score-best.ensures in
+    let best = kept w32 c.best_score-best.result c.best_score-best.type_inv ∙ c.best_score-best.ensures in
     let asked = to_z-of_z c.ranges.score in
     c.met.ensures
-    ∙ ap₂ (λ x y. met a.sought cell x y) best asked
-    ∙ sym (row_first a.self a.score a.sought a.row cell (c.row_first-cell.ensures (search rules)) (sym (ap₂ lt_z best asked) ∙ c.if-best-score.true))
+    ∙ ap₂ (λ x y. met c.args.sought cell x y) best asked
+    ∙ sym (row_first c.args.self c.args.score c.args.sought c.args.row cell (c.row_first-cell.ensures (search rules)) (sym (ap₂ lt_z best asked) ∙ c.if-best-score.true))
 
 pub row_met-requires : goal.row_met-requires
 row_met-requires c = c.requires
@@ -29,4 +29,4 @@ row_met-requires c = c.requires
 pub returns : goal.returns
 returns c =
     let a = c.args in
-    c.row_met.ensures ∙ ap (λ s. met_row a.self s a.sought a.row 16) (to_z-of_z c.ranges.score)
+    c.row_met.ensures ∙ ap (λ s. met_row c.args.self s c.args.sought c.args.row 16) (to_z-of_z c.ranges.score)

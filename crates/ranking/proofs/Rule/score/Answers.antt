@@ -12,10 +12,10 @@ use Rattle.ranking.proofs.Rule.score.Goals as goal
 pub returns-then-counts : goal.returns-then-counts
 returns-then-counts c =
     let a = c.args in
-    ap Scored (kept w32 c.sum.result c.sum.type-inv ∙ c.sum.ensures)
-    ∙ sym (score-counted a.self (low a.values) (sym c.counts.ensures ∙ c.if-counts.true))
+    ap Scored (kept w32 c.sum.result c.sum.type_inv ∙ c.sum.ensures)
+    ∙ sym (score-counted c.args.self (low c.args.values) (sym c.counts.ensures ∙ c.if-counts.true))
 
 pub returns : goal.returns
 returns c =
     let a = c.args in
-    sym (score_out a.self (low a.values) (sym c.counts.ensures ∙ c.if-counts.false))
+    sym (score_out c.args.self (low c.args.values) (sym c.counts.ensures ∙ c.if-counts.false))

@@ -22,12 +22,12 @@ pub returns-then-most-least : goal.returns-then-most-least
 returns-then-most-least c =
     let own_in : in_range ((low (values_named c.args.loss c.args.shake c.args.name))) ≡ true = low_in (values_named c.args.loss c.args.shake c.args.name) in
     let fits : ScoreFits (c.args.self) ((low (values_named c.args.loss c.args.shake c.args.name))) = points-fit (c.args.self) ((low (values_named c.args.loss c.args.shake c.args.name))) (word_fits (c.args.self) ((low (values_named c.args.loss c.args.shake c.args.name))) c.most.ensures.1 (own_in)) in
-    let low = ap₂ lt_z (kept w32 c.most.result c.most.type-inv ∙ c.most.ensures.0) (to_z-of_z c.ranges.least) in
+    let low = ap₂ lt_z (kept w32 c.most.result c.most.type_inv ∙ c.most.ensures.0) (to_z-of_z c.ranges.least) in
     (sym (from_hottest (c.args.self) ((low (values_named c.args.loss c.args.shake c.args.name))) c.args.least (own_in) (sym low ∙ c.if-most-least.true)), fits)
 
 pub returns-then-sum-least : goal.returns-then-sum-least
 returns-then-sum-least c =
-    let is : to_z w32 (of_z w32 c.sum-sum.result) ≡ sum (c.args.self) ((low (record { loss = c.args.loss; shake = c.args.shake; edition = c.edition_in.result }))) = kept w32 c.sum-sum.result c.sum-sum.type-inv ∙ c.sum-sum.ensures in
+    let is : to_z w32 (of_z w32 c.sum-sum.result) ≡ sum (c.args.self) ((low (record { loss = c.args.loss; shake = c.args.shake; edition = c.edition_in.result }))) = kept w32 c.sum-sum.result c.sum-sum.type_inv ∙ c.sum-sum.ensures in
     let below : lt_z (to_z w32 (of_z w32 c.sum-sum.result)) (to_z w32 (of_z w32 (c.args.least))) ≡ lt_z (sum (c.args.self) ((low (record { loss = c.args.loss; shake = c.args.shake; edition = c.edition_in.result })))) (c.args.least) = ap₂ lt_z (is) (to_z-of_z c.ranges.least) in
     let same : from_least (c.args.least) (score (c.args.self) ((low (record { loss = c.args.loss; shake = c.args.shake; edition = c.edition_in.result })))) ≡ from_least (c.args.least) (score (c.args.self) ((low (values_named c.args.loss c.args.shake c.args.name)))) = let a = c.args in
     ap (from_least (c.args.least))
@@ -39,7 +39,7 @@ returns-then-sum-least c =
 
 pub returns-then-counts : goal.returns-then-counts
 returns-then-counts c =
-    let is : to_z w32 (of_z w32 c.sum-sum.result) ≡ sum (c.args.self) ((low (record { loss = c.args.loss; shake = c.args.shake; edition = c.edition_in.result }))) = kept w32 c.sum-sum.result c.sum-sum.type-inv ∙ c.sum-sum.ensures in
+    let is : to_z w32 (of_z w32 c.sum-sum.result) ≡ sum (c.args.self) ((low (record { loss = c.args.loss; shake = c.args.shake; edition = c.edition_in.result }))) = kept w32 c.sum-sum.result c.sum-sum.type_inv ∙ c.sum-sum.ensures in
     let below : lt_z (to_z w32 (of_z w32 c.sum-sum.result)) (to_z w32 (of_z w32 (c.args.least))) ≡ lt_z (sum (c.args.self) ((low (record { loss = c.args.loss; shake = c.args.shake; edition = c.edition_in.result })))) (c.args.least) = ap₂ lt_z (is) (to_z-of_z c.ranges.least) in
     let same : from_least (c.args.least) (score (c.args.self) ((low (record { loss = c.args.loss; shake = c.args.shake; edition = c.edition_in.result })))) ≡ from_least (c.args.least) (score (c.args.self) ((low (values_named c.args.loss c.args.shake c.args.name)))) = let a = c.args in
     ap (from_least (c.args.least))

@@ -22,12 +22,12 @@ loop-d-preserved c =
     let a = c.args in
     let cell : c.loop-d.d < 256 = omega arith in (
       omega arith,
-      subst (Scanned a.self (follows a.self a.from) (c.loop-d.d + 1)) (sym c.nearer-found.ensures)
-          (scanned_more a.self a.from c.loop-d.found c.loop-d.d cell c.loop-d.invariant.1),
+      subst (Scanned c.args.self (follows c.args.self c.args.from) (c.loop-d.d + 1)) (sym c.nearer-found.ensures)
+          (scanned_more c.args.self c.args.from c.loop-d.found c.loop-d.d cell c.loop-d.invariant.1),
     )
 
 pub returns : goal.returns
 returns c =
     let a = c.args in
     let all : c.loop-d.d ≡ 256 = omega arith in
-    scanned_all a.self a.from c.loop-d.found c.requires (subst (λ d. Scanned a.self (follows a.self a.from) d c.loop-d.found) all c.loop-d.invariant.1)
+    scanned_all c.args.self c.args.from c.loop-d.found c.requires (subst (λ d. Scanned c.args.self (follows c.args.self c.args.from) d c.loop-d.found) all c.loop-d.invariant.1)

@@ -9,4 +9,4 @@ use Rattle.ranking.proofs.Rule.sum.Goals as goal
 
 pub returns : goal.returns
 unfolding sum
-returns c = kept w32 c.sum.result c.sum.type-inv ∙ c.sum.ensures
+returns c = kept w32 c.sum.result c.sum.type_inv ∙ c.sum.ensures

@@ -13,24 +13,24 @@ unfolding weights_fit
 returns-then-weight_fits-2 c =
     let rule = c.args.self in
     let told = c.struct_told-1.given in
-    let loss = sym (c.weight_fits.ensures ∙ ap weight_fits (kept w16 rule.weights.loss told.0.1)) ∙ c.if-weight_fits.true in
-    let shake = sym (c.weight_fits-then-weight_fits.ensures ∙ ap weight_fits (kept w16 rule.weights.shake told.1.0.1)) ∙ c.if-weight_fits-2.true in
+    let loss = sym (c.weight_fits.ensures ∙ ap weight_fits (kept w16 c.args.self.weights.loss c.struct_told-1.given.0.1)) ∙ c.if-weight_fits.true in
+    let shake = sym (c.weight_fits-then-weight_fits.ensures ∙ ap weight_fits (kept w16 c.args.self.weights.shake c.struct_told-1.given.1.0.1)) ∙ c.if-weight_fits-2.true in
     c.weight_fits-then-weight_fits-2.ensures
-    ∙ ap weight_fits (kept w16 rule.weights.heat told.1.1.0.1)
-    ∙ sym (and_after (weight_fits rule.weights.heat) (and_true loss shake))
+    ∙ ap weight_fits (kept w16 c.args.self.weights.heat c.struct_told-1.given.1.1.0.1)
+    ∙ sym (and_after (weight_fits c.args.self.weights.heat) (and_true loss shake))
 
 pub returns-else-weight_fits-2 : goal.returns-else-weight_fits-2
 unfolding weights_fit
 returns-else-weight_fits-2 c =
     let rule = c.args.self in
     let told = c.struct_told-1.given in
-    let loss = sym (c.weight_fits.ensures ∙ ap weight_fits (kept w16 rule.weights.loss told.0.1)) ∙ c.if-weight_fits.true in
-    let shake = sym (c.weight_fits-then-weight_fits.ensures ∙ ap weight_fits (kept w16 rule.weights.shake told.1.0.1)) ∙ c.if-weight_fits-2.false in
-    sym (and_stops (weight_fits rule.weights.heat) (and_after (weight_fits rule.weights.shake) loss ∙ shake))
+    let loss = sym (c.weight_fits.ensures ∙ ap weight_fits (kept w16 c.args.self.weights.loss c.struct_told-1.given.0.1)) ∙ c.if-weight_fits.true in
+    let shake = sym (c.weight_fits-then-weight_fits.ensures ∙ ap weight_fits (kept w16 c.args.self.weights.shake c.struct_told-1.given.1.0.1)) ∙ c.if-weight_fits-2.false in
+    sym (and_stops (weight_fits c.args.self.weights.heat) (and_after (weight_fits c.args.self.weights.shake) loss ∙ shake))
 
 pub returns-else-weight_fits : goal.returns-else-weight_fits
 unfolding weights_fit
 returns-else-weight_fits c =
     let rule = c.args.self in
-    let loss = sym (c.weight_fits.ensures ∙ ap weight_fits (kept w16 rule.weights.loss c.struct_told-1.given.0.1)) ∙ c.if-weight_fits.false in
-    sym (and_stops (weight_fits rule.weights.heat) (and_stops (weight_fits rule.weights.shake) loss))
+    let loss = sym (c.weight_fits.ensures ∙ ap weight_fits (kept w16 c.args.self.weights.loss c.struct_told-1.given.0.1)) ∙ c.if-weight_fits.false in
+    sym (and_stops (weight_fits c.args.self.weights.heat) (and_stops (weight_fits c.args.self.weights.shake) loss))

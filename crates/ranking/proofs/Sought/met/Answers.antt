@@ -26,25 +26,25 @@ pub returns-then-score-best : goal.returns-then-score-best
 returns-then-score-best c =
     let a = c.args in
     let x = c.ranges in
-    let at = a.self in
-    ap (λ b. record { cells = at.cells + 1; next = at.next; best = b }) (kept w32 at.best c.struct_told-1.given.1.1.0.1)
-    ∙ sym (met-counts at a.cell a.best a.score (at_least x.score x.best c.if-score-best.true))
+    let at = c.args.self in
+    ap (λ b. record { cells = c.args.self.cells + 1; next = c.args.self.next; best = b }) (kept w32 c.args.self.best c.struct_told-1.given.1.1.0.1)
+    ∙ sym (met-counts at c.args.cell c.args.best c.args.score (at_least c.ranges.score c.ranges.best c.if-score-best.true))
 
 pub returns-then-top-best : goal.returns-then-top-best
 returns-then-top-best c =
     let a = c.args in
     let x = c.ranges in
-    let at = a.self in
-    ap (λ b. record { cells = at.cells; next = a.cell; best = b }) (to_z-of_z x.best)
+    let at = c.args.self in
+    ap (λ b. record { cells = c.args.self.cells; next = c.args.cell; best = b }) (to_z-of_z c.ranges.best)
     ∙ sym
-    (met-sooner at a.cell a.best a.score (under x.score x.best c.if-score-best.false)
-    (sym (less_kept {a = at.best} (record { sfits = c.struct_told-1.given.1.1.0.1 }) x.best) ∙ c.if-top-best.true))
+    (met-sooner at c.args.cell c.args.best c.args.score (under c.ranges.score c.ranges.best c.if-score-best.false)
+    (sym (less_kept {a = c.args.self.best} (record { sfits = c.struct_told-1.given.1.1.0.1 }) c.ranges.best) ∙ c.if-top-best.true))
 
 pub returns : goal.returns
 returns c =
     let a = c.args in
     let x = c.ranges in
-    let at = a.self in
+    let at = c.args.self in
     sym
-    (met-later at a.cell a.best a.score (under x.score x.best c.if-score-best.false)
-    (sym (less_kept {a = at.best} (record { sfits = c.struct_told-1.given.1.1.0.1 }) x.best) ∙ c.if-top-best.false))
+    (met-later at c.args.cell c.args.best c.args.score (under c.ranges.score c.ranges.best c.if-score-best.false)
+    (sym (less_kept {a = c.args.self.best} (record { sfits = c.struct_told-1.given.1.1.0.1 }) c.ranges.best) ∙ c.if-top-best.false))

@@ -12,9 +12,9 @@ use Rattle.ranking.proofs.Stripes.edge.Goals as goal
 pub returns-then-weight-gt0 : goal.returns-then-weight-gt0
 returns-then-weight-gt0 c =
     let at = c.args.self in
-    sym (if_so (at.end - 1) at.first (sym (ap (lt_z (pos 0)) (to_z-of_z c.ranges.weight)) ∙ c.if-weight-gt0.true))
+    sym (if_so (c.args.self.end - 1) c.args.self.first (sym (ap (lt_z (pos 0)) (to_z-of_z c.ranges.weight)) ∙ c.if-weight-gt0.true))
 
 pub returns-else-weight-gt0 : goal.returns-else-weight-gt0
 returns-else-weight-gt0 c =
     let at = c.args.self in
-    sym (if_not (at.end - 1) at.first (sym (ap (lt_z (pos 0)) (to_z-of_z c.ranges.weight)) ∙ c.if-weight-gt0.false))
+    sym (if_not (c.args.self.end - 1) c.args.self.first (sym (ap (lt_z (pos 0)) (to_z-of_z c.ranges.weight)) ∙ c.if-weight-gt0.false))

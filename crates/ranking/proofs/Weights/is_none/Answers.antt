@@ -17,20 +17,20 @@ pub returns-then-is_zero-2 : goal.returns-then-is_zero-2
 returns-then-is_zero-2 c =
     let w = c.args.self in
     let told = c.struct_told-1.given in
-    let loss = sym (c.is_zero.ensures ∙ ap zero (kept w16 w.loss told.0.1)) ∙ c.if-is_zero.true in
-    let shake = sym (c.is_zero-then-is_zero.ensures ∙ ap zero (kept w16 w.shake told.1.0.1)) ∙ c.if-is_zero-2.true in
-    c.is_zero-then-is_zero-2.ensures ∙ ap zero (kept w16 w.heat told.1.1.0.1) ∙ sym (and_after (zero w.heat) (and_true loss shake))
+    let loss = sym (c.is_zero.ensures ∙ ap zero (kept w16 c.args.self.loss c.struct_told-1.given.0.1)) ∙ c.if-is_zero.true in
+    let shake = sym (c.is_zero-then-is_zero.ensures ∙ ap zero (kept w16 c.args.self.shake c.struct_told-1.given.1.0.1)) ∙ c.if-is_zero-2.true in
+    c.is_zero-then-is_zero-2.ensures ∙ ap zero (kept w16 c.args.self.heat c.struct_told-1.given.1.1.0.1) ∙ sym (and_after (zero c.args.self.heat) (and_true loss shake))
 
 pub returns-else-is_zero-2 : goal.returns-else-is_zero-2
 returns-else-is_zero-2 c =
     let w = c.args.self in
     let told = c.struct_told-1.given in
-    let loss = sym (c.is_zero.ensures ∙ ap zero (kept w16 w.loss told.0.1)) ∙ c.if-is_zero.true in
-    let shake = sym (c.is_zero-then-is_zero.ensures ∙ ap zero (kept w16 w.shake told.1.0.1)) ∙ c.if-is_zero-2.false in
-    sym (and_stops (zero w.heat) (and_after (zero w.shake) loss ∙ shake))
+    let loss = sym (c.is_zero.ensures ∙ ap zero (kept w16 c.args.self.loss c.struct_told-1.given.0.1)) ∙ c.if-is_zero.true in
+    let shake = sym (c.is_zero-then-is_zero.ensures ∙ ap zero (kept w16 c.args.self.shake c.struct_told-1.given.1.0.1)) ∙ c.if-is_zero-2.false in
+    sym (and_stops (zero c.args.self.heat) (and_after (zero c.args.self.shake) loss ∙ shake))
 
 pub returns-else-is_zero : goal.returns-else-is_zero
 returns-else-is_zero c =
     let w = c.args.self in
-    let loss = sym (c.is_zero.ensures ∙ ap zero (kept w16 w.loss c.struct_told-1.given.0.1)) ∙ c.if-is_zero.false in
-    sym (and_stops (zero w.heat) (and_stops (zero w.shake) loss))
+    let loss = sym (c.is_zero.ensures ∙ ap zero (kept w16 c.args.self.loss c.struct_told-1.given.0.1)) ∙ c.if-is_zero.false in
+    sym (and_stops (zero c.args.self.heat) (and_stops (zero c.args.self.shake) loss))

@@ -11,4 +11,4 @@ use Rattle.ranking.proofs.Weights.might_pass.Goals as goal
 
 pub returns : goal.returns
 unfolding might_pass
-returns c = ap₂ le_z (to_z-of_z c.ranges.score) (kept w32 c.sum.result c.sum.type-inv ∙ c.sum.ensures)
+returns c = ap₂ le_z (to_z-of_z c.ranges.score) (kept w32 c.sum.result c.sum.type_inv ∙ c.sum.ensures)

@@ -18,10 +18,10 @@ use Rattle.ranking.proofs.Weights.pair.Goals as goal
 pub overflow_add-result : goal.overflow_add-result
 overflow_add-result c =
     let words : Words (c.args.self) = let told = c.struct_told-1.given in
-    record { loss = record { sfits = told.0.1 }; shake = record { sfits = told.1.0.1 }; heat = record { sfits = told.1.1.0.1 } } in
+    record { loss = record { sfits = c.struct_told-1.given.0.1 }; shake = record { sfits = c.struct_told-1.given.1.0.1 }; heat = record { sfits = c.struct_told-1.given.1.1.0.1 } } in
     let parts : to_z w32 (of_z w32 c.weighted.result) +ℤ to_z w32 (of_z w32 c.weighted-2.result) ≡ pair_part (c.args.self) (low (c.args.values)) = ap₂ (λ x y. x +ℤ y)
-    (kept w32 c.weighted.result c.weighted.type-inv ∙ c.weighted.ensures ∙ ap (λ z. z *ℤ pos (low (c.args.values)).loss) (to_z-of_z (words).loss))
-    (kept w32 c.weighted-2.result c.weighted-2.type-inv ∙ c.weighted-2.ensures ∙ ap (λ z. z *ℤ pos (low (c.args.values)).shake) (to_z-of_z (words).shake)) in
+    (kept w32 c.weighted.result c.weighted.type_inv ∙ c.weighted.ensures ∙ ap (λ z. z *ℤ pos (low (c.args.values)).loss) (to_z-of_z (words).loss))
+    (kept w32 c.weighted-2.result c.weighted-2.type_inv ∙ c.weighted-2.ensures ∙ ap (λ z. z *ℤ pos (low (c.args.values)).shake) (to_z-of_z (words).shake)) in
     let fits : SFits w32 (pair_part (c.args.self) (low (c.args.values))) = let f = range_facts (low (c.args.values)) (low_in (c.args.values)) in
     two_fit (c.args.self).loss (low (c.args.values)).loss (words).loss f.loss_fits (c.args.self).shake (low (c.args.values)).shake (words).shake f.shake_fits in
     rw (parts) (fits)
@@ -29,10 +29,10 @@ overflow_add-result c =
 pub returns : goal.returns
 returns c =
     let words : Words (c.args.self) = let told = c.struct_told-1.given in
-    record { loss = record { sfits = told.0.1 }; shake = record { sfits = told.1.0.1 }; heat = record { sfits = told.1.1.0.1 } } in
+    record { loss = record { sfits = c.struct_told-1.given.0.1 }; shake = record { sfits = c.struct_told-1.given.1.0.1 }; heat = record { sfits = c.struct_told-1.given.1.1.0.1 } } in
     let parts : to_z w32 (of_z w32 c.weighted.result) +ℤ to_z w32 (of_z w32 c.weighted-2.result) ≡ pair_part (c.args.self) (low (c.args.values)) = ap₂ (λ x y. x +ℤ y)
-    (kept w32 c.weighted.result c.weighted.type-inv ∙ c.weighted.ensures ∙ ap (λ z. z *ℤ pos (low (c.args.values)).loss) (to_z-of_z (words).loss))
-    (kept w32 c.weighted-2.result c.weighted-2.type-inv ∙ c.weighted-2.ensures ∙ ap (λ z. z *ℤ pos (low (c.args.values)).shake) (to_z-of_z (words).shake)) in
+    (kept w32 c.weighted.result c.weighted.type_inv ∙ c.weighted.ensures ∙ ap (λ z. z *ℤ pos (low (c.args.values)).loss) (to_z-of_z (words).loss))
+    (kept w32 c.weighted-2.result c.weighted-2.type_inv ∙ c.weighted-2.ensures ∙ ap (λ z. z *ℤ pos (low (c.args.values)).shake) (to_z-of_z (words).shake)) in
     let fits : SFits w32 (pair_part (c.args.self) (low (c.args.values))) = let f = range_facts (low (c.args.values)) (low_in (c.args.values)) in
     two_fit (c.args.self).loss (low (c.args.values)).loss (words).loss f.loss_fits (c.args.self).shake (low (c.args.values)).shake (words).shake f.shake_fits in
     (ap (λ z. to_z w32 (of_z w32 z)) (parts) ∙ to_z-of_z (fits), words)

@@ -16,8 +16,8 @@ use Rattle.ranking.proofs.Weights.sum.Goals as goal
 pub overflow_add-result : goal.overflow_add-result
 unfolding sum
 overflow_add-result c =
-    let is : to_z w32 (of_z w32 c.pair.result) +ℤ to_z w32 (of_z w32 c.weighted_heat.result) ≡ weighed c.args.self (low c.args.values) = ap₂ (λ x y. x +ℤ y) (kept w32 c.pair.result c.pair.ok ∙ c.pair.ensures.0)
-    (kept w32 c.weighted_heat.result c.weighted_heat.type-inv
+    let is : to_z w32 (of_z w32 c.pair.result) +ℤ to_z w32 (of_z w32 c.weighted_heat.result) ≡ weighed c.args.self (low c.args.values) = ap₂ (λ x y. x +ℤ y) (kept w32 c.pair.result c.pair.type_inv ∙ c.pair.ensures.0)
+    (kept w32 c.weighted_heat.result c.weighted_heat.type_inv
     ∙ c.weighted_heat.ensures
     ∙ ap (λ z. z *ℤ pos (heat_of (low c.args.values).edition)) (to_z-of_z c.pair.ensures.1.heat)) in
     let fits : SFits w32 (weighed c.args.self (low c.args.values)) = word_fits (rule_of c.args.self) (low c.args.values) c.pair.ensures.1 (low_in c.args.values) in
@@ -26,8 +26,8 @@ overflow_add-result c =
 pub returns : goal.returns
 unfolding sum
 returns c =
-    let is : to_z w32 (of_z w32 c.pair.result) +ℤ to_z w32 (of_z w32 c.weighted_heat.result) ≡ weighed c.args.self (low c.args.values) = ap₂ (λ x y. x +ℤ y) (kept w32 c.pair.result c.pair.ok ∙ c.pair.ensures.0)
-    (kept w32 c.weighted_heat.result c.weighted_heat.type-inv
+    let is : to_z w32 (of_z w32 c.pair.result) +ℤ to_z w32 (of_z w32 c.weighted_heat.result) ≡ weighed c.args.self (low c.args.values) = ap₂ (λ x y. x +ℤ y) (kept w32 c.pair.result c.pair.type_inv ∙ c.pair.ensures.0)
+    (kept w32 c.weighted_heat.result c.weighted_heat.type_inv
     ∙ c.weighted_heat.ensures
     ∙ ap (λ z. z *ℤ pos (heat_of (low c.args.values).edition)) (to_z-of_z c.pair.ensures.1.heat)) in
     let fits : SFits w32 (weighed c.args.self (low c.args.values)) = word_fits (rule_of c.args.self) (low c.args.values) c.pair.ensures.1 (low_in c.args.values) in

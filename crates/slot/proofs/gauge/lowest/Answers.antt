@@ -31,19 +31,19 @@ loop-i-preserved c =
     let l = c.loop-i in
     let n = c.lines_in-i.result in
     let q = c.args.question in
-    let good = c.well-formed.0.1.1 in
-    let r = roomy q good.0.1.0.1 good.1.1.0.1.0.1 in
-    let up : l.i - 1 + 1 ≡ l.i = omega arith in
-    let more = low_more q.names n (l.i - 1) (omega (arith, r.names, l.invariant.1)) (omega arith) in
-    let low = l.invariant.2 ∙ ap (λ m. lowest (drop m (take n q.names))) (sym up) in
-    (omega arith, l.invariant.1, c.lower-low.ensures ∙ ap (min (get_or q.names (l.i - 1) 0)) low ∙ sym more)
+    let good = c.well_formed.0.1.1 in
+    let r = roomy q c.well_formed.0.1.1.0.1.0.1 c.well_formed.0.1.1.1.1.0.1.0.1 in
+    let up : c.loop-i.i - 1 + 1 ≡ c.loop-i.i = omega arith in
+    let more = low_more c.args.question.names n (c.loop-i.i - 1) (omega (arith, r.names, c.loop-i.invariant.1)) (omega arith) in
+    let low = c.loop-i.invariant.2 ∙ ap (λ m. lowest (drop m (take n c.args.question.names))) (sym up) in
+    (omega arith, c.loop-i.invariant.1, c.lower-low.ensures ∙ ap (min (get_or c.args.question.names (c.loop-i.i - 1) 0)) low ∙ sym more)
 
 pub returns : goal.returns
 returns c =
     let l = c.loop-i in
     let n = c.lines_in-i in
     let q = c.args.question in
-    let good = c.well-formed.0.1.1 in
-    let r = roomy q good.0.1.0.1 good.1.1.0.1.0.1 in
-    let done : l.i ≡ 0 = omega arith in
-    l.invariant.2 ∙ ap (λ m. lowest (drop m (take n.result q.names))) done ∙ sym (low-names q c.if-len-question.false r n.result n.ensures)
+    let good = c.well_formed.0.1.1 in
+    let r = roomy q c.well_formed.0.1.1.0.1.0.1 c.well_formed.0.1.1.1.1.0.1.0.1 in
+    let done : c.loop-i.i ≡ 0 = omega arith in
+    c.loop-i.invariant.2 ∙ ap (λ m. lowest (drop m (take c.lines_in-i.result c.args.question.names))) done ∙ sym (low-names q c.if-len-question.false r c.lines_in-i.result c.lines_in-i.ensures)

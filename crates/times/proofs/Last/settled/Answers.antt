@@ -11,5 +11,5 @@ pub returns : goal.returns
 returns c =
     let t = c.lend-taken in
     let a = c.args in
-    let put : Last → Heard = λ l. record { answer = t.result.answer; station = record { session = t.result.session; last = l } } in
-    ap put c.after-last.ensures ∙ ap (kept_at a.time a.self) t.ensures
+    let put : Last → Heard = λ l. record { answer = c.lend-taken.result.answer; station = record { session = c.lend-taken.result.session; last = l } } in
+    ap put c.after-last.ensures ∙ ap (kept_at c.args.time c.args.self) c.lend-taken.ensures

@@ -13,8 +13,8 @@ returns-then-n-ne0 c =
     let a = c.args in
     let e = c.frame_refusal-n.ensures in
     c.turned.ensures
-    ∙ ap (λ (n : ℕ). turned n a.self) e
-    ∙ sym (foreign_stays a.self (timed_at a.time a.id a.«data».now) (λ z. c.if-n-ne0.true (e ∙ z)))
+    ∙ ap (λ (n : ℕ). turned n c.args.self) e
+    ∙ sym (foreign_stays c.args.self (timed_at c.args.time c.args.id a.«data».now) (λ z. c.if-n-ne0.true (e ∙ z)))
 
 pub timed-requires : goal.timed-requires
 timed-requires c = (sym c.frame_refusal-n.ensures ∙ c.if-n-ne0.false, sym c.fit.ensures ∙ c.if-fit.true)
@@ -23,4 +23,4 @@ pub returns : goal.returns
 returns c =
     let a = c.args in
     let e = sym c.frame_refusal-n.ensures ∙ c.if-n-ne0.false in
-    c.turned-2.ensures ∙ sym (unfit_stays a.self a.time (record { identifier = a.id; data_bytes = a.«data».now }) e (rw (sym c.fit.ensures ∙ c.if-fit.false)))
+    c.turned-2.ensures ∙ sym (unfit_stays c.args.self c.args.time (record { identifier = c.args.id; data_bytes = a.«data».now }) e (rw (sym c.fit.ensures ∙ c.if-fit.false)))

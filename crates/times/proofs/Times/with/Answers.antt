@@ -11,8 +11,8 @@ use Rattle.times.proofs.Times.with.Goals as goal
 pub returns-else-k-lt-SENDERS : goal.returns-else-k-lt-SENDERS
 returns-else-k-lt-SENDERS c =
     let a = c.args in
-    let ks : length a.self.known ≡ 254 = search rules in
-    let ts : length a.self.at ≡ 254 = search rules in
-    let known = set_out a.self.known a.sender a.last.known (omega arith) in
-    let at = set_out a.self.at a.sender a.last.at (omega arith) in
+    let ks : length c.args.self.known ≡ 254 = search rules in
+    let ts : length c.args.self.at ≡ 254 = search rules in
+    let known = set_out c.args.self.known c.args.sender c.args.last.known (omega arith) in
+    let at = set_out c.args.self.at c.args.sender c.args.last.at (omega arith) in
     λ i. record { known = sym known i; at = sym at i }

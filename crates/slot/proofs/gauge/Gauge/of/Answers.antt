@@ -7,4 +7,4 @@ use borrow.Author.Rules.{rules}
 use Rattle.slot.proofs.gauge.Gauge.of.Goals as goal
 
 pub returns : goal.returns
-returns c = (λ i. record { weights = c.args.question.rule.weights; least = (kept w32 c.least.result c.least.type-inv ∙ c.least.ensures) i; low = c.lowest.ensures i })
+returns c = (λ i. record { weights = c.args.question.rule.weights; least = (kept w32 c.least.result c.least.type_inv ∙ c.least.ensures) i; low = c.lowest.ensures i })

@@ -11,7 +11,7 @@ use Rattle.slot.proofs.gauge.Gauge.of_slots.Goals as goal
 
 pub loop-i-init : goal.loop-i-init
 loop-i-init c =
-    let all_slots : length c.args.slots ≡ 32 = c.well-formed.0.1.0.1 in
+    let all_slots : length c.args.slots ≡ 32 = c.well_formed.0.1.0.1 in
     let all = all_slots in
     (omega arith, all, filled_none gauge_of c.args.slots _ (sym all))
 
@@ -30,9 +30,9 @@ loop-i-smaller c = omega arith
 pub loop-i-preserved : goal.loop-i-preserved
 loop-i-preserved c =
     let l = c.loop-i in
-    (omega arith, l.invariant.1, filled_more gauge_of c.args.slots l.i l.gauges no_question c.of-gauge.result (omega (arith, l.invariant.1)) l.invariant.2 c.of-gauge.ensures)
+    (omega arith, c.loop-i.invariant.1, filled_more gauge_of c.args.slots c.loop-i.i c.loop-i.gauges no_question c.of-gauge.result (omega (arith, c.loop-i.invariant.1)) c.loop-i.invariant.2 c.of-gauge.ensures)
 
 pub returns : goal.returns
 returns c =
     let l = c.loop-i in
-    filled_all gauge_of c.args.slots l.i l.gauges (omega (arith, l.invariant.1)) l.invariant.2
+    filled_all gauge_of c.args.slots c.loop-i.i c.loop-i.gauges (omega (arith, c.loop-i.invariant.1)) c.loop-i.invariant.2
