@@ -60,7 +60,7 @@ loop-row-preserved-then-turns c =
     subst (λ n. (Taken) n c.loop-row.found c.loop-row.by c.loop-row.len c.loop-row.bar (to_z w32 c.loop-row.least-bits)) e c.loop-row.invariant.1 in
     let l = c.loop-row in
     let e : c.loop-row.row ≡ min (c.loop-row.row + 1) (c.loop-row.row) = omega arith in
-    (omega (arith, l.inv.0, c.loop-row-test.true), subst (λ n. Taken n l.found l.by l.len l.bar l.least) e (now_taken))
+    (omega (arith, l.invariant.0, c.loop-row-test.true), subst (λ n. Taken n l.found l.by l.len l.bar (to_z w32 c.loop-row.least-bits)) e (now_taken))
 
 pub put_in-len-requires : goal.put_in-len-requires
 put_in-len-requires c =
