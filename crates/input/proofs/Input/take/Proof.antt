@@ -51,8 +51,8 @@ unfolding first_line
 returns c =
     let n = c.before.before.before.before.before.before.before in
     let a = n.before.before.before.before.before.args in (
-      took (length a.line.now) a.self a.space.now (piece_so n.before) n.length.ensures c.before.rest.ensures (c.sum-at-most.ensures ∙ rw (c.before.before.before.before.put_all_lem.ensures, length-sets)),
-      c.before.before.before.before.put_all_lem.ensures ∙ rw (c.before.before.before.before.before.front2.ensures, n.length.ensures, piece_so n.before),
+      took (length a.line.now) a.self a.space.now (piece_so n.before) n.length.ensures c.before.rest.ensures (c.sum-at-most.ensures ∙ rw (c.before.before.before.before.put_all.ensures, length-sets)),
+      c.before.before.before.before.put_all.ensures ∙ rw (c.before.before.before.before.before.front2.ensures, n.length.ensures, piece_so n.before),
     )
 
 pub take_spec : {M : Type 1} → statement M

@@ -1,0 +1,16 @@
+use mathlib.Core.Path.{◌≡◌, refl, sym}
+use Prim.Native.Nat.{◌≤◌, ◌-◌, ◌+◌, ◌*◌, ◌/◌}
+use lib.ListN.{length, drop, replicate, length-set}
+use native.Mathlib.Numerals.{add-one}
+use lib.Seq.{sets}
+use Rattle.capture.proofs.Texts.{bytes_more, bytes-end, pair_most}
+use Rattle.capture.specs.Capture.{bytes_in}
+use borrow.Author.Rules.{rules}
+use native.Mathlib.Omega.{arith}
+use Rattle.capture.proofs.eight_bytes.Given as goal
+
+abbrev pub invariant-loop-k : goal.invariant-loop-k
+invariant-loop-k l = (l.k ≤ length l.s / 2) × (length l.bytes ≡ 8) × (sets l.bytes l.k (bytes_in (drop (2 * l.k) l.s)) ≡ sets (replicate 8 0) 0 (bytes_in l.s))
+
+abbrev pub decreases-loop-k : goal.decreases-loop-k
+decreases-loop-k l = length l.s / 2 - l.k

@@ -1,0 +1,23 @@
+-- `capture::is_elsewhere` meets its contract: no name asks for all.
+-- Assumes nothing.
+use mathlib.Core.Path.{◌≡◌, refl, sym, ap, ◌∙◌}
+use mathlib.Core.Bool.{not}
+use Prim.Native.Nat.{ℕ}
+use borrow.Author.Tests.{eq-eqb, ne_eqb, lt-ltb, le-ltb}
+use lib.ListN.{length}
+use Rattle.wire.specs.Bytes.{same}
+use Rattle.capture.specs.Capture.{is_elsewhere}
+use borrow.Author.Rules.{rules}
+use Rattle.capture.proofs.is_elsewhere.Goals as goal
+
+pub returns-then-name-eq0 : goal.returns-then-name-eq0
+unfolding is_elsewhere
+returns-then-name-eq0 c =
+    let name = c.args.name.now in
+    rw (eq-eqb (length name) 0 c.if-name-eq0.true)
+
+pub returns : goal.returns
+unfolding is_elsewhere
+returns c =
+    let name = c.args.name.now in
+    rw (ne_eqb (length name) 0 c.if-name-eq0.false, c.same.ensures, c.interface.ensures)

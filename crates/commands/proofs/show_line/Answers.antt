@@ -1,0 +1,11 @@
+-- `commands::show` meets its contract: the slot, or the word that is wrong.
+-- Assumes nothing.
+use Rattle.commands.proofs.Reading.{show_wrong, show_right}
+use borrow.Author.Rules.{rules}
+use Rattle.commands.proofs.show_line.Goals as goal
+
+pub returns-then-s-ne0 : goal.returns-then-s-ne0
+returns-then-s-ne0 c = show_wrong c.args.line.now c.one_slot-s.result c.one_slot-s.ensures c.if-s-ne0.true
+
+pub returns : goal.returns
+returns c = show_right c.args.line.now c.one_slot-s.result c.one_slot-s.ensures c.if-s-ne0.false

@@ -1,0 +1,18 @@
+-- 24, or what the board answers.
+-- Assumes nothing.
+use mathlib.Core.Path.{sym, ◌∙◌}
+use borrow.Author.Tests.{not-true, not-false}
+use Rattle.laws.proofs.Tests.{if_so, if_not}
+use Rattle.ledger.specs.Calls.{read_call}
+use borrow.Author.Rules.{rules}
+use mathlib.Core.Path.{ap}
+use mathlib.Core.Bool.{not}
+use Rattle.ledger.proofs.Ledger.read.Goals as goal
+
+pub returns-then-not-fit : goal.returns-then-not-fit
+unfolding read_call
+returns-then-not-fit c = c.refused.ensures ∙ sym (if_not _ _ (sym c.fit.ensures ∙ not-true _ (ap not c.if-not-fit.true)))
+
+pub returns : goal.returns
+unfolding read_call
+returns c = c.read_work.ensures ∙ sym (if_so _ _ (sym c.fit.ensures ∙ not-false _ (ap not c.if-not-fit.false)))

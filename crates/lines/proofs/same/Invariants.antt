@@ -1,0 +1,13 @@
+use mathlib.Core.Path.{◌≡◌, refl, sym, ◌∙◌}
+use Prim.Native.Nat.{◌≤◌, ◌-◌}
+use lib.ListN.{length, drop}
+use Rattle.wire.specs.Bytes.{same}
+use Rattle.lines.proofs.Words.{same_lengths, same_more, same_stop, same_end}
+use native.Mathlib.Omega.{arith}
+use Rattle.lines.proofs.same.Given as goal
+
+abbrev pub invariant-loop-i : goal.invariant-loop-i
+invariant-loop-i l = (l.i ≤ length l.s) × (length l.s ≡ length l.t) × (same (drop l.i l.s) (drop l.i l.t) ≡ same l.s l.t)
+
+abbrev pub decreases-loop-i : goal.decreases-loop-i
+decreases-loop-i l = length l.s - l.i

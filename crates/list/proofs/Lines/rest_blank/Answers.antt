@@ -1,0 +1,45 @@
+-- The invariant: what is left to test decides the whole.
+-- Assumes nothing.
+use mathlib.Core.Path.{refl, ap}
+use Prim.Native.Nat.{◌-◌}
+use borrow.Author.Tests.{eq-eqb, ne_eqb}
+use borrow.Author.Rules.{rules}
+use lib.ListN.{drop}
+use Rattle.list.specs.Lines.{lines_of, all_of, blank}
+use Rattle.list.proofs.Stored.{line_at, roomy_known, drop_shown}
+use Rattle.list.proofs.Walking.{Walk, walk_on, walk_fails, walk_ends, blank-name, blank-score}
+use Rattle.list.proofs.Lines.rest_blank.Goals as goal
+
+pub loop-i-init : goal.loop-i-init
+loop-i-init c =
+    let l = c.args.self in
+    let good = c.well_formed.0.1.1 in
+    let room = roomy_known c.args.self.names c.args.self.scores c.well_formed.0.1.1.0.1.0.1 c.well_formed.0.1.1.1.0.1.0.1 in
+    record {
+      up_to = search rules;
+      within = search rules;
+      room = room;
+      decides = ap (all_of blank) (drop_shown c.args.self.names c.args.self.scores room c.args.self.len c.line_count-i.result c.line_count-i.ensures);
+    }
+
+pub returns-then-self-i-ne0 : goal.returns-then-self-i-ne0
+returns-then-self-i-ne0 c =
+    let l = c.args.self in
+    walk_fails c.loop-i.invariant c.loop-i-test.true (blank-name (line_at c.args.self.names c.args.self.scores c.loop-i.i) c.if-self-i-ne0.true) refl
+
+pub returns-then-self-i-ne0-2 : goal.returns-then-self-i-ne0-2
+returns-then-self-i-ne0-2 c =
+    let l = c.args.self in
+    walk_fails c.loop-i.invariant c.loop-i-test.true
+    (blank-score (line_at c.args.self.names c.args.self.scores c.loop-i.i) c.if-self-i-ne0.false c.t12-1.given (ne_eqb _ 0 c.if-self-i-ne0-2.true))
+    refl
+
+pub loop-i-preserved : goal.loop-i-preserved
+loop-i-preserved c =
+    let l = c.args.self in
+    walk_on c.loop-i.invariant c.loop-i-test.true
+    (blank-score (line_at c.args.self.names c.args.self.scores c.loop-i.i) c.if-self-i-ne0.false c.t12-1.given (eq-eqb _ 0 c.if-self-i-ne0-2.false))
+    refl
+
+pub returns : goal.returns
+returns c = walk_ends c.loop-i.invariant c.loop-i-test.false

@@ -1,0 +1,46 @@
+-- The rows that the first pass leaves, if it leaves any, are taken by the second.
+-- Assumes nothing.
+use mathlib.Core.Path.{◌≡◌, ap, ap₂, ◌∙◌}
+use mathlib.Core.List.{List}
+use mathlib.Core.Logic.{⊎_elim}
+use Prim.Native.Nat.{ℕ}
+use native.Mathlib.Omega.{arith}
+use borrow.Author.Rules.{rules}
+use lib.IntN.{ℤ}
+use Rattle.ranking.specs.Standing.{Held, top}
+use Rattle.window.specs.Rows.{standing}
+use Rattle.list.specs.declared.Lines.{Lines}
+use Rattle.list.specs.Lines.{columns_of}
+use Rattle.list.specs.Rows.{rows_of}
+use Rattle.list.specs.Inner.{Gathered}
+use Rattle.list.proofs.Gathering.{gathered_none, gathered_few}
+use Rattle.list.proofs.gathered.Goals as goal
+
+same_lines : {ns ns' : List ℕ} {ss ss' : List ℤ} {len len' : ℕ} → ns ≡ ns' → ss ≡ ss' → len ≡ len' → ◌≡◌ {A = Lines} (record { names = ns; scores = ss; len = len }) (record { names = ns'; scores = ss'; len = len' })
+same_lines p q r = λ i. record { names = p i; scores = q i; len = r i }
+
+pub upward-up-requires : goal.upward-up-requires
+upward-up-requires c =
+    let most = c.smaller-most in
+    (omega (arith, c.smaller-most.ensures), omega (arith, c.smaller-end.ensures), gathered_none c.args.rule c.smaller-most.result)
+
+pub overflow_cast-count : goal.overflow_cast-count
+overflow_cast-count c =
+    let reports : ℕ → List Held = λ n. standing (rows_of c.args.losses.now c.args.shakes.now c.args.names.now) n in
+    let all-taken : Gathered c.args.rule (c.smaller-most.result) ((reports) (c.smaller-end.result)) c.if-up-end.found c.if-up-end.by c.if-up-end.len = ⊎_elim (λ w. same_lines w.4 w.5 w.6 ∙ w.3.ensures)
+    (λ w.
+    let all : c.upward-up.result.rows ≡ (c.smaller-end.result) = omega (arith, w.0.left, c.upward-up.ensures.0) in
+    same_lines w.1 w.2 w.3 ∙ c.upward-up.ensures.1 ∙ ap (λ n. columns_of (top c.args.rule (c.smaller-most.result) ((reports) n))) all)
+    c.if-up-end.branch in
+    let few = gathered_few c.args.rule (c.smaller-most.result) (omega (arith, c.smaller-most.ensures)) (reports (c.smaller-end.result)) (all-taken) in
+    search rules
+
+pub returns : goal.returns
+returns c =
+    let reports : ℕ → List Held = λ n. standing (rows_of c.args.losses.now c.args.shakes.now c.args.names.now) n in
+    let all-taken : Gathered c.args.rule (c.smaller-most.result) ((reports) (c.smaller-end.result)) c.if-up-end.found c.if-up-end.by c.if-up-end.len = ⊎_elim (λ w. same_lines w.4 w.5 w.6 ∙ w.3.ensures)
+    (λ w.
+    let all : c.upward-up.result.rows ≡ (c.smaller-end.result) = omega (arith, w.0.left, c.upward-up.ensures.0) in
+    same_lines w.1 w.2 w.3 ∙ c.upward-up.ensures.1 ∙ ap (λ n. columns_of (top c.args.rule (c.smaller-most.result) ((reports) n))) all)
+    c.if-up-end.branch in
+    all-taken ∙ ap₂ (λ k n. columns_of (top c.args.rule k (reports n))) c.smaller-most.ensures c.smaller-end.ensures

@@ -1,0 +1,16 @@
+use mathlib.Core.Path.{◌≡◌, sym, ap, ◌∙◌}
+use Prim.Native.Nat.{suc, ◌≤◌, ◌-◌}
+use native.Mathlib.Omega.{arith}
+use borrow.Author.Rules.{rules}
+use lib.IntN.{pos}
+use Rattle.list.proofs.Stored.{Roomy}
+use Rattle.list.proofs.Sliding.{wiped-none, wiped_more}
+use Rattle.list.specs.Inner.{wiped}
+use Rattle.list.proofs.wipe.Given as goal
+
+abbrev pub invariant-loop-i : goal.invariant-loop-i
+invariant-loop-i l =
+    (l.from ≤ l.i) × (l.i ≤ 16) × Roomy l.initial.names l.initial.scores × (l.names ≡ wiped l.i 0 l.initial.names) × (l.scores ≡ wiped l.i (pos 0) l.initial.scores)
+
+abbrev pub decreases-loop-i : goal.decreases-loop-i
+decreases-loop-i l = l.i

@@ -1,0 +1,14 @@
+use mathlib.Core.Path.{◌≡◌, sym, ap, ◌∙◌, subst}
+use Prim.Native.Nat.{◌≤◌, ◌-◌}
+use native.Mathlib.Omega.{arith}
+use borrow.Author.Rules.{rules}
+use Rattle.window.specs.Rows.{report_in}
+use Rattle.question.specs.Inner.{taking, list_taken}
+use Rattle.question.proofs.Taking.{taken_none, taken_more, taken-same}
+use Rattle.question.proofs.Question.list_taken.Given as goal
+
+abbrev pub invariant-loop-row : goal.invariant-loop-row
+invariant-loop-row l = (l.row ≤ 1024) × (l.initial.list.k ≤ 16) × (l.list ≡ list_taken l.initial.list l.window l.row)
+
+abbrev pub decreases-loop-row : goal.decreases-loop-row
+decreases-loop-row l = 1024 - l.row

@@ -1,0 +1,18 @@
+use mathlib.Core.Path.{◌≡◌, refl, sym, ap, ◌∙◌, subst}
+use mathlib.Core.Logic.{⊎_elim}
+use mathlib.Core.Bool.{Bool, ◌&&◌}
+use mathlib.Core.List.{[]}
+use Prim.Native.Nat.{ℕ, ◌+◌, ◌-◌, ◌≤◌}
+use native.Mathlib.Omega.{arith}
+use borrow.Author.Rules.{rules}
+use lib.ListN.{length}
+use Rattle.laws.specs.Lists.{only}
+use Rattle.ranking.specs.Cells.{cell_counts, before, numbers_below}
+use Rattle.ranking.proofs.Scan.{counted_yes, counted_no}
+use Rattle.ranking.proofs.Rule.place_of.Given as goal
+
+abbrev pub invariant-loop-d : goal.invariant-loop-d
+invariant-loop-d l = (l.d ≤ 256) × (l.n ≤ l.d) × (l.n ≡ length (only (λ e. cell_counts l.self e && before l.self e l.cell) (numbers_below l.d [])))
+
+abbrev pub decreases-loop-d : goal.decreases-loop-d
+decreases-loop-d l = 256 - l.d

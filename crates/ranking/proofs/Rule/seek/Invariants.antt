@@ -1,0 +1,13 @@
+use mathlib.Core.Path.{◌≡◌, sym, subst}
+use Prim.Native.Nat.{◌+◌, ◌-◌, ◌≤◌, ◌<◌}
+use native.Mathlib.Omega.{arith}
+use borrow.Author.Rules.{rules}
+use Rattle.ranking.proofs.Scan.{Scanned, scanned_none, scanned_more, scanned_all}
+use Rattle.ranking.specs.Inner.{follows}
+use Rattle.ranking.proofs.Rule.seek.Given as goal
+
+abbrev pub invariant-loop-d : goal.invariant-loop-d
+invariant-loop-d l = (l.d ≤ 256) × Scanned l.self (follows l.self l.from) l.d l.found
+
+abbrev pub decreases-loop-d : goal.decreases-loop-d
+decreases-loop-d l = 256 - l.d

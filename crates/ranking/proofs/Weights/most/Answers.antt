@@ -1,0 +1,32 @@
+-- Loss and shake, and the best heat's part; it fits as a sum does.
+-- Assumes nothing.
+use mathlib.Core.Path.{◌≡◌, ap, ap₂, ◌∙◌}
+use borrow.Author.Rules.{rules}
+use lib.IntN.{◌+ℤ◌}
+use mir.Facts.{to_z-of_z}
+use mir.Syntax.{w32}
+use mir.Val.{SFits, to_z, of_z}
+use Rattle.laws.proofs.Words.{kept}
+use Rattle.values.specs.declared.Values.{Values}
+use Rattle.values.specs.Range.{low}
+use Rattle.values.proofs.Facts.{low_in}
+use Rattle.ranking.specs.Cells.{weighed, sum, rule_of}
+use Rattle.ranking.specs.Inner.{heat_part, hottest}
+use Rattle.ranking.proofs.Cells.{word_fits, hottest_in}
+use Rattle.ranking.proofs.Weights.most.Goals as goal
+
+pub overflow_add-result : goal.overflow_add-result
+unfolding sum
+overflow_add-result c =
+    let is : to_z w32 (of_z w32 c.pair.result) +ℤ to_z w32 (of_z w32 c.best_heat.result) ≡ weighed c.args.self ((hottest c.args.self (low c.args.values))) = ap₂ (λ x y. x +ℤ y) (kept w32 c.pair.result c.pair.type_inv ∙ c.pair.ensures.0)
+    (kept w32 c.best_heat.result c.best_heat.type_inv ∙ c.best_heat.ensures ∙ ap heat_part (to_z-of_z c.pair.ensures.1.heat)) in
+    let fits : SFits w32 (weighed c.args.self ((hottest c.args.self (low c.args.values)))) = word_fits (rule_of c.args.self) ((hottest c.args.self (low c.args.values))) c.pair.ensures.1 (hottest_in (rule_of c.args.self) (low c.args.values) (low_in c.args.values)) in
+    rw (is) (fits)
+
+pub returns : goal.returns
+unfolding sum
+returns c =
+    let is : to_z w32 (of_z w32 c.pair.result) +ℤ to_z w32 (of_z w32 c.best_heat.result) ≡ weighed c.args.self ((hottest c.args.self (low c.args.values))) = ap₂ (λ x y. x +ℤ y) (kept w32 c.pair.result c.pair.type_inv ∙ c.pair.ensures.0)
+    (kept w32 c.best_heat.result c.best_heat.type_inv ∙ c.best_heat.ensures ∙ ap heat_part (to_z-of_z c.pair.ensures.1.heat)) in
+    let fits : SFits w32 (weighed c.args.self ((hottest c.args.self (low c.args.values)))) = word_fits (rule_of c.args.self) ((hottest c.args.self (low c.args.values))) c.pair.ensures.1 (hottest_in (rule_of c.args.self) (low c.args.values) (low_in c.args.values)) in
+    (ap (λ z. to_z w32 (of_z w32 z)) (is) ∙ to_z-of_z (fits), c.pair.ensures.1)

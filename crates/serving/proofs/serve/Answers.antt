@@ -1,0 +1,43 @@
+-- By the item's tag.
+-- Assumes nothing.
+use mathlib.Core.Path.{◌≡◌, refl, sym, ap, ◌∙◌}
+use mathlib.Core.List.{List}
+use Prim.Native.Nat.{ℕ}
+use lib.Seq.{sets}
+use Rattle.text.specs.Text.{behind}
+use Rattle.question.specs.declared.Question.{Question}
+use Rattle.question.specs.Lines.{rows_of}
+use Rattle.window.specs.Rows.{standing}
+use Rattle.slot.specs.Asking.{set_in}
+use Rattle.serving.specs.Serving.{Served, Serves, shown_text, seated_text}
+use Rattle.serving.proofs.Serving.{served_show, served-remove, served-set}
+use borrow.Author.Rules.{rules}
+use Rattle.serving.proofs.serve.Goals as goal
+
+-- What was put, and what the slot holds, are those of the definition.
+serves : {room left : List ℕ} {at next : ℕ} {q : Question} {d e : Served} {text : List ℕ} → d ≡ e → text ≡ e.text → q ≡ e.question → (next ≡ behind at text) × (left ≡ sets room at text) → Serves d room at q next left
+serves {room} {left} {at} {next} i t f p =
+    let told = t ∙ sym (ap (λ (s : Served). s.text) i) in
+    record { holds = f ∙ sym (ap (λ (s : Served). s.question) i); place = p.0 ∙ ap (behind at) told; stored = p.1 ∙ ap (sets room at) told }
+
+pub returns-then-tag-eq-SHOW : goal.returns-then-tag-eq-SHOW
+returns-then-tag-eq-SHOW c =
+    let a = c.args in
+    serves (served_show c.args.tag c.args.item c.args.value.now c.args.held (standing (rows_of c.args.losses.now c.args.shakes.now c.args.names.now) 1024) c.if-tag-eq-SHOW.true)
+    (ap (λ (n : ℕ). shown_text c.args.item n c.args.held) c.byte.ensures) refl (c.put_shown.ensures.value, c.put_shown.ensures.out_after)
+
+pub returns-then-tag-eq-REMOVE : goal.returns-then-tag-eq-REMOVE
+returns-then-tag-eq-REMOVE c =
+    let a = c.args in
+    serves (served-remove c.args.tag c.args.item c.args.value.now c.args.held (standing (rows_of c.args.losses.now c.args.shakes.now c.args.names.now) 1024) c.if-tag-eq-SHOW.false c.if-tag-eq-REMOVE.true)
+    refl c.emptied.ensures (c.put_refusal.ensures.value, c.put_refusal.ensures.out_after)
+
+pub returns : goal.returns
+returns c =
+    let a = c.args in
+    let rows = standing (rows_of c.args.losses.now c.args.shakes.now c.args.names.now) 1024 in
+    let k = c.byte-2.ensures in
+    let rule = c.rule_in-rule.ensures in
+    let set = c.set_in-seated in
+    serves (served-set c.args.tag c.args.item c.args.value.now c.args.held rows c.if-tag-eq-SHOW.false c.if-tag-eq-REMOVE.false (c.set_in-seated.ensures ∙ (λ j. set_in c.args.held (k j) (rule j) rows)))
+    (ap (λ (n : ℕ). seated_text c.args.item n c.set_in-seated.result.refusal c.set_in-seated.result.steps) c.byte-3.ensures) refl (c.put_seated.ensures.value, c.put_seated.ensures.out_after)

@@ -1,0 +1,10 @@
+-- The two tests are those of the contract.
+-- Assumes nothing.
+use borrow.Author.Tests.{eq-eqb, ne_eqb}
+use Rattle.slot.proofs.gauge.idle.Goals as goal
+
+pub returns-then-k-eq0 : goal.returns-then-k-eq0
+returns-then-k-eq0 c = rw (eq-eqb c.args.k 0 c.if-k-eq0.true)
+
+pub returns-else-k-eq0 : goal.returns-else-k-eq0
+returns-else-k-eq0 c = rw (ne_eqb c.args.k 0 c.if-k-eq0.false)

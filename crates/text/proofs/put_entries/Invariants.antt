@@ -1,0 +1,19 @@
+use mathlib.Core.Path.{◌≡◌, refl, sym}
+use Prim.Native.Nat.{◌-◌, ◌^◌, ◌≤◌, ◌<◌}
+use native.Mathlib.Omega.{arith}
+use borrow.Author.Rules.{rules}
+use lib.IntN.{pos}
+use lib.ListN.{length, get_or, take}
+use mir.Facts.{to_z-of_z}
+use mir.Syntax.{w32}
+use Rattle.text.specs.Text.{entries_text, entries_of}
+use Rattle.text.proofs.Places.{Put, put, then, said, both, none}
+use Rattle.text.proofs.Lists.{entries_more, entries_none}
+use Rattle.text.proofs.put_entries.Given as goal
+
+abbrev pub invariant-loop-i : goal.invariant-loop-i
+invariant-loop-i l =
+    (l.i ≤ l.n) × (length l.buf ≡ length l.initial.buf) × Put l.initial.buf l.at (entries_text (take l.i (entries_of l.numbers l.scores))) l.next l.buf
+
+abbrev pub decreases-loop-i : goal.decreases-loop-i
+decreases-loop-i l = l.n - l.i
