@@ -27,7 +27,7 @@ signed_fits n h = halves (λ z. mag z < 32768) n (λ low. low) (λ high. omega a
 
 -- It is kept where it is stored in 16 bits.
 pub signed_kept : (n : ℕ) {z : ℤ} → n < 65536 → z ≡ signed16 n → to_z w16 (of_z w16 z) ≡ signed16 n
-signed_kept n h e = ap (λ (y : ℤ). to_z w16 (of_z w16 y)) e ∙ to_z-of_z (record { sfits = signed_fits n h })
+signed_kept n h e = ap (λ (y : ℤ). to_z w16 (of_z w16 y)) e ∙ to_z-of_z {w = w16} (record { sfits = signed_fits n h })
 
 pub unsigned_below : (z : ℤ) → mag z < 32768 → unsigned16 z < 65536
 unfolding unsigned16

@@ -1,6 +1,7 @@
 // The log's items: each a tagged field, whose value says what the cart is to do. Here stand their tags and lengths, their
 // reading and their writing, for the log, the bench sender and captured frames alike.
 #![tactic(auto)]
+
 ghost use Rattle.std.specs.Prelude.{◌≡◌, ◌&&◌, [], ◌∷◌, ◌++◌, ◌≤◌, eqb, length, take};
 ghost use Rattle.std.proofs.lemmas.List.Edits.{sets};
 ghost use Rattle.wire.specs.Bytes.{bytes, part, field};

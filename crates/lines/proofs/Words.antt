@@ -60,6 +60,7 @@ run_over kind (b ∷ p) t h = by_test (is_of_kind kind b) (length p) (run_length
 
 pub run_short : (kind : Run) (p t : List ℕ) → run_length kind p < length p → run_length kind (p ++ t) ≡ run_length kind p
 unfolding run_length
+run_short kind [] t h = elim h [ ]
 run_short kind (b ∷ p) t h = by_test (is_of_kind kind b) (length p) (run_length kind p) h (run_short kind p t)
   where
     by_test : (x : Bool) (l m : ℕ) {n : ℕ} → cond x (suc m) 0 < suc l → (m < l → n ≡ m) → cond x (suc n) 0 ≡ cond x (suc m) 0

@@ -1,6 +1,7 @@
 // Words and numbers in a line of text.
 // Words stand between blanks; a blank is the space or any byte below it, so tabs and carriage returns are blanks too.
 #![tactic(auto)]
+
 ghost use Rattle.std.specs.Prelude.{◌≡◌, ◌+◌, ◌*◌, ◌≤◌, drop, length};
 ghost use Rattle.wire.specs.Bytes.{same};
 ghost use Rattle.lines.specs.Words.{is_of_kind, run_length, tail_at, word_at, trimmed, behind_word};

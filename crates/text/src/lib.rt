@@ -2,6 +2,7 @@
 // Every function stores its text from any place on and answers the place behind it, so that one call follows another.
 // What lies past the buffer's end is not stored; a place that no usize holds is answered as the largest one.
 #![tactic(auto)]
+
 ghost use Rattle.std.specs.Prelude.{◌≡◌, [], ◌∷◌, ◌+◌, ◌-◌, ◌^◌, ◌≤◌, min, drop, length, take, nat_abs};
 ghost use Rattle.std.proofs.lemmas.List.Edits.{sets};
 ghost use Rattle.text.specs.Text.{decimal, signed_decimal, spaced, s_line, r_line, entry_text, entries_text, q_line, entries_of, behind};

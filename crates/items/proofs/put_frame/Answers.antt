@@ -5,7 +5,6 @@ use mathlib.Core.List.{◌++◌}
 use Rattle.wire.specs.Bytes.{bytes, field}
 use Rattle.wire.proofs.Stores.{sets_past}
 use Rattle.items.proofs.Writing.{frame-stored}
-use borrow.Author.Rules.{rules}
 use Rattle.items.proofs.put_frame.Goals as goal
 
 pub returns-then-at-room : goal.returns-then-at-room

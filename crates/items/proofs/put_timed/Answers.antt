@@ -2,7 +2,6 @@
 -- Assumes nothing.
 use mathlib.Core.Path.{◌∙◌}
 use Rattle.wire.specs.Bytes.{bytes}
-use borrow.Author.Rules.{rules}
 use Rattle.items.proofs.put_timed.Goals as goal
 
 pub returns : goal.returns

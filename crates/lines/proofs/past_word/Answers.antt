@@ -1,9 +1,7 @@
 -- `lines::next` meets its contract: it passes the word and the blanks behind it.
 -- Assumes nothing.
-use lib.ListN.{length}
 use Rattle.lines.proofs.Words.{run_within, run_behind, run_fits, over_word}
 use Rattle.lines.specs.declared.Run.TheVariants.{Blanks, Letters}
-use borrow.Author.Rules.{rules}
 use native.Mathlib.Omega.{arith}
 use Rattle.lines.proofs.past_word.Goals as goal
 

@@ -1,9 +1,6 @@
 -- `lines::equal` meets its contract: what is passed is the same, so the rest decides.
 -- Assumes nothing.
-use mathlib.Core.Path.{◌≡◌, refl, sym, ◌∙◌}
-use Prim.Native.Nat.{◌≤◌, ◌-◌}
-use lib.ListN.{length, drop}
-use Rattle.wire.specs.Bytes.{same}
+use mathlib.Core.Path.{refl, sym, ◌∙◌}
 use Rattle.lines.proofs.Words.{same_lengths, same_more, same_stop, same_end}
 use native.Mathlib.Omega.{arith}
 use Rattle.lines.proofs.same.Goals as goal

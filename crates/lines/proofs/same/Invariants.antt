@@ -1,9 +1,7 @@
-use mathlib.Core.Path.{◌≡◌, refl, sym, ◌∙◌}
+use mathlib.Core.Path.{◌≡◌}
 use Prim.Native.Nat.{◌≤◌, ◌-◌}
 use lib.ListN.{length, drop}
 use Rattle.wire.specs.Bytes.{same}
-use Rattle.lines.proofs.Words.{same_lengths, same_more, same_stop, same_end}
-use native.Mathlib.Omega.{arith}
 use Rattle.lines.proofs.same.Given as goal
 
 abbrev pub invariant-loop-i : goal.invariant-loop-i

@@ -1,12 +1,10 @@
 -- `lines::start` meets its contract: each turn passes one word more.
 -- Assumes nothing.
 use mathlib.Core.Path.{◌≡◌, ◌∙◌}
-use Prim.Native.Nat.{◌≤◌, ◌-◌}
-use lib.ListN.{length, drop, length-drop}
+use lib.ListN.{length-drop}
 use Rattle.lines.proofs.Words.{run_within, next_tail, all-behind}
 use Rattle.lines.specs.declared.Run.TheVariants.{Blanks}
 use Rattle.lines.specs.Words.{tail_at, trimmed}
-use borrow.Author.Rules.{rules}
 use native.Mathlib.Omega.{arith}
 use Rattle.lines.proofs.start.Goals as goal
 

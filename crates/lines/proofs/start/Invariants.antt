@@ -1,11 +1,7 @@
-use mathlib.Core.Path.{◌≡◌, ◌∙◌}
+use mathlib.Core.Path.{◌≡◌}
 use Prim.Native.Nat.{◌≤◌, ◌-◌}
-use lib.ListN.{length, drop, length-drop}
-use Rattle.lines.proofs.Words.{run_within, next_tail, all-behind}
-use Rattle.lines.specs.declared.Run.TheVariants.{Blanks}
-use Rattle.lines.specs.Words.{tail_at, trimmed}
-use borrow.Author.Rules.{rules}
-use native.Mathlib.Omega.{arith}
+use lib.ListN.{length, drop}
+use Rattle.lines.specs.Words.{tail_at}
 use Rattle.lines.proofs.start.Given as goal
 
 abbrev pub invariant-loop-i : goal.invariant-loop-i

@@ -2,7 +2,6 @@
 -- Assumes nothing.
 use mathlib.Core.Path.{◌∙◌}
 use Rattle.lines.proofs.Words.{all-behind}
-use borrow.Author.Rules.{rules}
 use Rattle.lines.proofs.tail.Goals as goal
 
 pub returns : goal.returns

@@ -2,11 +2,9 @@
 -- Assumes nothing.
 use mathlib.Core.Path.{◌≡◌}
 use Prim.Native.Nat.{◌-◌, ◌+◌}
-use lib.ListN.{length}
 use Rattle.lines.proofs.Words.{run_behind, run_fits}
 use Rattle.lines.specs.declared.Run.TheVariants.{Letters}
 use Rattle.lines.specs.Words.{word_at}
-use borrow.Author.Rules.{rules}
 use native.Mathlib.Omega.{arith}
 use Rattle.lines.proofs.word.Goals as goal
 

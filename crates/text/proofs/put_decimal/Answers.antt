@@ -13,6 +13,6 @@ use Rattle.text.proofs.put_decimal.Goals as goal
 pub returns : goal.returns
 unfolding behind
 returns c =
-    let n = c.args.n in 
-    let fits = decimal64_longest n (search rules) in 
+    let n = c.args.n in
+    let fits = decimal64_longest n (search rules) in
     let size : 20 - c.spell-start.result ≡ length (decimal n) = omega (arith, c.spell-start.ensures.value) in record { value = rw (sym size) c.moved.ensures; buf_after = rw (c.spell-start.ensures.digits_after, size, take-length (decimal n)) at c.put_all.ensures }

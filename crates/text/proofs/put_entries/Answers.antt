@@ -1,15 +1,15 @@
 -- `text::put_entries` meets its contract: after i turns the first i entries are stored, and the next place is behind them.
 -- Assumes nothing.
 use mathlib.Core.Path.{◌≡◌, refl, sym}
-use Prim.Native.Nat.{◌-◌, ◌^◌, ◌≤◌, ◌<◌}
+use Prim.Native.Nat.{◌^◌, ◌<◌}
 use native.Mathlib.Omega.{arith}
 use borrow.Author.Rules.{rules}
 use lib.IntN.{pos}
-use lib.ListN.{length, get_or, take}
+use lib.ListN.{length, get_or}
 use mir.Facts.{to_z-of_z}
 use mir.Syntax.{w32}
-use Rattle.text.specs.Text.{entries_text, entries_of}
-use Rattle.text.proofs.Places.{Put, put, then, said, both, none}
+use Rattle.text.specs.Text.{entries_of}
+use Rattle.text.proofs.Places.{put, then, said, both, none}
 use Rattle.text.proofs.Lists.{entries_more, entries_none}
 use Rattle.text.proofs.put_entries.Goals as goal
 
@@ -23,17 +23,18 @@ bounds-scores-i c = omega arith
 
 pub loop-i-preserved : goal.loop-i-preserved
 loop-i-preserved c =
-    let a = c.args in
     let i = c.loop-i.i in
     let inv = c.loop-i.invariant in
     let h : length c.args.buf.now < 2 ^ 64 = search rules in
     let ns : length c.args.numbers ≡ 16 = search rules in
     let ss : length c.args.scores ≡ 16 = search rules in
-    let back = to_z-of_z {w = w32} {z = get_or c.args.scores i (pos 0)} (record { sfits = c.put_entry-arg-in-loop-i-1.given }) in
-    (omega arith, search rules, said (entries_more c.args.numbers c.args.scores (pos 0) i (omega arith) (omega arith)) (then h c.loop-i.invariant.2 (put (rw back at (c.put_entry-next.ensures.value, c.put_entry-next.ensures.buf_after)))))
+    let back = to_z-of_z {w = w32} {z = get_or c.args.scores i (pos 0)} (search rules) in
+    let q = c.put_entry-next.ensures in
+    (omega arith, search rules, said (entries_more c.args.numbers c.args.scores (pos 0) i (omega arith) (omega arith)) (then h inv.2 (put (rw back at q.value, rw back at q.buf_after))))
 
 pub returns : goal.returns
 returns c =
-    let a = c.args in 
-    let inv = c.loop-i.invariant in 
-    let all : c.loop-i.i ≡ c.args.n = omega arith in record { value = (both {l = c.args.buf.now} (rw all at c.loop-i.invariant.2)).0; buf_after = (both {l = c.args.buf.now} (rw all at c.loop-i.invariant.2)).1 }
+    let inv = c.loop-i.invariant in
+    let whole : c.loop-i.i ≡ c.args.n = omega arith in
+    let all = both {l = c.args.buf.now} (rw whole at inv.2) in
+    record { value = all.0; buf_after = all.1 }

@@ -1,14 +1,8 @@
-use mathlib.Core.Path.{◌≡◌, refl, sym}
-use Prim.Native.Nat.{◌-◌, ◌^◌, ◌≤◌, ◌<◌}
-use native.Mathlib.Omega.{arith}
-use borrow.Author.Rules.{rules}
-use lib.IntN.{pos}
-use lib.ListN.{length, get_or, take}
-use mir.Facts.{to_z-of_z}
-use mir.Syntax.{w32}
+use mathlib.Core.Path.{◌≡◌}
+use Prim.Native.Nat.{◌-◌, ◌≤◌}
+use lib.ListN.{length, take}
 use Rattle.text.specs.Text.{entries_text, entries_of}
-use Rattle.text.proofs.Places.{Put, put, then, said, both, none}
-use Rattle.text.proofs.Lists.{entries_more, entries_none}
+use Rattle.text.proofs.Places.{Put}
 use Rattle.text.proofs.put_entries.Given as goal
 
 abbrev pub invariant-loop-i : goal.invariant-loop-i

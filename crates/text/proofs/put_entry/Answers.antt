@@ -11,9 +11,10 @@ use Rattle.text.proofs.put_entry.Goals as goal
 pub returns : goal.returns
 unfolding entry_text
 returns c =
-    let a = c.args in 
-    let h : length c.args.buf.now < 2 ^ 64 = search rules in record { value = (both {l = c.args.buf.now}
+    let h : length c.args.buf.now < 2 ^ 64 = search rules in
+    let k = to_z-of_z c.ranges.score in
+    let q = c.put_signed.ensures in
+    let all = both {l = c.args.buf.now}
     (then h (then h (put (c.put_spaced-first.ensures.value, c.put_spaced-first.ensures.buf_after)) (put (c.put_byte-second.ensures.value, c.put_byte-second.ensures.buf_after)))
-    (put (rw (to_z-of_z c.ranges.score) at (c.put_signed.ensures.value, c.put_signed.ensures.buf_after))))).0; buf_after = (both {l = c.args.buf.now}
-    (then h (then h (put (c.put_spaced-first.ensures.value, c.put_spaced-first.ensures.buf_after)) (put (c.put_byte-second.ensures.value, c.put_byte-second.ensures.buf_after)))
-    (put (rw (to_z-of_z c.ranges.score) at (c.put_signed.ensures.value, c.put_signed.ensures.buf_after))))).1 }
+    (put (rw k at q.value, rw k at q.buf_after))) in
+    record { value = all.0; buf_after = all.1 }

@@ -10,11 +10,14 @@ use Rattle.text.proofs.put_r.Goals as goal
 pub returns : goal.returns
 unfolding r_line
 returns c =
-    let a = c.args in 
-    let h : length c.args.buf.now < 2 ^ 64 = search rules in record { value = (both {l = c.args.buf.now}
-    (then h
-    (then h (then h (put (c.put_byte-head.ensures.value, c.put_byte-head.ensures.buf_after)) (put (c.put_spaced-first.ensures.value, c.put_spaced-first.ensures.buf_after))) (put (c.put_spaced-second.ensures.value, c.put_spaced-second.ensures.buf_after)))
-    (put (c.put_byte.ensures.value, c.put_byte.ensures.buf_after)))).0; buf_after = (both {l = c.args.buf.now}
-    (then h
-    (then h (then h (put (c.put_byte-head.ensures.value, c.put_byte-head.ensures.buf_after)) (put (c.put_spaced-first.ensures.value, c.put_spaced-first.ensures.buf_after))) (put (c.put_spaced-second.ensures.value, c.put_spaced-second.ensures.buf_after)))
-    (put (c.put_byte.ensures.value, c.put_byte.ensures.buf_after)))).1 }
+    let a = c.args in
+    let h : length c.args.buf.now < 2 ^ 64 = search rules in record {
+      value = (both {l = c.args.buf.now}
+          (then h
+          (then h (then h (put (c.put_byte-head.ensures.value, c.put_byte-head.ensures.buf_after)) (put (c.put_spaced-first.ensures.value, c.put_spaced-first.ensures.buf_after))) (put (c.put_spaced-second.ensures.value, c.put_spaced-second.ensures.buf_after)))
+          (put (c.put_byte.ensures.value, c.put_byte.ensures.buf_after)))).0;
+      buf_after = (both {l = c.args.buf.now}
+          (then h
+          (then h (then h (put (c.put_byte-head.ensures.value, c.put_byte-head.ensures.buf_after)) (put (c.put_spaced-first.ensures.value, c.put_spaced-first.ensures.buf_after))) (put (c.put_spaced-second.ensures.value, c.put_spaced-second.ensures.buf_after)))
+          (put (c.put_byte.ensures.value, c.put_byte.ensures.buf_after)))).1;
+    }

@@ -27,23 +27,29 @@ plain (negsuc n) h = absurd (false≢true (sym h))
 
 pub returns-then-z-lt0 : goal.returns-then-z-lt0
 returns-then-z-lt0 c =
-    let a = c.args in 
-    let k = to_z-of_z c.ranges.z in 
-    let h : length c.args.buf.now < 2 ^ 64 = search rules in record { value = (both {l = c.args.buf.now}
-    (said
-    (ap (λ (n : ℕ). 45 ∷ decimal n) (c.magnitude.ensures ∙ ap nat_abs k)
-    ∙ minus c.args.z (rw k at c.if-z-lt0.true))
-    (then h (put (c.put_byte-next.ensures.value, c.put_byte-next.ensures.buf_after)) (put (c.put_decimal.ensures.value, c.put_decimal.ensures.buf_after))))).0; buf_after = (both {l = c.args.buf.now}
-    (said
-    (ap (λ (n : ℕ). 45 ∷ decimal n) (c.magnitude.ensures ∙ ap nat_abs k)
-    ∙ minus c.args.z (rw k at c.if-z-lt0.true))
-    (then h (put (c.put_byte-next.ensures.value, c.put_byte-next.ensures.buf_after)) (put (c.put_decimal.ensures.value, c.put_decimal.ensures.buf_after))))).1 }
+    let a = c.args in
+    let k = to_z-of_z c.ranges.z in
+    let h : length c.args.buf.now < 2 ^ 64 = search rules in record {
+      value = (both {l = c.args.buf.now}
+          (said
+          (ap (λ (n : ℕ). 45 ∷ decimal n) (c.magnitude.ensures ∙ ap nat_abs k)
+          ∙ minus c.args.z (rw k at c.if-z-lt0.true))
+          (then h (put (c.put_byte-next.ensures.value, c.put_byte-next.ensures.buf_after)) (put (c.put_decimal.ensures.value, c.put_decimal.ensures.buf_after))))).0;
+      buf_after = (both {l = c.args.buf.now}
+          (said
+          (ap (λ (n : ℕ). 45 ∷ decimal n) (c.magnitude.ensures ∙ ap nat_abs k)
+          ∙ minus c.args.z (rw k at c.if-z-lt0.true))
+          (then h (put (c.put_byte-next.ensures.value, c.put_byte-next.ensures.buf_after)) (put (c.put_decimal.ensures.value, c.put_decimal.ensures.buf_after))))).1;
+    }
 
 pub returns-else-z-lt0 : goal.returns-else-z-lt0
 returns-else-z-lt0 c =
-    let a = c.args in 
-    let k = to_z-of_z c.ranges.z in record { value = (both {l = c.args.buf.now}
-    (said (ap decimal (c.magnitude-else-z-lt0.ensures ∙ ap nat_abs k) ∙ plain c.args.z (rw k at c.if-z-lt0.false))
-    (put (c.put_decimal-else-z-lt0.ensures.value, c.put_decimal-else-z-lt0.ensures.buf_after)))).0; buf_after = (both {l = c.args.buf.now}
-    (said (ap decimal (c.magnitude-else-z-lt0.ensures ∙ ap nat_abs k) ∙ plain c.args.z (rw k at c.if-z-lt0.false))
-    (put (c.put_decimal-else-z-lt0.ensures.value, c.put_decimal-else-z-lt0.ensures.buf_after)))).1 }
+    let a = c.args in
+    let k = to_z-of_z c.ranges.z in record {
+      value = (both {l = c.args.buf.now}
+          (said (ap decimal (c.magnitude-else-z-lt0.ensures ∙ ap nat_abs k) ∙ plain c.args.z (rw k at c.if-z-lt0.false))
+          (put (c.put_decimal-else-z-lt0.ensures.value, c.put_decimal-else-z-lt0.ensures.buf_after)))).0;
+      buf_after = (both {l = c.args.buf.now}
+          (said (ap decimal (c.magnitude-else-z-lt0.ensures ∙ ap nat_abs k) ∙ plain c.args.z (rw k at c.if-z-lt0.false))
+          (put (c.put_decimal-else-z-lt0.ensures.value, c.put_decimal-else-z-lt0.ensures.buf_after)))).1;
+    }

@@ -76,7 +76,7 @@ shape_of-digits c = simp length-set (c.loop-rest.invariant.0 ∙ sym c.requires)
 
 pub returns : goal.returns
 returns c =
-    let inv = c.loop-rest.invariant in 
-    let rest = c.loop-rest.rest in 
-    let room = decimal64_longest c.args.n (search rules) in 
+    let inv = c.loop-rest.invariant in
+    let rest = c.loop-rest.rest in
+    let room = decimal64_longest c.args.n (search rules) in
     let one = length_one rest (search rules) in record { value = omega arith; digits_after = last c.loop-rest.digits c.loop-rest.i rest c.args.n c.loop-rest.invariant.3 (omega arith) (omega arith) c.loop-rest-test.false }

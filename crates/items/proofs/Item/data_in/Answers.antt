@@ -1,13 +1,11 @@
 -- `items::Item::data_in` meets its contract: both frames by their places, and no bytes of any other item.
 -- Assumes nothing.
 use mathlib.Core.Path.{◌≡◌, refl, sym, ◌∙◌}
-use mathlib.Core.List.{List, [], ◌∷◌}
+use mathlib.Core.List.{List, []}
 use Prim.Native.Nat.{ℕ}
-use types.Run.{miss}
 use Rattle.items.specs.declared.Item.{Item}
 use Rattle.items.specs.declared.Item.TheVariants.{Window, Set, Frame, Remove, Show, Timed, SetHeat, SetTies, Unknown}
 use Rattle.items.specs.Items.{data_of}
-use borrow.Author.Rules.{rules}
 use Rattle.items.proofs.Item.data_in.Goals as goal
 
 -- An item that is no frame has no data bytes.
@@ -24,7 +22,4 @@ none Unknown v f t = refl
 
 pub returns-in_default : goal.returns-in_default
 returns-in_default c =
-    let k = c.in_default.in_default-own.keys3 in
-    let a = c.args in
-    c.front.ensures
-    ∙ sym (none c.args.self c.args.value.now (λ id e. miss (0 ∷ 1 ∷ 3 ∷ 4 ∷ 6 ∷ 7 ∷ 8 ∷ []) 2 tt (rw e at k)) (λ time id e. miss (0 ∷ 1 ∷ 3 ∷ 4 ∷ 6 ∷ 7 ∷ 8 ∷ []) 5 tt (rw e at k)))
+    c.front.ensures ∙ sym (none c.args.self c.args.value.now c.in_default.not-Frame c.in_default.not-Timed)

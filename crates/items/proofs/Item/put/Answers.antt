@@ -8,7 +8,6 @@ use Rattle.wire.specs.Bytes.{bytes}
 use Rattle.wire.proofs.Fields.{length-field}
 use Rattle.items.specs.declared.Item.TheVariants.{Window, Set, Frame, Remove, Show, Timed, SetHeat, SetTies, Unknown}
 use Rattle.items.proofs.Writing.{frame_long, timed_long, six_of, eight_of, nine_of, put_is}
-use borrow.Author.Rules.{rules}
 use Rattle.items.proofs.Item.put.Goals as goal
 
 pub put_frame-requires : goal.put_frame-requires
@@ -23,7 +22,7 @@ returns-in-Set c = let a = c.args in record { value = (put_is c.args.self (Set c
 
 pub returns-in-Frame : goal.returns-in-Frame
 returns-in-Frame c =
-    let a = c.args in 
+    let a = c.args in
     let id = c.in-Frame.id in record { value = (put_is c.args.self (Frame id) c.args.data.now c.args.room.now c.args.at c.in-Frame.is (sym (frame_long id c.args.data.now), c.put_frame.ensures ∙ rw c.front.ensures)).0; room_after = (put_is c.args.self (Frame id) c.args.data.now c.args.room.now c.args.at c.in-Frame.is (sym (frame_long id c.args.data.now), c.put_frame.ensures ∙ rw c.front.ensures)).1 }
 
 pub returns-in-Remove : goal.returns-in-Remove
@@ -34,8 +33,8 @@ returns-in-Show c = let a = c.args in record { value = (put_is c.args.self (Show
 
 pub returns-in-Timed : goal.returns-in-Timed
 returns-in-Timed c =
-    let a = c.args in 
-    let time = c.in-Timed.time in 
+    let a = c.args in
+    let time = c.in-Timed.time in
     let id = c.in-Timed.id in record { value = (put_is c.args.self (Timed time id) c.args.data.now c.args.room.now c.args.at c.in-Timed.is (sym (timed_long time id c.args.data.now), c.put_timed.ensures)).0; room_after = (put_is c.args.self (Timed time id) c.args.data.now c.args.room.now c.args.at c.in-Timed.is (sym (timed_long time id c.args.data.now), c.put_timed.ensures)).1 }
 
 pub returns-in-SetHeat : goal.returns-in-SetHeat

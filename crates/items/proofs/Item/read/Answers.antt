@@ -9,7 +9,6 @@ use Rattle.wire.specs.Bytes.{number, part}
 use Rattle.items.specs.declared.Item.{Item}
 use Rattle.items.specs.declared.Item.TheVariants.{Window, Set, Frame, Remove, Show, Timed, SetHeat, SetTies, Unknown}
 use Rattle.items.specs.Items.{is_item, setting_in, item_in}
-use borrow.Author.Rules.{rules}
 use Rattle.items.proofs.Item.read.Goals as goal
 
 -- What is left of the definition behind its first tests.

@@ -1,12 +1,10 @@
 -- `lines::Number::read` meets its contract: the number so far and the digits that are left make the whole number.
 -- Assumes nothing.
-use mathlib.Core.Path.{◌≡◌, refl, sym, ◌∙◌}
-use Prim.Native.Nat.{◌≤◌, ◌<◌, ◌-◌}
-use lib.ListN.{length, drop}
+use mathlib.Core.Path.{refl, sym, ◌∙◌}
+use lib.ListN.{length}
 use borrow.Author.Tests.{eq-eqb, ne_eqb}
-use Rattle.lines.specs.Numbers.{a_number, number_on, number_in}
+use Rattle.lines.specs.Numbers.{number_in}
 use Rattle.lines.proofs.Numbers.{number_more, number-end}
-use borrow.Author.Rules.{rules}
 use native.Mathlib.Omega.{arith}
 use Rattle.lines.proofs.Number.read.Goals as goal
 

@@ -1,11 +1,7 @@
-use mathlib.Core.Path.{◌≡◌, refl, sym, ◌∙◌}
+use mathlib.Core.Path.{◌≡◌}
 use Prim.Native.Nat.{◌≤◌, ◌<◌, ◌-◌}
 use lib.ListN.{length, drop}
-use borrow.Author.Tests.{eq-eqb, ne_eqb}
-use Rattle.lines.specs.Numbers.{a_number, number_on, number_in}
-use Rattle.lines.proofs.Numbers.{number_more, number-end}
-use borrow.Author.Rules.{rules}
-use native.Mathlib.Omega.{arith}
+use Rattle.lines.specs.Numbers.{a_number, number_on}
 use Rattle.lines.proofs.Number.read.Given as goal
 
 abbrev pub invariant-loop-i : goal.invariant-loop-i

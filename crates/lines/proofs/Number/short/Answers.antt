@@ -5,7 +5,6 @@ use borrow.Author.Tests.{eq-eqb, ne_eqb}
 use Rattle.lines.proofs.Words.{all-behind}
 use Rattle.lines.proofs.Numbers.{some_byte}
 use Rattle.lines.specs.Numbers.{short_in}
-use borrow.Author.Rules.{rules}
 use native.Mathlib.Omega.{arith}
 use Rattle.lines.proofs.Number.short.Goals as goal
 

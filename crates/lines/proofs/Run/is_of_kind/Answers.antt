@@ -3,7 +3,6 @@
 use mathlib.Core.Path.{sym, ap}
 use Rattle.lines.specs.declared.Run.{Run}
 use Rattle.lines.specs.Words.{is_of_kind}
-use borrow.Author.Rules.{rules}
 use Rattle.lines.proofs.Run.is_of_kind.Goals as goal
 
 pub returns-in-Blanks : goal.returns-in-Blanks

@@ -1,11 +1,7 @@
-use mathlib.Core.Path.{◌≡◌, sym, ◌∙◌}
+use mathlib.Core.Path.{◌≡◌}
 use Prim.Native.Nat.{◌≤◌, ◌-◌, ◌+◌}
 use lib.ListN.{length, drop}
-use borrow.Author.Tests.{not-true, not-false}
 use Rattle.lines.specs.Words.{run_length}
-use Rattle.lines.proofs.Words.{run_more, run_stop, run_end}
-use borrow.Author.Rules.{rules}
-use native.Mathlib.Omega.{arith}
 use Rattle.lines.proofs.Run.length.Given as goal
 
 abbrev pub invariant-loop-i : goal.invariant-loop-i
