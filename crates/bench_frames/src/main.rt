@@ -2,32 +2,34 @@
 // sender, loss in 2, shake in 2, number in 4, 1 where there is a note, its length, 64 of which the first are the note, and
 // one more than the heat in 2, 0 where there is none.
 #![tactic(auto)]
+
 use bench::Bench;
-use libc::{STDIN_FILENO, STDOUT_FILENO};
 use report::{Report, Written};
+use std::io::Read;
 use values::{Edition, Values};
 
 // Requests until the input ends; the turns are counted down, from a number that no run uses up, so that the loop ends.
-fn main() {
+fn main(rt: HostRuntime) {
+    let mut reader = rt.stdin();
     let mut turns = u64::MAX;
-    while turns > 0 && one() {
+    while turns > 0 && one(&mut reader, &rt) {
         turns -= 1;
     }
 }
 
 // Answers a request, and whether there was one.
-fn one() -> bool {
+fn one(reader: &mut impl Read, rt: &impl Print) -> bool {
     let mut space = [0u8; 77];
-    let n = io::read_full(STDIN_FILENO, &mut space);
+    let n = input::read_full(reader, &mut space);
     if n < 77 {
         return false;
     }
-    write(&space);
+    write(rt, &space);
     true
 }
 
 // Writes a request's frames; a refused one has none.
-fn write(request: &[u8; 77]) {
+fn write(rt: &impl Print, request: &[u8; 77]) {
     let mut space = [0u8; Bench::LARGEST];
     let room: &mut [u8] = &mut space;
     let asked: &[u8] = request;
@@ -43,6 +45,6 @@ fn write(request: &[u8; 77]) {
     let note = wire::front(&asked[11..], length);
     let sender = wire::byte(asked, 0);
     if let Written::Bytes(n) = Bench::send(room, sender, report, wire::byte(asked, 9) != 0, note) {
-        io::write_all(STDOUT_FILENO, wire::front(room, n));
+        let _ = rt.write_all(wire::front(room, n));
     }
 }

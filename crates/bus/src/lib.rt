@@ -1,5 +1,6 @@
 // The sessions of all senders in bytes that a caller lends: a frame changes its sender's 92 bytes where they stand.
 #![tactic(auto)]
+
 ghost use Rattle.std.specs.Prelude.{◌≡◌, true, [], ◌∷◌, ◌++◌, ◌+◌, ◌≤◌, length, take, drop, set, replicate};
 ghost use Rattle.std.proofs.lemmas.List.Edits.{sets};
 ghost use Rattle.report.specs.Payload.{largest_payload};
@@ -42,8 +43,8 @@ impl Bus {
 
     // Takes a frame, as its sender's session does, and advances that session where it stands. Other bytes are not touched.
     pub fn take(room: &mut [u8; Bus::ROOM], id: u32, data: &[u8]) -> Answer
-        ensures value { result ≡ answer_to (sessions_in room.old) (record { identifier = id; data-bytes = «data».now }) }
-        ensures room_after { room.new ≡ room_of (sessions_after (sessions_in room.old) (record { identifier = id; data-bytes = «data».now })) }
+        ensures value { result ≡ answer_to (sessions_in room.old) (record { identifier = id; data_bytes = «data».now }) }
+        ensures room_after { room.new ≡ room_of (sessions_after (sessions_in room.old) (record { identifier = id; data_bytes = «data».now })) }
     {
         take_in(room, id, data)
     }
@@ -120,8 +121,8 @@ fn close_in(room: &mut [u8], sender: u8)
 // `Bus::take` on the array as a slice.
 fn take_in(room: &mut [u8], id: u32, data: &[u8]) -> Answer
     requires { length room.old ≡ room_bytes }
-    ensures value { result ≡ answer_to (sessions_in room.old) (record { identifier = id; data-bytes = «data».now }) }
-    ensures room_after { room.new ≡ room_of (sessions_after (sessions_in room.old) (record { identifier = id; data-bytes = «data».now })) }
+    ensures value { result ≡ answer_to (sessions_in room.old) (record { identifier = id; data_bytes = «data».now }) }
+    ensures room_after { room.new ≡ room_of (sessions_after (sessions_in room.old) (record { identifier = id; data_bytes = «data».now })) }
 {
     let n = joining::frame_refusal(id, data);
     if n != 0 {

@@ -3,11 +3,13 @@
 // that a report can be joined from, or another for all frames; `untimed` for frames without their times, or another; and then the name of an
 // interface, or none for all of them.
 #![tactic(auto)]
+
 use capture::Sort;
 use input::{Input, Next};
 use items::Item;
-use libc::{STDERR_FILENO, STDOUT_FILENO};
 use stamps::{Since, Stamp};
+use std::env::Env;
+use std::io::Read;
 
 // How many lines were of each sort, and how many frames were written without a time.
 #[derive(Clone, Copy)]
@@ -47,50 +49,61 @@ struct Reader {
     back: bool,
 }
 
-fn main() {
+fn main(rt: HostRuntime) {
     let mut word = [0u8; Input::LONGEST];
-    let size = os::arg(1, &mut word);
+    let size = argument(&rt, 1, &mut word);
     let ours = lines::same(wire::front(&word, size), b"ours");
     let mut times = [0u8; Input::LONGEST];
-    let length = os::arg(2, &mut times);
+    let length = argument(&rt, 2, &mut times);
     let timed = !lines::same(wire::front(&times, length), b"untimed");
     let mut name = [0u8; Input::LONGEST];
-    let named = os::arg(3, &mut name);
-    run(Asked { ours, timed }, wire::front(&name, named));
+    let named = argument(&rt, 3, &mut name);
+    run(
+        &mut rt.stdin(),
+        &rt,
+        &rt.stderr(),
+        Asked { ours, timed },
+        wire::front(&name, named),
+    );
+}
+
+// Puts a word that the program was started with at the front of the bytes lent for it; how long it is, 0 where there is none or it doesn't fit.
+fn argument(rt: &impl Env, n: usize, word: &mut [u8]) -> usize {
+    rt.arg(n, word).unwrap_or(0)
 }
 
 // Takes line after line, to the end of the text, and then tells the counts; or to a read or a write that fails, which is said. A proved
 // loop has to end, so it counts its turns down from a number that no run uses up.
-fn run(asked: Asked, name: &[u8]) {
-    let mut reader = Reader::fresh();
+fn run(reader: &mut impl Read, out: &impl Print, err: &impl Print, asked: Asked, name: &[u8]) {
+    let mut state = Reader::fresh();
     let mut input = Input::fresh();
     let mut line = [0u8; Input::LONGEST];
     let mut bus = [0u8; Input::LONGEST];
-    let mut space = io::buffer();
+    let mut space = [0u8; 4096];
     let mut turns = u64::MAX;
     while turns > 0 {
         turns -= 1;
-        let next = input.next(&mut line, &mut space);
+        let next = input.next(reader, &mut line, &mut space);
         let Next::Line(found) = next else {
-            let counts = reader.counts;
-            stopped(next, asked, counts);
+            let counts = state.counts;
+            stopped(err, next, asked, counts);
             break;
         };
         input = found;
-        reader = reader.take(found, &line, asked, name, &mut bus);
-        if !reader.going {
+        state = state.take(out, err, found, &line, asked, name, &mut bus);
+        if !state.going {
             break;
         }
     }
 }
 
 // Why no line comes: the text has ended, with so many lines of each sort, or it can't be read.
-fn stopped(next: Next, asked: Asked, counts: Counts) {
+fn stopped(err: &impl Print, next: Next, asked: Asked, counts: Counts) {
     if let Next::Failed = next {
-        say(b"cart candump: the input can't be read\n");
+        say(err, b"cart candump: the input can't be read\n");
         return;
     }
-    summary(asked, counts);
+    summary(err, asked, counts);
 }
 
 fn none() -> Counts {
@@ -128,12 +141,21 @@ impl Reader {
     }
 
     // Writes a line's item, if it has one that is asked for. A line that is too long is broken.
-    fn take(self, found: Input, line: &[u8], asked: Asked, name: &[u8], bus: &mut [u8]) -> Reader {
+    fn take(
+        self,
+        out: &impl Print,
+        err: &impl Print,
+        found: Input,
+        line: &[u8],
+        asked: Asked,
+        name: &[u8],
+        bus: &mut [u8],
+    ) -> Reader {
         if found.is_cut() {
             return self;
         }
         if !found.fits() {
-            return self.count(found.number, Sort::Broken);
+            return self.count(err, found.number, Sort::Broken);
         }
         let text = wire::front(line, found.size);
         let stamp = stamp_of(text, asked.timed);
@@ -141,14 +163,14 @@ impl Reader {
         let time = capture::since(start, stamp);
         let mut room = [0u8; Item::TIMED_BYTES];
         let sort = capture::write(text, asked.ours, name, time, &mut room);
-        let reader = self.count(found.number, sort).started(stamp, sort);
+        let reader = self.count(err, found.number, sort).started(stamp, sort);
         if !is_item(sort) {
             return reader;
         }
-        let going = written(wire::front(&room, size_of(time)));
+        let going = written(out, err, wire::front(&room, size_of(time)));
         reader
-            .timed(found.number, stamp)
-            .seen(found.number, going, dump::interface(text), bus)
+            .timed(err, found.number, stamp)
+            .seen(err, found.number, going, dump::interface(text), bus)
     }
 
     // Keeps where times count from.
@@ -160,7 +182,7 @@ impl Reader {
     }
 
     // Counts a written frame that has no time, keeps the time of one that has, and names the first that is before the last.
-    fn timed(mut self, number: u64, stamp: Stamp) -> Reader {
+    fn timed(mut self, err: &impl Print, number: u64, stamp: Stamp) -> Reader {
         if !stamp.known {
             let mut counts = self.counts;
             counts.untimed = one_more(counts.untimed);
@@ -173,22 +195,29 @@ impl Reader {
             return self;
         }
         if stamp.nanos < last.nanos {
-            goes_back(number);
+            goes_back(err, number);
             self.back = true;
         }
         self
     }
 
     // Counts a line of a sort, and names it where it is broken.
-    fn count(mut self, number: u64, sort: Sort) -> Reader {
-        say_sort(number, sort);
+    fn count(mut self, err: &impl Print, number: u64, sort: Sort) -> Reader {
+        say_sort(err, number, sort);
         let counts = counted(self.counts, sort);
         self.counts = counts;
         self
     }
 
     // Keeps the first interface that a frame was written of, and names the second, once.
-    fn seen(mut self, number: u64, going: bool, name: &[u8], bus: &mut [u8]) -> Reader {
+    fn seen(
+        mut self,
+        err: &impl Print,
+        number: u64,
+        going: bool,
+        name: &[u8],
+        bus: &mut [u8],
+    ) -> Reader {
         self.going = going;
         let first = self.first;
         if first == 0 {
@@ -200,7 +229,7 @@ impl Reader {
             return self;
         }
         if !lines::same(wire::front(bus, first), name) {
-            second(number, name);
+            second(err, number, name);
             self.told = true;
         }
         self
@@ -234,42 +263,47 @@ fn is_item(sort: Sort) -> bool {
 }
 
 // The cart takes no frame before its sender's last one.
-fn goes_back(number: u64) {
-    say(b"line ");
-    io::print_decimal(STDERR_FILENO, number);
+fn goes_back(err: &impl Print, number: u64) {
+    say(err, b"line ");
+    let _ = err.print(number);
     say(
+        err,
         b": the time goes back: the cart refuses a frame before its sender's last one with 26; --untimed leaves times out\n",
     );
 }
 
 // One sender's number on two buses is two controllers.
-fn second(number: u64, name: &[u8]) {
-    say(b"line ");
-    io::print_decimal(STDERR_FILENO, number);
-    say(b": a second interface, ");
-    say(name);
-    say(b": one sender number on two is two controllers; --interface NAME takes one\n");
+fn second(err: &impl Print, number: u64, name: &[u8]) {
+    say(err, b"line ");
+    let _ = err.print(number);
+    say(err, b": a second interface, ");
+    say(err, name);
+    say(
+        err,
+        b": one sender number on two is two controllers; --interface NAME takes one\n",
+    );
 }
 
 // Whether an item could be written; where not, that is said.
-fn written(item: &[u8]) -> bool {
-    if io::write_all(STDOUT_FILENO, item) {
+fn written(out: &impl Print, err: &impl Print, item: &[u8]) -> bool {
+    if out.write_all(item).is_ok() {
         return true;
     }
-    say(b"cart candump: the output can't be written\n");
+    say(err, b"cart candump: the output can't be written\n");
     false
 }
 
-fn say(text: &[u8]) {
-    io::write_all(STDERR_FILENO, text);
+fn say(err: &impl Print, text: &[u8]) {
+    let _ = err.write_all(text);
 }
 
 // Names a line that can't be read.
-fn say_sort(number: u64, sort: Sort) {
+fn say_sort(err: &impl Print, number: u64, sort: Sort) {
     if let Sort::Broken = sort {
-        say(b"line ");
-        io::print_decimal(STDERR_FILENO, number);
+        say(err, b"line ");
+        let _ = err.print(number);
         say(
+            err,
             b": broken; expected: (TIME) INTERFACE ID#DATA, or INTERFACE ID [N] XX .., as candump prints\n",
         );
     }
@@ -303,32 +337,32 @@ fn one_more(n: u64) -> u64 {
 }
 
 // A number and what it counts.
-fn item(n: u64, text: &[u8]) {
-    io::print_decimal(STDERR_FILENO, n);
-    say(text);
+fn item(err: &impl Print, n: u64, text: &[u8]) {
+    let _ = err.print(n);
+    say(err, text);
 }
 
 // The counts; those of times where times are asked for.
-fn summary(asked: Asked, c: Counts) {
-    item(c.frames, b" frames written");
+fn summary(err: &impl Print, asked: Asked, c: Counts) {
+    item(err, c.frames, b" frames written");
     if asked.timed {
-        say(b", ");
-        item(c.untimed, b" of them without a time");
+        say(err, b", ");
+        item(err, c.untimed, b" of them without a time");
     }
-    say(b"; passed over: ");
-    item(c.short, b" with 11-bit identifiers, ");
-    item(c.remote, b" remote, ");
-    item(c.error, b" error, ");
-    item(c.fd, b" CAN FD, ");
-    item(c.length, b" of other lengths, ");
-    item(c.foreign, b" that join no report, ");
-    item(c.elsewhere, b" on other interfaces");
+    say(err, b"; passed over: ");
+    item(err, c.short, b" with 11-bit identifiers, ");
+    item(err, c.remote, b" remote, ");
+    item(err, c.error, b" error, ");
+    item(err, c.fd, b" CAN FD, ");
+    item(err, c.length, b" of other lengths, ");
+    item(err, c.foreign, b" that join no report, ");
+    item(err, c.elsewhere, b" on other interfaces");
     if asked.timed {
-        say(b", ");
-        item(c.beyond, b" past the last time of a log");
+        say(err, b", ");
+        item(err, c.beyond, b" past the last time of a log");
     }
-    say(b"; ");
-    item(c.broken, b" broken lines, ");
-    item(c.dropped, b" DROPCOUNT lines, ");
-    item(c.marked, b" marks of a length over 8\n");
+    say(err, b"; ");
+    item(err, c.broken, b" broken lines, ");
+    item(err, c.dropped, b" DROPCOUNT lines, ");
+    item(err, c.marked, b" marks of a length over 8\n");
 }

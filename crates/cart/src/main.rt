@@ -1,11 +1,12 @@
 // The log program: a log on standard input, its lines on standard output.
 #![tactic(auto)]
+
 ghost use Rattle.std.specs.Prelude.{◌≡◌, ◌≤◌, length, take};
 ghost use Rattle.cart.specs.Turns.{Turns, Ends};
 
 use journal::Log;
-use libc::{STDERR_FILENO, STDIN_FILENO, STDOUT_FILENO};
 use pieces::Waiting;
+use std::io::{Read, Write};
 
 // What was handed over for printing: so many bytes from the start of a room, and whether they could be printed.
 #[derive(Clone, Copy)]
@@ -25,11 +26,11 @@ struct Turn {
 
 impl Printed {
     // Hands the first bytes of a room over for printing.
-    fn front(room: &[u8], count: usize) -> Printed
+    fn front<W: Write>(out: &mut W, err: &impl Print, room: &[u8], count: usize) -> Printed
         ensures { result.count ≡ length (take count room.now) }
     {
         let text = wire::front(room, count);
-        let ok = says(text);
+        let ok = says(out, err, text);
         Printed {
             count: text.len(),
             ok,
@@ -37,23 +38,36 @@ impl Printed {
     }
 
     // Ends the log: hands over the line of an item that it ends inside.
-    fn end(log: Log, waiting: Waiting, room: &mut [u8; 65536]) -> Printed
+    fn end<W: Write>(
+        out: &mut W,
+        err: &impl Print,
+        log: Log,
+        waiting: Waiting,
+        room: &mut [u8; 65536],
+    ) -> Printed
         ensures { Ends log waiting result room.new }
     {
         let end = waiting.finish(log, room, 0);
-        Printed::front(room, end)
+        Printed::front(out, err, room, end)
     }
 }
 
 impl Turn {
     // Takes bytes of a piece of the log, and hands over what they print.
-    fn of(log: Log, waiting: Waiting, piece: &[u8], room: &mut [u8; 65536]) -> Turn
+    fn of<W: Write>(
+        out: &mut W,
+        err: &impl Print,
+        log: Log,
+        waiting: Waiting,
+        piece: &[u8],
+        room: &mut [u8; 65536],
+    ) -> Turn
         ensures { Turns log waiting piece.now result room.new }
     {
         let fed = waiting.feed(log, piece, room);
         let left = fed.log;
         let next = fed.waiting;
-        let printed = Printed::front(room, fed.written);
+        let printed = Printed::front(out, err, room, fed.written);
         Turn {
             log: left,
             waiting: next,
@@ -63,14 +77,18 @@ impl Turn {
     }
 }
 
-// Reads to the end of the log and prints what comes, a piece and a room at a time. A read or a write that fails is said, and
-// the log's end is then not printed. The log is handed to a turn and back, and copied nowhere else. A proved loop has to end,
+fn main(rt: HostRuntime) {
+    run(&mut rt.stdin(), &mut rt.stdout(), &rt.stderr());
+}
+
+// Reads to the end of the log and prints what comes, a piece and a room at a time; whether all of it was read and printed. A read or a write that
+// fails is said, and the log's end is then not printed. The log is handed to a turn and back, and copied nowhere else. A proved loop has to end,
 // so it counts its turns down from a number that no run uses up.
-fn main() {
+fn run<R: Read, W: Write>(input: &mut R, out: &mut W, err: &impl Print) -> bool {
     let mut log = Log::fresh();
     let mut waiting = Waiting::nothing();
-    let mut space = io::large_buffer();
-    let mut room = io::large_buffer();
+    let mut space = [0u8; 65536];
+    let mut room = [0u8; 65536];
     let mut n: usize = 0;
     let mut at: usize = 0;
     let mut ended = false;
@@ -78,16 +96,17 @@ fn main() {
     while turns > 0 {
         turns -= 1;
         if at == n {
-            let got = libc::read(STDIN_FILENO, &mut space);
-            n = io::count(got, &space);
+            let got = input.read(&mut space);
+            let failed = got.is_err();
+            n = got.unwrap_or(0);
             at = 0;
             if n == 0 {
-                ended = is_end(got);
+                ended = is_end(err, failed);
                 turns = 0;
             }
             continue;
         }
-        let turn = Turn::of(log, waiting, &space[at..n], &mut room);
+        let turn = Turn::of(out, err, log, waiting, &space[at..n], &mut room);
         let left = turn.log;
         let next = turn.waiting;
         log = left;
@@ -96,25 +115,26 @@ fn main() {
         turns = turns_left(turns, turn.taken, turn.printed.ok);
     }
     if ended {
-        Printed::end(log, waiting, &mut room);
+        return Printed::end(out, err, log, waiting, &mut room).ok;
     }
+    false
 }
 
 // Whether a read that brought nothing met the end of the log; where it failed, that is said.
-fn is_end(got: isize) -> bool {
-    if got < 0 {
-        io::write_all(STDERR_FILENO, b"cart: the input can't be read\n");
+fn is_end(err: &impl Print, failed: bool) -> bool {
+    if failed {
+        let _ = err.write_all(b"cart: the input can't be read\n");
         return false;
     }
     true
 }
 
 // Whether a text could be printed; where not, that is said.
-fn says(text: &[u8]) -> bool {
-    if io::write_all(STDOUT_FILENO, text) {
+fn says<W: Write>(out: &mut W, err: &impl Print, text: &[u8]) -> bool {
+    if out.write_all(text).is_ok() {
         return true;
     }
-    io::write_all(STDERR_FILENO, b"cart: the output can't be written\n");
+    let _ = err.write_all(b"cart: the output can't be written\n");
     false
 }
 

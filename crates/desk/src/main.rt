@@ -1,11 +1,12 @@
 // The desk: lines of text on standard input, an answer to each on standard output (docs/DESK.md). Every public call can be made, on any state.
 #![tactic(auto)]
+
 use board::Board;
 use bus::Bus;
 use input::{Input, Next};
-use libc::{STDERR_FILENO, STDIN_FILENO, STDOUT_FILENO};
 use orders::{BoardOrder, Order};
 use replies::{put, refused};
+use std::io::IsTerminal;
 use times::Times;
 
 // The board, and whether there is one: whether a window was made.
@@ -24,11 +25,13 @@ struct Answer {
 
 // Answers line after line, to the end of the text; or to a read or a write that fails, which is said. A proved loop has to end, so it
 // counts its turns down from a number that no run uses up.
-fn main() {
+fn main(rt: HostRuntime) {
+    let mut reader = rt.stdin();
+    let err = rt.stderr();
     let mut input = Input::fresh();
     let mut line = [0u8; Input::LONGEST];
-    let mut space = io::buffer();
-    let mut out = io::large_buffer();
+    let mut space = [0u8; 4096];
+    let mut out = [0u8; 65536];
     let mut room = [0u8; Bus::ROOM];
     let sessions = Bus::fresh().sessions;
     Bus::fill(&mut room, sessions);
@@ -36,19 +39,19 @@ fn main() {
     let mut known = times.known;
     let mut at = times.at;
     let mut desk = fresh();
-    greet();
+    greet(rt);
     let mut turns = u64::MAX;
     while turns > 0 {
         turns -= 1;
-        let next = input.next(&mut line, &mut space);
+        let next = input.next(&mut reader, &mut line, &mut space);
         let Next::Line(found) = next else {
-            stopped(next);
+            stopped(&err, next);
             break;
         };
         input = found;
         let answer = answered(desk, found, &line, &mut room, &mut known, &mut at, &mut out);
         desk = answer.desk;
-        if !written(&mut out, answer.end) {
+        if !written(&rt, &err, &mut out, answer.end) {
             break;
         }
     }
@@ -63,40 +66,39 @@ fn fresh() -> Desk {
 }
 
 // Says what this is, where a person sits before it.
-fn greet() {
-    if libc::isatty(STDIN_FILENO) != 1 {
+fn greet(rt: HostRuntime) {
+    if !rt.stdin().is_terminal() {
         return;
     }
-    if libc::isatty(STDOUT_FILENO) != 1 {
+    if !rt.stdout().is_terminal() {
         return;
     }
-    io::write_all(
-        STDOUT_FILENO,
+    let _ = rt.write_all(
         b"The desk: a line is a call, and its answer comes below it.\nhelp lists all lines; window 3 is a start. Ctrl-D ends.\n",
     );
 }
 
 // Why no line comes, where that isn't the end of the text.
-fn stopped(next: Next) {
+fn stopped(err: &impl Print, next: Next) {
     if let Next::Failed = next {
-        say(b"cart desk: the input can't be read\n");
+        say(err, b"cart desk: the input can't be read\n");
     }
 }
 
-fn say(text: &[u8]) {
-    io::write_all(STDERR_FILENO, text);
+fn say(err: &impl Print, text: &[u8]) {
+    let _ = err.write_all(text);
 }
 
 // Writes the answer that ends there, if there is one, with its line end. False where it could not be written, which is said.
-fn written(out: &mut [u8], end: usize) -> bool {
+fn written(to: &impl Print, err: &impl Print, out: &mut [u8], end: usize) -> bool {
     if end == 0 {
         return true;
     }
     let stop = put(out, end, b"\n");
-    if io::write_all(STDOUT_FILENO, wire::front(out, stop)) {
+    if to.write_all(wire::front(out, stop)).is_ok() {
         return true;
     }
-    say(b"cart desk: the output can't be written\n");
+    say(err, b"cart desk: the output can't be written\n");
     false
 }
 

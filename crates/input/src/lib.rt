@@ -1,13 +1,15 @@
-// Standard input, a line at a time. The line, and what was read of the lines behind it, stand in bytes that the caller lends.
+// What a reader gives, such as standard input, a line at a time. The line, and what was read of the lines behind it, stand in bytes that the caller lends.
 #![tactic(auto)]
-ghost use Rattle.std.specs.Prelude.{◌≡◌, ◌+◌, ◌-◌, ◌<◌, min, false, length, drop, nat_le};
+
+ghost use Rattle.std.specs.Prelude.{◌≡◌, ◌+◌, ◌-◌, ◌<◌, ◌≤◌, min, false, length, drop, nat_le};
 ghost use Rattle.std.proofs.lemmas.List.Edits.{sets};
 ghost use Rattle.input.specs.Lines.{longest, fresh_input, first_line, unread, line_taken};
 ghost use Rattle.input.specs.Reading.{TakesAndReads, Comes, is_cut};
 ghost use Rattle.input.specs.Inner.{next_line, SameLine, answer_of};
 
-use libc::STDIN_FILENO;
 use lines::Run;
+use std::io;
+use std::io::Read;
 
 // Whether more can be read: the text goes on, it has ended, or a read failed.
 #[derive(Clone, Copy)]
@@ -19,18 +21,16 @@ pub enum Source {
 
 impl Source {
     // By what a read answered.
-    fn of_read(got: isize) -> Source {
-        if got > 0 {
-            return Source::Open;
+    fn of_read(got: &io::Result<usize>) -> Source {
+        match got {
+            Ok(0) => Source::Ended,
+            Ok(_) => Source::Open,
+            Err(_) => Source::Failed,
         }
-        if got < 0 {
-            return Source::Failed;
-        }
-        Source::Ended
     }
 }
 
-// A line of standard input, and how far the reading has come. Where the line fits, it is the first `size` of the bytes lent for it;
+// A line of what a reader gives, and how far the reading has come. Where the line fits, it is the first `size` of the bytes lent for it;
 // of a longer one they hold the front, and its size is one more than they are.
 #[derive(Clone, Copy)]
 pub struct Input {
@@ -74,27 +74,27 @@ impl Input {
     // Reads on to the end of the next line, into the bytes lent for it; the last line may have no end. `space` holds what was read ahead, so it is
     // the same at every call. Where no line comes, the text has ended or reading failed, and nothing is read from then on.
     // A proved loop has to end, so it counts its turns down from a number that no run uses up.
-    pub fn next(self, line: &mut [u8], space: &mut [u8]) -> Next
+    pub fn next<R: Read>(self, reader: &mut R, line: &mut [u8], space: &mut [u8]) -> Next
         ensures { Comes self line.old space.old result line.new space.new }
     {
         let mut s = self.next_line();
         let mut turns = u64::MAX;
         while turns > 0 {
-            s = s.take_and_read(line, space);
+            s = s.take_and_read(reader, line, space);
             turns = s.turns_left(turns);
         }
         s.answer()
     }
 
     // Takes what was read, and reads once more where the line goes on.
-    fn take_and_read(self, line: &mut [u8], space: &mut [u8]) -> Input
+    fn take_and_read<R: Read>(self, reader: &mut R, line: &mut [u8], space: &mut [u8]) -> Input
         ensures { TakesAndReads self line.old space.old result line.new space.new }
     {
         let s = self.take(line, space);
         if s.whole {
             return s;
         }
-        s.read(space)
+        s.read(reader, space)
     }
 
     // One turn less; none where the line is whole, or nothing more came.
@@ -158,17 +158,18 @@ impl Input {
     }
 
     // Reads once, if there may be more. Where nothing came, nothing is left to take.
-    fn read(self, space: &mut [u8]) -> Input
+    fn read<R: Read>(self, reader: &mut R, space: &mut [u8]) -> Input
         ensures { SameLine self result }
     {
         let source = self.source;
         let Source::Open = source else {
             return self;
         };
-        let got = libc::read(STDIN_FILENO, space);
-        let n = io::count(got, space);
+        let got = reader.read(space);
+        let source = Source::of_read(&got);
+        let n = got.unwrap_or(0);
         Input {
-            source: Source::of_read(got),
+            source,
             held: n,
             left: n,
             size: self.size,
@@ -222,4 +223,19 @@ fn sum_at_most(size: usize, n: usize, most: usize) -> usize
         return most;
     }
     size + n
+}
+
+// Reads until the lent bytes are full, the text ends or a read fails; how many bytes were put at their start.
+pub fn read_full<R: Read>(reader: &mut R, space: &mut [u8]) -> usize
+    ensures { result ≤ length space.new }
+{
+    let mut done = 0;
+    while done < space.len() {
+        let n = reader.read(&mut space[done..]).unwrap_or(0);
+        if n == 0 {
+            break;
+        }
+        done += n;
+    }
+    done
 }

@@ -1,5 +1,6 @@
 // Frames of the bus joined into reports: a session for each sender, by the broadcast rules of SAE J1939-21.
 #![tactic(auto)]
+
 ghost use Rattle.std.specs.Prelude.{◌≡◌, true, [], ◌-◌, ◌*◌, take, drop};
 ghost use Rattle.std.proofs.lemmas.List.Edits.{sets};
 ghost use Rattle.report.specs.Payload.{read_payload};

@@ -20,52 +20,52 @@ pub fn made(size: u8, count: u8, next: u8, used: usize) -> Session {
     }
 }
 
-pub fn fit(session: Session) {
+pub fn fit(rt: &impl Print, session: Session) {
     if session.fit() {
-        text(b" fit");
+        text(rt, b" fit");
     } else {
-        text(b" unfit");
+        text(rt, b" unfit");
     }
-    print::session(session);
+    print::session(rt, session);
 }
 
-pub fn sender(id: u32, data: &[u8]) {
-    text(b"\n  sender");
+pub fn sender(rt: &impl Print, id: u32, data: &[u8]) {
+    text(rt, b"\n  sender");
     match Frame::sender(id, data) {
-        Sender::Of(n) => number(n as u64),
-        Sender::Refused(n) => refused(n),
+        Sender::Of(n) => number(rt, n as u64),
+        Sender::Refused(n) => refused(rt, n),
     }
 }
 
 // Prints a frame's answer and the session left, and hands that back.
-pub fn take(session: Session, id: u32, data: &[u8]) -> Session {
-    shown(session.frame(id, data))
+pub fn take(rt: &impl Print, session: Session, id: u32, data: &[u8]) -> Session {
+    shown(rt, session.frame(id, data))
 }
 
 // The same, by the call that lends the session.
-pub fn lend(session: Session, id: u32, data: &[u8]) -> Session {
-    shown(session.lend(id, data))
+pub fn lend(rt: &impl Print, session: Session, id: u32, data: &[u8]) -> Session {
+    shown(rt, session.lend(id, data))
 }
 
-fn shown(taken: Taken) -> Session {
+fn shown(rt: &impl Print, taken: Taken) -> Session {
     let left = taken.session;
     let said = taken.answer;
-    print::answer(said);
-    print::session(left);
+    print::answer(rt, said);
+    print::session(rt, left);
     left
 }
 
 // The payload that a finished session holds, and the note in it.
-pub fn payload(session: Session) {
+pub fn payload(rt: &impl Print, session: Session) {
     let bytes = session.bytes;
     let payload = Session::payload(&bytes);
-    number(payload.len() as u64);
+    number(rt, payload.len() as u64);
     if Payload::has_note(payload) {
-        text(b" note");
+        text(rt, b" note");
     } else {
-        text(b" no note");
+        text(rt, b" no note");
     }
-    printing::bytes(Payload::note(payload));
+    printing::bytes(rt, Payload::note(payload));
 }
 
 pub fn fresh(room: &mut [u8; Bus::ROOM]) {
@@ -74,25 +74,25 @@ pub fn fresh(room: &mut [u8; Bus::ROOM]) {
     Bus::fill(room, sessions);
 }
 
-pub fn heard(room: &mut [u8; Bus::ROOM], id: u32, data: &[u8]) {
-    print::answer(Bus::take(room, id, data));
+pub fn heard(rt: &impl Print, room: &mut [u8; Bus::ROOM], id: u32, data: &[u8]) {
+    print::answer(rt, Bus::take(room, id, data));
 }
 
 // The sessions that are not fresh.
-pub fn left(room: &[u8; Bus::ROOM]) {
+pub fn left(rt: &impl Print, room: &[u8; Bus::ROOM]) {
     let sessions = Bus::read(room);
     let mut k: usize = 0;
     while k < 254 {
-        one_left(k, sessions[k]);
+        one_left(rt, k, sessions[k]);
         k += 1;
     }
 }
 
-fn one_left(k: usize, session: Session) {
+fn one_left(rt: &impl Print, k: usize, session: Session) {
     if touched(session) {
-        text(b"\n ");
-        number(k as u64);
-        print::session(session);
+        text(rt, b"\n ");
+        number(rt, k as u64);
+        print::session(rt, session);
     }
 }
 
@@ -104,16 +104,16 @@ fn touched(session: Session) -> bool {
     print::used(&bytes) != 0
 }
 
-pub fn write(line: &[u8]) {
+pub fn write(rt: &impl Print, line: &[u8]) {
     let mut space = [238u8; 169];
     let room: &mut [u8] = &mut space;
     let size = cases::byte(line, 1) as usize;
     if size <= room.len() {
-        write_in(&mut room[..size], line);
+        write_in(rt, &mut room[..size], line);
     }
 }
 
-fn write_in(room: &mut [u8], line: &[u8]) {
+fn write_in(rt: &impl Print, room: &mut [u8], line: &[u8]) {
     let values = Values {
         loss: cases::short(line, 3),
         shake: cases::short(line, 4),
@@ -126,7 +126,10 @@ fn write_in(room: &mut [u8], line: &[u8]) {
     let words: &[u8] = b"The left sieve lets more grain by than before, since the belt was";
     let note = wire::front(words, cases::byte(line, 7) as usize);
     let noted = cases::byte(line, 6) == 1;
-    print::written(Bench::send(room, cases::byte(line, 2), report, noted, note));
-    text(b"\n ");
-    printing::bytes(room);
+    print::written(
+        rt,
+        Bench::send(room, cases::byte(line, 2), report, noted, note),
+    );
+    text(rt, b"\n ");
+    printing::bytes(rt, room);
 }

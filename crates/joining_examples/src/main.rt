@@ -14,6 +14,7 @@
 //
 // ID and DATA are hexadecimal, the other numbers decimal. EDITION is one more than the heat, and 0 or nothing without one.
 #![tactic(auto)]
+
 mod calls;
 mod print;
 
@@ -22,39 +23,41 @@ use calls::{made, take};
 use joining::Session;
 use printing::{end, text};
 
-fn main() {
-    let mut space = io::large_buffer();
-    let n = io::read_full(libc::STDIN_FILENO, &mut space);
-    every_case(wire::front(&space, n));
+fn main(rt: HostRuntime) {
+    let mut space = [0u8; 65536];
+    let n = input::read_full(&mut rt.stdin(), &mut space);
+    every_case(&rt, wire::front(&space, n));
 }
 
-fn every_case(text: &[u8]) {
+fn every_case(rt: &impl Print, text: &[u8]) {
     let mut room = [0u8; Bus::ROOM];
     let mut session = Session::fresh();
     let mut at: usize = 0;
     while at < text.len() {
-        session = case(session, &mut room, cases::line(text, at));
+        session = case(rt, session, &mut room, cases::line(text, at));
         at = cases::next(text, at);
     }
 }
 
 // Prints one case; the session that it leaves.
-fn case(session: Session, room: &mut [u8; Bus::ROOM], line: &[u8]) -> Session {
+fn case(rt: &impl Print, session: Session, room: &mut [u8; Bus::ROOM], line: &[u8]) -> Session {
     let mut space = [0u8; 16];
     let n = cases::bytes(line, 2, &mut space);
-    text(line);
+    text(rt, line);
     let after = tried(
+        rt,
         session,
         room,
         line,
         cases::hex(line, 1),
         wire::front(&space, n),
     );
-    end();
+    end(rt);
     after
 }
 
 fn tried(
+    rt: &impl Print,
     session: Session,
     room: &mut [u8; Bus::ROOM],
     line: &[u8],
@@ -62,34 +65,34 @@ fn tried(
     data: &[u8],
 ) -> Session {
     match wire::byte(line, 0) {
-        b's' => return asked(line),
-        b'f' => return take(session, id, data),
-        b'a' => return calls::lend(session, id, data),
-        b'e' => each(id, data),
-        b'p' => calls::payload(session),
+        b's' => return asked(rt, line),
+        b'f' => return take(rt, session, id, data),
+        b'a' => return calls::lend(rt, session, id, data),
+        b'e' => each(rt, id, data),
+        b'p' => calls::payload(rt, session),
         b'b' => calls::fresh(room),
-        b't' => calls::heard(room, id, data),
-        b'l' => calls::left(room),
-        b'w' => calls::write(line),
-        _ => text(b""),
+        b't' => calls::heard(rt, room, id, data),
+        b'l' => calls::left(rt, room),
+        b'w' => calls::write(rt, line),
+        _ => text(rt, b""),
     }
     session
 }
 
-fn asked(line: &[u8]) -> Session {
+fn asked(rt: &impl Print, line: &[u8]) -> Session {
     let session = made(
         cases::byte(line, 1),
         cases::byte(line, 2),
         cases::byte(line, 3),
         cases::byte(line, 4) as usize,
     );
-    calls::fit(session);
+    calls::fit(rt, session);
     session
 }
 
-fn each(id: u32, data: &[u8]) {
-    calls::sender(id, data);
-    take(made(0, 0, 0, 0), id, data);
-    take(made(0, 0, 0, 17), id, data);
-    take(made(17, 3, 2, 7), id, data);
+fn each(rt: &impl Print, id: u32, data: &[u8]) {
+    calls::sender(rt, id, data);
+    take(rt, made(0, 0, 0, 0), id, data);
+    take(rt, made(0, 0, 0, 17), id, data);
+    take(rt, made(17, 3, 2, 7), id, data);
 }

@@ -4,38 +4,38 @@ use printing::{bytes, number, refused, text};
 use report::{Report, Written};
 use values::Edition;
 
-pub fn answer(a: Answer) {
-    text(b"\n ");
+pub fn answer(rt: &impl Print, a: Answer) {
+    text(rt, b"\n ");
     match a {
-        Answer::Refused(n) => refused(n),
-        Answer::Kept => text(b" kept"),
-        Answer::Complete(r) => report(r),
+        Answer::Refused(n) => refused(rt, n),
+        Answer::Kept => text(rt, b" kept"),
+        Answer::Complete(r) => report(rt, r),
     }
 }
 
-fn report(r: Report) {
-    text(b" report");
-    number(r.values.loss as u64);
-    number(r.values.shake as u64);
-    number(r.own as u64);
+fn report(rt: &impl Print, r: Report) {
+    text(rt, b" report");
+    number(rt, r.values.loss as u64);
+    number(rt, r.values.shake as u64);
+    number(rt, r.own as u64);
     let values = r.values;
     let edition = values.edition;
     if let Edition::Second(heat) = edition {
-        text(b" heat");
-        number(heat as u64);
+        text(rt, b" heat");
+        number(rt, heat as u64);
     }
 }
 
 // The size, the count and the next packet, and the payload bytes up to the last that isn't 255.
-pub fn session(s: Session) {
-    text(b" |");
-    number(s.size as u64);
-    number(s.count as u64);
-    number(s.next as u64);
-    text(b":");
+pub fn session(rt: &impl Print, s: Session) {
+    text(rt, b" |");
+    number(rt, s.size as u64);
+    number(rt, s.count as u64);
+    number(rt, s.next as u64);
+    text(rt, b":");
     let space = s.bytes;
     let held: &[u8] = &space;
-    bytes(wire::front(held, used(held)));
+    bytes(rt, wire::front(held, used(held)));
 }
 
 // How many bytes there are up to the last that isn't 255.
@@ -47,10 +47,10 @@ pub fn used(s: &[u8]) -> usize {
     n
 }
 
-pub fn written(answer: Written) {
-    text(b" written");
+pub fn written(rt: &impl Print, answer: Written) {
+    text(rt, b" written");
     match answer {
-        Written::Bytes(n) => number(n as u64),
-        Written::Refused(n) => refused(n),
+        Written::Bytes(n) => number(rt, n as u64),
+        Written::Refused(n) => refused(rt, n),
     }
 }

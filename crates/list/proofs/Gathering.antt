@@ -91,10 +91,10 @@ module _ (w : Window) where
 -- ---- a pass over rows
 
 -- The arrays have the best k of the reports so far, and the bar and its least score are theirs.
-pub record Pass (rule : Rule) (k : ℕ) (hs : List Held) (ns : List ℕ) (ss : List ℤ) (len : ℕ) (bar : Bar) (least : ℕ) : Type 0 where
+pub record Pass (rule : Rule) (k : ℕ) (hs : List Held) (ns : List ℕ) (ss : List ℤ) (len : ℕ) (bar : Bar) (least : ℤ) : Type 0 where
   pub lines : Gathered rule k hs ns ss len
   pub bar_is : bar ≡ bar_at ns ss len (eqb len k)
-  pub least-is : to_z w32 least ≡ least_at bar
+  pub least-is : least ≡ least_at bar
 
 -- before the first row
 pub gathered_none : (rule : Rule) (k : ℕ) → columns_of [] ≡ columns_of (top rule k [])
@@ -185,7 +185,7 @@ module _ (rule : Rule) (k : ℕ) (small : k ≤ 16) (hs : List Held) where
             ∙ sym (top_cons rule k (report_in w r) hs counts)
             ∙ sym (row_some z)
 
-module _ {rule : Rule} {k : ℕ} {hs : List Held} {ns : List ℕ} {ss : List ℤ} {len : ℕ} {bar : Bar} {least : ℕ} (small : k ≤ 16) (p : Pass rule k hs ns ss len bar least) where
+module _ {rule : Rule} {k : ℕ} {hs : List Held} {ns : List ℕ} {ss : List ℤ} {len : ℕ} {bar : Bar} {least : ℤ} (small : k ≤ 16) (p : Pass rule k hs ns ss len bar least) where
   pub pass_few : len ≤ 16
   pass_few = gathered_few rule k small hs p.lines
 
@@ -196,7 +196,7 @@ module _ {rule : Rule} {k : ℕ} {hs : List Held} {ns : List ℕ} {ss : List ℤ
   same_bar = p.bar_is ∙ bar_read rule k small hs p.lines
 
   -- a row more, by what its score's test and the bar say of its report
-  module _ (w : Window) (r : ℕ) {sc : Score} (is : sc ≡ from_least (to_z w32 least) (score rule (report_in w r).values)) where
+  module _ (w : Window) (r : ℕ) {sc : Score} (is : sc ≡ from_least least (score rule (report_in w r).values)) where
     abbrev own_entry : Entry
     own_entry = entry rule (report_in w r)
 
@@ -210,7 +210,7 @@ module _ {rule : Rule} {k : ℕ} {hs : List Held} {ns : List ℕ} {ss : List ℤ
         (λ low. row_skips rule k small hs w r low.0
         (ap (λ b. admits (above rule) b own_entry) (sym same_bar)
         ∙ admits_under (above rule) bar own_entry (score_below rule) fits.sfits (ap (lt_z own_entry.score) (sym p.least-is) ∙ low.1)))
-        (from_none (to_z w32 least) (score rule (report_in w r).values) (sym is ∙ none)))
+        (from_none least (score rule (report_in w r).values) (sym is ∙ none)))
 
     module _ {own : ℤ} (scored : sc ≡ Scored own) (fits : mag own < 2147483648) where
       -- the report's entry as the code has it
@@ -218,7 +218,7 @@ module _ {rule : Rule} {k : ℕ} {hs : List Held} {ns : List ℕ} {ss : List ℤ
       read = record { name = get_or w.names r 0; score = to_z w32 (of_z w32 own) }
 
       score-is : score rule (report_in w r).values ≡ Scored own
-      score-is = from_is (to_z w32 least) (score rule (report_in w r).values) own (sym is ∙ scored)
+      score-is = from_is least (score rule (report_in w r).values) own (sym is ∙ scored)
 
       read_is : read ≡ own_entry
       read_is =
@@ -230,7 +230,7 @@ module _ {rule : Rule} {k : ℕ} {hs : List Held} {ns : List ℕ} {ss : List ℤ
       pub pass_skips : admits (above rule) bar read ≡ false → Pass rule k (with_row w r hs) ns ss len bar least
       pass_skips h = stays (row_skips rule k small hs w r (ap is_scored score-is) (test_is ∙ h))
 
-      pub pass_puts : {ns' : List ℕ} {ss' : List ℤ} {len' : ℕ} {bar' : Bar} {least' : ℕ} → admits (above rule) bar read ≡ true → Placing (above rule) read len k (lines_of ns ss) (lines_of ns' ss') len' → Roomy ns' ss' → bar' ≡ bar_at ns' ss' len' (eqb len' k) → to_z w32 least' ≡ least_at bar' → Pass rule k (with_row w r hs) ns' ss' len' bar' least'
+      pub pass_puts : {ns' : List ℕ} {ss' : List ℤ} {len' : ℕ} {bar' : Bar} {least' : ℤ} → admits (above rule) bar read ≡ true → Placing (above rule) read len k (lines_of ns ss) (lines_of ns' ss') len' → Roomy ns' ss' → bar' ≡ bar_at ns' ss' len' (eqb len' k) → least' ≡ least_at bar' → Pass rule k (with_row w r hs) ns' ss' len' bar' least'
       pass_puts h placing room b l =
           record {
             lines = row_places rule k small hs w r read p.lines room placing read_is (ap is_scored score-is) (test_is ∙ h);

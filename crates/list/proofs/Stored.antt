@@ -71,8 +71,8 @@ roomy_stored l = record { names = long (λ e. e.name) 0; scores = long (λ e. e.
     long f d = simp (length-take, length-append, length-replicate) (omega arith)
 
 -- as a function knows it of the arrays of a struct that is handed in
-pub roomy_known : (ns : List ℕ) (ss : List ℤ) → length (map (λ (n : ℕ). n) ns) ≡ 16 → length (map (λ (s : ℤ). s) ss) ≡ 16 → Roomy ns ss
-roomy_known ns ss n s = record { names = sym (length-map ns (λ v. v)) ∙ n; scores = sym (length-map ss (λ v. v)) ∙ s }
+pub roomy_known : (ns : List ℕ) (ss : List ℤ) → length ns ≡ 16 → length ss ≡ 16 → Roomy ns ss
+roomy_known ns ss n s = record { names = n; scores = s }
 
 -- ---- the lines of two columns
 

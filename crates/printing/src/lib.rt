@@ -1,49 +1,49 @@
-// What the test programs print with: words, numbers and bytes on standard output.
+// What the test programs print with: words, numbers and bytes on standard output. A write that fails is passed over.
 #![tactic(auto)]
-use libc::STDOUT_FILENO;
 
-pub fn text(s: &[u8]) {
-    io::write_all(STDOUT_FILENO, s);
+pub fn text(rt: &impl Print, s: &[u8]) {
+    let _ = rt.write_all(s);
 }
 
 // The end of a line.
-pub fn end() {
-    text(b"\n");
+pub fn end(rt: &impl Print) {
+    text(rt, b"\n");
 }
 
 // A space and a number.
-pub fn number(n: u64) {
-    text(b" ");
-    io::print_decimal(STDOUT_FILENO, n);
+pub fn number(rt: &impl Print, n: u64) {
+    text(rt, b" ");
+    let _ = rt.print(n);
 }
 
-// A space and a number in at least `width` hexadecimal digits.
-pub fn hex(n: u64, width: usize) {
-    text(b" ");
-    io::print_hex(STDOUT_FILENO, n, width);
+// A space and a number in at least `width` hexadecimal digits, of which it has no more than 16.
+pub fn hex(rt: &impl Print, n: u64, width: usize) {
+    text(rt, b" ");
+    let digits = width.min(16);
+    let _ = print!(rt; "{n:0digits$x}");
 }
 
 // Each byte as a space and two hexadecimal digits.
-pub fn bytes(s: &[u8]) {
+pub fn bytes(rt: &impl Print, s: &[u8]) {
     let mut i = 0;
     while i < s.len() {
-        byte(s[i]);
+        byte(rt, s[i]);
         i += 1;
     }
 }
 
-fn byte(b: u8) {
-    hex(b as u64, 2);
+fn byte(rt: &impl Print, b: u8) {
+    hex(rt, b as u64, 2);
 }
 
 // " refused" and the number.
-pub fn refused(n: u8) {
-    text(b" refused");
-    number(n as u64);
+pub fn refused(rt: &impl Print, n: u8) {
+    text(rt, b" refused");
+    number(rt, n as u64);
 }
 
 // What a call answers: the refusal's number, or 0.
-pub fn answers(refusal: u8) {
-    text(b" answers");
-    number(refusal as u64);
+pub fn answers(rt: &impl Print, refusal: u8) {
+    text(rt, b" answers");
+    number(rt, refusal as u64);
 }

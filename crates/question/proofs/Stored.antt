@@ -22,7 +22,7 @@ pub lines-asked : (k : ℕ) (w : Rule) (l : List Entry) (next : ℕ) → length 
 lines-asked k w l next h = list.lines_back l h
 
 -- as a function knows it of the arrays of a question that is handed in
-pub roomy : (q : Question) → length (map (λ (n : ℕ). n) q.names) ≡ 16 → length (map (λ (s : ℤ). s) q.scores) ≡ 16 → Roomy q.names q.scores
+pub roomy : (q : Question) → length q.names ≡ 16 → length q.scores ≡ 16 → Roomy q.names q.scores
 roomy q n s = list.roomy_known q.names q.scores n s
 
 module _ (q : Question) (r : Roomy q.names q.scores) where

@@ -10,58 +10,59 @@
 //
 // BYTES are hexadecimal, the other numbers decimal. EDITION is one more than the heat, and 0 or nothing without one.
 #![tactic(auto)]
+
 use printing::{bytes, end, number, refused, text};
 use report::{Payload, Reading, Report, Written};
 use values::{Edition, Values};
 
-fn main() {
-    let mut space = io::large_buffer();
-    let n = io::read_full(libc::STDIN_FILENO, &mut space);
-    every_case(wire::front(&space, n));
+fn main(rt: HostRuntime) {
+    let mut space = [0u8; 65536];
+    let n = input::read_full(&mut rt.stdin(), &mut space);
+    every_case(&rt, wire::front(&space, n));
 }
 
-fn every_case(text: &[u8]) {
+fn every_case(rt: &impl Print, text: &[u8]) {
     let mut at: usize = 0;
     while at < text.len() {
-        case(cases::line(text, at));
+        case(rt, cases::line(text, at));
         at = cases::next(text, at);
     }
 }
 
 // Prints one case.
-fn case(line: &[u8]) {
+fn case(rt: &impl Print, line: &[u8]) {
     let mut space = [0u8; 96];
-    text(line);
+    text(rt, line);
     match wire::byte(line, 0) {
-        b'w' => write(line),
-        b'h' => written(&mut space, line, true, &io::large_buffer()),
+        b'w' => write(rt, line),
+        b'h' => written(rt, &mut space, line, true, &[0u8; 65536]),
         b'r' => {
             let n = cases::bytes(line, 1, &mut space);
-            read(wire::front(&space, n));
+            read(rt, wire::front(&space, n));
         }
-        b'l' => long(line),
+        b'l' => long(rt, line),
         b'c' => {
             let n = cases::bytes(line, 2, &mut space);
-            count(&mut space, n, cases::byte(line, 1) as usize);
+            count(rt, &mut space, n, cases::byte(line, 1) as usize);
         }
-        _ => text(b""),
+        _ => text(rt, b""),
     }
-    end();
+    end(rt);
 }
 
-fn write(line: &[u8]) {
+fn write(rt: &impl Print, line: &[u8]) {
     let mut space = [255u8; 90];
     let room: &mut [u8] = &mut space;
     let size = cases::byte(line, 1) as usize;
     let words: &[u8] = b"The left sieve lets more grain by than before, since the belt was";
     let note = wire::front(words, cases::byte(line, 6) as usize);
     if size <= room.len() {
-        written(&mut room[..size], line, cases::byte(line, 5) == 1, note);
+        written(rt, &mut room[..size], line, cases::byte(line, 5) == 1, note);
     }
 }
 
 // What the writer answers, and the room that it leaves.
-fn written(room: &mut [u8], line: &[u8], noted: bool, note: &[u8]) {
+fn written(rt: &impl Print, room: &mut [u8], line: &[u8], noted: bool, note: &[u8]) {
     let values = Values {
         loss: cases::short(line, 2),
         shake: cases::short(line, 3),
@@ -71,57 +72,57 @@ fn written(room: &mut [u8], line: &[u8], noted: bool, note: &[u8]) {
         values,
         own: cases::number(line, 4),
     };
-    text(b" written");
+    text(rt, b" written");
     match Payload::write(room, report, noted, note) {
-        Written::Bytes(n) => number(n as u64),
-        Written::Refused(n) => refused(n),
+        Written::Bytes(n) => number(rt, n as u64),
+        Written::Refused(n) => refused(rt, n),
     }
-    bytes(room);
+    bytes(rt, room);
 }
 
 // What the reader answers for the bytes, and the note in them.
-fn read(p: &[u8]) {
+fn read(rt: &impl Print, p: &[u8]) {
     match Payload::read(p) {
-        Reading::Accepted(r) => accepted(r),
-        Reading::Refused(n) => refused(n),
+        Reading::Accepted(r) => accepted(rt, r),
+        Reading::Refused(n) => refused(rt, n),
     }
     if Payload::has_note(p) {
-        text(b" note");
+        text(rt, b" note");
     }
-    bytes(Payload::note(p));
+    bytes(rt, Payload::note(p));
 }
 
-fn accepted(r: Report) {
-    text(b" accepted");
-    number(r.values.loss as u64);
-    number(r.values.shake as u64);
-    number(r.own as u64);
+fn accepted(rt: &impl Print, r: Report) {
+    text(rt, b" accepted");
+    number(rt, r.values.loss as u64);
+    number(rt, r.values.shake as u64);
+    number(rt, r.own as u64);
     let values = r.values;
     let edition = values.edition;
     if let Edition::Second(heat) = edition {
-        text(b" heat");
-        number(heat as u64);
+        text(rt, b" heat");
+        number(rt, heat as u64);
     }
 }
 
-fn long(line: &[u8]) {
+fn long(rt: &impl Print, line: &[u8]) {
     let mut space = [0u8; 65556];
     let p: &mut [u8] = &mut space;
     let start: &[u8] = b"\x01\x02\x00\x64\x00\x02\x02\x00\xc8\x00\x03\x04\x00\x07\x00\x00\x00\x04";
     wire::put_all(p, 0, start);
     wire::put16(p, 18, cases::short(line, 2));
-    read(wire::front(p, cases::number(line, 1) as usize));
+    read(rt, wire::front(p, cases::number(line, 1) as usize));
 }
 
 // How many of the 255 other bytes at a place the reader takes.
-fn count(p: &mut [u8; 96], size: usize, at: usize) {
+fn count(rt: &impl Print, p: &mut [u8; 96], size: usize, at: usize) {
     let mut count: u64 = 0;
     let mut more: u8 = 0;
     while more < 255 {
         more += 1;
         count = std::num::wrapping_add_u64(count, reads_with(p, size, at, more));
     }
-    number(count);
+    number(rt, count);
 }
 
 // 1 where the reader takes the byte that is `more` above the one at a place, else 0; that one is put back.

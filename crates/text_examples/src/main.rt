@@ -1,119 +1,121 @@
 // The log program's lines tried at the edges of their numbers and of the room. The file `stdout` has the lines that
 // the rules (docs/RULES.md) ask for.
 #![tactic(auto)]
-use libc::STDOUT_FILENO;
+
 use text::Text;
 
-fn main() {
-    numbers();
-    scores();
-    searches();
-    refusals();
-    lists();
-    rooms();
+fn main(rt: HostRuntime) {
+    numbers(&rt);
+    scores(&rt);
+    searches(&rt);
+    refusals(&rt);
+    lists(&rt);
+    rooms(&rt);
 }
 
 // Writes the first `n` bytes.
-fn show(room: &[u8], n: usize) {
-    io::write_all(STDOUT_FILENO, wire::front(room, n));
+fn show(rt: &impl Print, room: &[u8], n: usize) {
+    let _ = rt.write_all(wire::front(room, n));
 }
 
-fn end() {
-    io::write_all(STDOUT_FILENO, b"\n");
+fn end(rt: &impl Print) {
+    let _ = rt.write_all(b"\n");
 }
 
 // Each number on a line of its own.
-fn numbers() {
-    number(0);
-    number(9);
-    number(10);
-    number(99);
-    number(100);
-    number(1000001);
-    number(4294967295);
-    number(4294967296);
-    number(9999999999999999999);
-    number(10000000000000000000);
-    number(18446744073709551615);
+fn numbers(rt: &impl Print) {
+    number(rt, 0);
+    number(rt, 9);
+    number(rt, 10);
+    number(rt, 99);
+    number(rt, 100);
+    number(rt, 1000001);
+    number(rt, 4294967295);
+    number(rt, 4294967296);
+    number(rt, 9999999999999999999);
+    number(rt, 10000000000000000000);
+    number(rt, 18446744073709551615);
 }
 
-fn number(n: u64) {
+fn number(rt: &impl Print, n: u64) {
     let mut space = [0u8; Text::NUMBER];
     let room: &mut [u8] = &mut space;
     let behind = text::put_decimal(room, 0, n);
-    show(room, behind);
-    end();
+    show(rt, room, behind);
+    end(rt);
 }
 
-fn scores() {
-    score(0);
-    score(1);
-    score(-1);
-    score(-9);
-    score(-10);
-    score(12285000);
-    score(-12285000);
-    score(2147483647);
-    score(-2147483648);
+fn scores(rt: &impl Print) {
+    score(rt, 0);
+    score(rt, 1);
+    score(rt, -1);
+    score(rt, -9);
+    score(rt, -10);
+    score(rt, 12285000);
+    score(rt, -12285000);
+    score(rt, 2147483647);
+    score(rt, -2147483648);
 }
 
-fn score(z: i32) {
+fn score(rt: &impl Print, z: i32) {
     let mut space = [0u8; Text::SCORE];
     let room: &mut [u8] = &mut space;
     let behind = text::put_signed(room, 0, z);
-    show(room, behind);
-    end();
+    show(rt, room, behind);
+    end(rt);
 }
 
 // The worked example's line, the shortest and the longest.
-fn searches() {
-    search(2, 0, 256);
-    search(1, 0, 0);
-    search(18446744073709551615, 255, 65535);
+fn searches(rt: &impl Print) {
+    search(rt, 2, 0, 256);
+    search(rt, 1, 0, 0);
+    search(rt, 18446744073709551615, 255, 65535);
 }
 
-fn search(item: u64, slot: u8, steps: u16) {
+fn search(rt: &impl Print, item: u64, slot: u8, steps: u16) {
     let mut space = [0u8; Text::S_LONGEST];
     let room: &mut [u8] = &mut space;
     let behind = text::put_s(room, 0, item, slot, steps);
-    show(room, behind);
+    show(rt, room, behind);
 }
 
 // The worked example's line, the shortest and the longest.
-fn refusals() {
-    refusal(12, 17);
-    refusal(1, 1);
-    refusal(18446744073709551615, 255);
+fn refusals(rt: &impl Print) {
+    refusal(rt, 12, 17);
+    refusal(rt, 1, 1);
+    refusal(rt, 18446744073709551615, 255);
 }
 
-fn refusal(item: u64, code: u8) {
+fn refusal(rt: &impl Print, item: u64, code: u8) {
     let mut space = [0u8; Text::R_LONGEST];
     let room: &mut [u8] = &mut space;
     let behind = text::put_r(room, 0, item, code);
-    show(room, behind);
+    show(rt, room, behind);
 }
 
 // The worked example's line, none of its entries, one and all of sixteen, and the longest line.
-fn lists() {
+fn lists(rt: &impl Print) {
     let mut numbers = [0u32; Text::ENTRIES];
     let mut scores = [0i32; Text::ENTRIES];
     numbers[0] = 2;
     numbers[1] = 1;
     scores[0] = 500;
     scores[1] = 500;
-    list(0, numbers, scores, 2);
-    list(0, numbers, scores, 0);
-    list(31, numbers, scores, 1);
-    list(31, numbers, scores, 16);
-    list(31, numbers, scores, 17);
-    list(31, numbers, scores, 18446744073709551615);
+    list(rt, 0, numbers, scores, 2);
+    list(rt, 0, numbers, scores, 0);
+    list(rt, 31, numbers, scores, 1);
+    list(rt, 31, numbers, scores, 16);
+    list(rt, 31, numbers, scores, 17);
+    list(rt, 31, numbers, scores, 18446744073709551615);
     list(
+        rt,
         7,
         [1000000u32; Text::ENTRIES],
         [-12285000i32; Text::ENTRIES],
         16,
     );
     list(
+        rt,
         255,
         [4294967295u32; Text::ENTRIES],
         [-2147483648i32; Text::ENTRIES],
@@ -121,35 +123,41 @@ fn lists() {
     );
 }
 
-fn list(slot: u8, numbers: [u32; Text::ENTRIES], scores: [i32; Text::ENTRIES], n: usize) {
+fn list(
+    rt: &impl Print,
+    slot: u8,
+    numbers: [u32; Text::ENTRIES],
+    scores: [i32; Text::ENTRIES],
+    n: usize,
+) {
     let mut space = [0u8; Text::Q_LONGEST];
     let room: &mut [u8] = &mut space;
     let behind = text::put_q(room, 0, slot, numbers, scores, n);
-    show(room, behind);
+    show(rt, room, behind);
 }
 
 // A line in eight dots from several places on, with the place behind it.
-fn rooms() {
-    room(0);
-    room(1);
-    room(2);
-    room(5);
-    room(7);
-    room(8);
-    room(9);
-    room(18446744073709551608);
-    room(18446744073709551609);
-    room(18446744073709551615);
+fn rooms(rt: &impl Print) {
+    room(rt, 0);
+    room(rt, 1);
+    room(rt, 2);
+    room(rt, 5);
+    room(rt, 7);
+    room(rt, 8);
+    room(rt, 9);
+    room(rt, 18446744073709551608);
+    room(rt, 18446744073709551609);
+    room(rt, 18446744073709551615);
 }
 
-fn room(at: usize) {
+fn room(rt: &impl Print, at: usize) {
     let mut space = [b'.'; 8];
     let room: &mut [u8] = &mut space;
     let behind = text::put_r(room, at, 12, 17);
-    io::print_decimal(STDOUT_FILENO, at as u64);
-    io::write_all(STDOUT_FILENO, b" ");
-    io::print_decimal(STDOUT_FILENO, behind as u64);
-    io::write_all(STDOUT_FILENO, b" ");
-    show(room, 8);
-    end();
+    let _ = rt.print(at as u64);
+    let _ = rt.write_all(b" ");
+    let _ = rt.print(behind as u64);
+    let _ = rt.write_all(b" ");
+    show(rt, room, 8);
+    end(rt);
 }

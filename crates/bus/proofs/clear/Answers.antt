@@ -1,10 +1,10 @@
 -- `bus::clear` meets its contract: after i turns the first i bytes are 255.
 -- Assumes nothing.
 use Rattle.bus.proofs.Places.{cleared}
-use Prim.Native.Nat.{ℕ, ◌≤◌, ◌-◌}
+use Prim.Native.Nat.{ℕ}
 use mathlib.Core.Path.{◌≡◌, refl, sym, ◌∙◌, ap}
 use native.Mathlib.Omega.{arith}
-use lib.ListN.{length, take, replicate, length-set}
+use lib.ListN.{take, replicate, length-set}
 use Rattle.bus.proofs.clear.Goals as goal
 
 pub loop-i-init : goal.loop-i-init

@@ -1,8 +1,6 @@
-use Rattle.bus.proofs.Places.{cleared}
-use Prim.Native.Nat.{ℕ, ◌≤◌, ◌-◌}
-use mathlib.Core.Path.{◌≡◌, refl, sym, ◌∙◌, ap}
-use native.Mathlib.Omega.{arith}
-use lib.ListN.{length, take, replicate, length-set}
+use Prim.Native.Nat.{◌≤◌, ◌-◌}
+use mathlib.Core.Path.{◌≡◌}
+use lib.ListN.{length, take, replicate}
 use Rattle.bus.proofs.clear.Given as goal
 
 abbrev pub invariant-loop-i : goal.invariant-loop-i

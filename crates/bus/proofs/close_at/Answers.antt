@@ -1,6 +1,5 @@
 -- `bus::close_at` meets its contract: the three numbers are 0.
 -- Assumes nothing.
-use borrow.Author.Rules.{rules}
 use Rattle.bus.proofs.close_at.Goals as goal
 
 pub returns : goal.returns

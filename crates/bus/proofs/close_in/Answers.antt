@@ -1,6 +1,6 @@
 -- `bus::close_in` meets its contract: the session is the part that is lent, and the bytes before and behind it stay; senders 254 and 255 have none.
 -- Assumes nothing.
-use mathlib.Core.Path.{◌≡◌, sym, ◌∙◌, ap}
+use mathlib.Core.Path.{sym, ◌∙◌, ap}
 use mathlib.Core.List.{List, ◌++◌, append_assoc}
 use Prim.Native.Nat.{ℕ, ◌+◌, ◌*◌}
 use native.Mathlib.Omega.{arith}
@@ -22,7 +22,7 @@ returns-then-k-lt-SENDERS c =
     let left = session_bytes (closed (session_in (drop at room))) in
     let same = ap (λ (n : ℕ). session_in (take n (drop at room))) (add-sub_cancel_left at 92) ∙ first_92 (drop at room) in
     closing room c.args.sender c.requires (search rules)
-    (ap (λ (l : List ℕ). take at room ++ (c.close_at.new.0 ++ l)) (Post-is at (at + 92) room (omega arith))
+    (ap (λ (l : List ℕ). take at room ++ (c.close_at.new.place ++ l)) (Post-is at (at + 92) room (omega arith))
     ∙ ap (λ (l : List ℕ). take at room ++ (l ++ drop (at + 92) room)) (c.close_at.ensures ∙ ap (λ (x : Session). session_bytes (closed x)) same)
     ∙ sym (append_assoc (take at room) left (drop (at + 92) room)))
 

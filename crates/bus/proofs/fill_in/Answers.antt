@@ -2,7 +2,6 @@
 -- Assumes nothing.
 use mathlib.Core.Path.{◌≡◌, refl, sym, ◌∙◌, ap, subst}
 use mathlib.Core.List.{List}
-use Prim.Native.Nat.{◌≤◌, ◌-◌, ◌*◌}
 use native.Mathlib.Omega.{arith}
 use lib.ListN.{length, take}
 use borrow.Author.Rules.{rules}
@@ -53,10 +52,10 @@ shape_of-room c =
 
 pub returns : goal.returns
 returns c =
-    let l = c.loop-k in 
-    let room = c.args.room.now in 
-    let ss = c.args.sessions in 
-    let many : length ss ≡ 254 = search rules in 
-    let all : take c.loop-k.k ss ≡ ss = take_all c.loop-k.k ss (omega (arith, many)) in 
-    let long : length (room_of ss) ≡ length room = ap (λ (z : List Session). length (room_of z)) (sym all) ∙ c.loop-k.invariant.1 ∙ omega (arith, c.requires) in 
+    let l = c.loop-k in
+    let room = c.args.room.now in
+    let ss = c.args.sessions in
+    let many : length ss ≡ 254 = search rules in
+    let all : take c.loop-k.k ss ≡ ss = take_all c.loop-k.k ss (omega (arith, many)) in
+    let long : length (room_of ss) ≡ length room = ap (λ (z : List Session). length (room_of z)) (sym all) ∙ c.loop-k.invariant.1 ∙ omega (arith, c.requires) in
     let filled = c.loop-k.invariant.2 ∙ ap (λ (z : List Session). sets room 0 (room_of z)) all ∙ overwritten room (room_of ss) long in record { room_after = filled; room_after_2 = (ap sessions_in filled ∙ read_back ss (subst Sized all c.loop-k.invariant.3) many, ap length filled ∙ long ∙ c.requires) }

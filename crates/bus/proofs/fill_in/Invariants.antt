@@ -1,14 +1,9 @@
-use mathlib.Core.Path.{◌≡◌, refl, sym, ◌∙◌, ap, subst}
-use mathlib.Core.List.{List}
+use mathlib.Core.Path.{◌≡◌}
 use Prim.Native.Nat.{◌≤◌, ◌-◌, ◌*◌}
-use native.Mathlib.Omega.{arith}
 use lib.ListN.{length, take}
-use borrow.Author.Rules.{rules}
-use lib.Seq.{sets, length-sets, take_all}
-use Rattle.joining.specs.declared.Session.{Session}
-use Rattle.bus.specs.Room.{room_of, sessions_in}
-use Rattle.bus.proofs.Places.{Sized, stores_more, overwritten}
-use Rattle.bus.proofs.Rooms.{sized_more, read_back}
+use lib.Seq.{sets}
+use Rattle.bus.specs.Room.{room_of}
+use Rattle.bus.proofs.Places.{Sized}
 use Rattle.bus.proofs.fill_in.Given as goal
 
 abbrev pub invariant-loop-k : goal.invariant-loop-k

@@ -7,7 +7,6 @@ use native.Mathlib.Omega.{arith}
 use lib.Seq.{length-take-le, take-take}
 use Rattle.report.specs.Payload.{read_payload}
 use Rattle.joining.specs.Joining.{yields}
-use borrow.Author.Rules.{rules}
 use Rattle.bus.proofs.finish_at.Goals as goal
 
 pub slice_bounds-answered-end-2 : goal.slice_bounds-answered-end-2

@@ -6,7 +6,6 @@ use Prim.Native.Nat.{◌+◌}
 use lib.ListN.{get_or}
 use Rattle.joining.proofs.Steps.{fit_numbers}
 use Rattle.bus.proofs.Placed.{fit_read}
-use borrow.Author.Rules.{rules}
 use Rattle.bus.proofs.fit_in.Goals as goal
 
 pub returns : goal.returns

@@ -1,7 +1,6 @@
 -- `bus::open_at` meets its contract: every payload byte is 255, and the numbers are those of the size.
 -- Assumes nothing.
 use mathlib.Core.Path.{◌∙◌}
-use borrow.Author.Rules.{rules}
 use Rattle.bus.proofs.open_at.Goals as goal
 
 pub returns : goal.returns

@@ -10,18 +10,21 @@ use Rattle.joining.proofs.Reached.{fit_open}
 use Rattle.bus.proofs.Places.{whole}
 use Rattle.joining.proofs.Steps.{none_open, stray, kept, last}
 use Rattle.bus.proofs.Placed.{step, stored_at, stored_long}
-use borrow.Author.Rules.{rules}
 use Rattle.bus.proofs.packet_at.Goals as goal
 
 pub returns-then-size-eq0 : goal.returns-then-size-eq0
 returns-then-size-eq0 c =
-    let p = c.args.place.now in 
-    let d = s.args.«data».now in record { value = (step (none_open (session_in p) d c.if-size-eq0.true) refl (sym (whole p c.requires.place_len))).0; place_after = (step (none_open (session_in p) d c.if-size-eq0.true) refl (sym (whole p c.requires.place_len))).1 }
+    let p = c.args.place.now in
+    let d = c.args.«data».now in
+    let both = step (none_open (session_in p) d c.if-size-eq0.true) refl (sym (whole p c.requires.place_len)) in
+    record { value = both.0; place_after = both.1 }
 
 pub returns-then-byte-next : goal.returns-then-byte-next
 returns-then-byte-next c =
-    let p = c.args.place.now in 
-    let d = s.args.«data».now in record { value = (step (stray (session_in p) d c.if-size-eq0.false c.byte.ensures c.if-byte-next.true) refl c.close_at.ensures).0; place_after = (step (stray (session_in p) d c.if-size-eq0.false c.byte.ensures c.if-byte-next.true) refl c.close_at.ensures).1 }
+    let p = c.args.place.now in
+    let d = c.args.«data».now in
+    let both = step (stray (session_in p) d c.if-size-eq0.false c.byte.ensures c.if-byte-next.true) refl c.close_at.ensures in
+    record { value = both.0; place_after = both.1 }
 
 pub overflow_sub-next : goal.overflow_sub-next
 overflow_sub-next c =
@@ -31,38 +34,36 @@ overflow_sub-next c =
 pub overflow_add-next : goal.overflow_add-next
 overflow_add-next c =
     let p = c.args.place.now in
-    let d = s.args.«data».now in
+    let d = c.args.«data».now in
     let o = fit_open (session_in p) c.requires.place_value c.if-size-eq0.false in
     omega (arith, o.last, o.count, o.high)
 
 pub returns-then-next-count : goal.returns-then-next-count
 returns-then-next-count c =
-    let p = c.args.place.now in 
-    let d = s.args.«data».now in 
-    let o = fit_open (session_in p) c.requires.place_value c.if-size-eq0.false in 
-    let numbers : List ℕ = (session_in p).size ∷ (session_in p).count ∷ ((session_in p).next + 1) ∷ [] in record { value = (step
+    let p = c.args.place.now in
+    let d = c.args.«data».now in
+    let o = fit_open (session_in p) c.requires.place_value c.if-size-eq0.false in
+    let numbers : List ℕ = (session_in p).size ∷ (session_in p).count ∷ ((session_in p).next + 1) ∷ [] in
+    let both = step
     (kept (session_in p) d c.if-size-eq0.false c.byte.ensures c.if-byte-next.false c.if-next-count.true)
     refl
-    (c.put_numbers.ensures ∙ ap (λ (l : List ℕ). l ++ numbers) (stored_at p d o c.store.ensures))).0; place_after = (step
-    (kept (session_in p) d c.if-size-eq0.false c.byte.ensures c.if-byte-next.false c.if-next-count.true)
-    refl
-    (c.put_numbers.ensures ∙ ap (λ (l : List ℕ). l ++ numbers) (stored_at p d o c.store.ensures))).1 }
+    (c.put_numbers.ensures ∙ ap (λ (l : List ℕ). l ++ numbers) (stored_at p d o c.store.ensures)) in
+    record { value = both.0; place_after = both.1 }
 
 pub finish_at-requires : goal.finish_at-requires
 finish_at-requires c =
-    let p = c.args.place.now in 
-    let d = s.args.«data».now in 
+    let p = c.args.place.now in
+    let d = c.args.«data».now in
     let o = fit_open (session_in p) c.requires.place_value c.if-size-eq0.false in record { place_len = stored_long p d c.requires.place_len c.store.ensures; size_le_largest_payload = o.high }
 
 pub returns : goal.returns
 returns c =
-    let p = c.args.place.now in 
-    let d = s.args.«data».now in 
-    let o = fit_open (session_in p) c.requires.place_value c.if-size-eq0.false in 
-    let bytes = stored_at p d o c.store.ensures in record { value = (step
+    let p = c.args.place.now in
+    let d = c.args.«data».now in
+    let o = fit_open (session_in p) c.requires.place_value c.if-size-eq0.false in
+    let bytes = stored_at p d o c.store.ensures in
+    let both = step
     (last (session_in p) d c.if-size-eq0.false c.byte.ensures c.if-byte-next.false c.if-next-count.false)
     (c.finish_at.ensures.value ∙ ap (λ (l : List ℕ). (finishes l (session_in p).size).answer) bytes)
-    (c.finish_at.ensures.place_after ∙ ap (λ (l : List ℕ). session_bytes (finishes l (session_in p).size).session) bytes)).0; place_after = (step
-    (last (session_in p) d c.if-size-eq0.false c.byte.ensures c.if-byte-next.false c.if-next-count.false)
-    (c.finish_at.ensures.value ∙ ap (λ (l : List ℕ). (finishes l (session_in p).size).answer) bytes)
-    (c.finish_at.ensures.place_after ∙ ap (λ (l : List ℕ). session_bytes (finishes l (session_in p).size).session) bytes)).1 }
+    (c.finish_at.ensures.place_after ∙ ap (λ (l : List ℕ). session_bytes (finishes l (session_in p).size).session) bytes) in
+    record { value = both.0; place_after = both.1 }

@@ -1,7 +1,6 @@
 -- `bus::put_numbers` meets its contract: the three numbers are the last of 92 bytes.
 -- Assumes nothing.
 use Rattle.bus.proofs.Places.{put_numbers}
-use borrow.Author.Rules.{rules}
 use Rattle.bus.proofs.put_numbers.Goals as goal
 
 pub returns : goal.returns

@@ -8,7 +8,6 @@ use native.Mathlib.Nat.{add-sub_cancel_left}
 use lib.ListN.{length, take, drop, replicate, length-replicate, length-drop}
 use lib.Seq.{sets, length-take-le}
 use Rattle.bus.proofs.Places.{four_reads, overwritten}
-use borrow.Author.Rules.{rules}
 use Rattle.bus.proofs.session_in.Goals as goal
 
 pub returns : goal.returns

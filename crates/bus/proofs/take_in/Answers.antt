@@ -2,16 +2,20 @@
 -- Assumes nothing.
 use mathlib.Core.Path.{sym, ◌∙◌}
 use native.Mathlib.Omega.{arith}
-use borrow.Author.Rules.{rules}
 use Rattle.joining.proofs.Frames.{sound-frame}
 use Rattle.bus.proofs.Placed.{unheard, heard}
 use Rattle.bus.proofs.take_in.Goals as goal
 
 pub returns-then-n-ne0 : goal.returns-then-n-ne0
-returns-then-n-ne0 c = record { value = (unheard c.args.room.now c.args.id s.args.«data».now c.requires c.frame_refusal-n.ensures c.if-n-ne0.true).0; room_after = (unheard c.args.room.now c.args.id s.args.«data».now c.requires c.frame_refusal-n.ensures c.if-n-ne0.true).1 }
+returns-then-n-ne0 c =
+    let both = unheard c.args.room.now c.args.id c.args.«data».now c.requires c.frame_refusal-n.ensures c.if-n-ne0.true in
+    record { value = both.0; room_after = both.1 }
 
 pub advance_in-requires : goal.advance_in-requires
-advance_in-requires c = let e = sym c.frame_refusal-n.ensures ∙ c.if-n-ne0.false in record { room_len = (c.requires, omega (arith, (sound-frame c.args.id s.args.«data».now e).sender)); data_value = e }
+advance_in-requires c = let e = sym c.frame_refusal-n.ensures ∙ c.if-n-ne0.false in record { room_len = (c.requires, omega (arith, (sound-frame c.args.id c.args.«data».now e).sender)); data_value = e }
 
 pub returns : goal.returns
-returns c = let e = sym c.frame_refusal-n.ensures ∙ c.if-n-ne0.false in record { value = (heard c.args.room.now c.args.id s.args.«data».now c.requires e c.advance_in.ensures.value c.advance_in.ensures.room_after).0; room_after = (heard c.args.room.now c.args.id s.args.«data».now c.requires e c.advance_in.ensures.value c.advance_in.ensures.room_after).1 }
+returns c =
+    let e = sym c.frame_refusal-n.ensures ∙ c.if-n-ne0.false in
+    let both = heard c.args.room.now c.args.id c.args.«data».now c.requires e c.advance_in.ensures.value c.advance_in.ensures.room_after in
+    record { value = both.0; room_after = both.1 }

@@ -4,7 +4,6 @@ use mathlib.Core.Path.{sym, ◌∙◌}
 use borrow.Author.Tests.{eq-eqb, ne_eqb, not-true}
 use Rattle.report.proofs.Places.{passes}
 use Rattle.joining.specs.Joining.{announcement_refusal}
-use borrow.Author.Rules.{rules}
 use mathlib.Core.Path.{ap}
 use mathlib.Core.Bool.{not}
 use Rattle.joining.proofs.announcement_refusal.Goals as goal

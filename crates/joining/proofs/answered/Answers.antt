@@ -1,6 +1,5 @@
 -- `joining::answered` meets its contract: the answer is the reader's.
 -- Assumes nothing.
-use borrow.Author.Rules.{rules}
 use Rattle.joining.proofs.answered.Goals as goal
 
 pub returns-in-Accepted : goal.returns-in-Accepted

@@ -1,9 +1,9 @@
 -- `joining::foreign` meets its contract: at each `return` the tests that led there are those of the definition.
 -- Assumes nothing.
-use mathlib.Core.Logic.{⊎_elim}
 use borrow.Author.Tests.{eq-eqb, ne_eqb}
 use Rattle.joining.specs.Frame.{foreign}
 use Rattle.joining.proofs.foreign.Goals as goal
+use Rattle.joining.proofs.foreign.Goals.{then-format-ne-ANNOUNCEMENT+else-format-ne-PACKET, else-format-ne-ANNOUNCEMENT}
 
 pub returns-then-id-ne0 : goal.returns-then-id-ne0
 unfolding foreign
@@ -15,4 +15,8 @@ returns-then-format-ne-PACKET c = rw (eq-eqb _ _ c.if-id-ne0.false, ne_eqb _ _ c
 
 pub returns : goal.returns
 unfolding foreign
-returns c = ⊎_elim (λ w. rw (eq-eqb _ _ c.if-id-ne0.false, ne_eqb _ _ w.0.taken, eq-eqb _ _ w.1.left)) (λ w. rw (eq-eqb _ _ c.if-id-ne0.false, eq-eqb _ _ w.left)) c.if-format-ne-ANNOUNCEMENT.branch
+returns c =
+    elim c.if-format-ne-ANNOUNCEMENT.branch [
+      | then-format-ne-ANNOUNCEMENT+else-format-ne-PACKET w ↦ rw (eq-eqb _ _ c.if-id-ne0.false, ne_eqb _ _ w.if-format-ne-ANNOUNCEMENT.true, eq-eqb _ _ w.if-format-ne-PACKET.false)
+      | else-format-ne-ANNOUNCEMENT w ↦ rw (eq-eqb _ _ c.if-id-ne0.false, eq-eqb _ _ w.if-format-ne-ANNOUNCEMENT.false)
+    ]

@@ -2,8 +2,7 @@
 -- Assumes nothing.
 use mathlib.Core.Path.{sym, ◌∙◌}
 use borrow.Author.Tests.{le-leb, lt-leb, lt-ltb, le-ltb, eq-eqb, ne_eqb}
-use Rattle.joining.specs.Frame.{foreign, malformed, frame_refusal}
-use borrow.Author.Rules.{rules}
+use Rattle.joining.specs.Frame.{malformed, frame_refusal}
 use Rattle.joining.proofs.frame_refusal.Goals as goal
 
 pub returns-then-id-ge-IDENTIFIERS : goal.returns-then-id-ge-IDENTIFIERS

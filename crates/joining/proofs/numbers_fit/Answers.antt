@@ -6,9 +6,8 @@ use Rattle.joining.specs.declared.Session.{Session}
 use mathlib.Core.Path.{sym, ◌∙◌}
 use borrow.Author.Tests.{lt-ltb, le-ltb, eq-eqb, ne_eqb, not-true}
 use Rattle.report.proofs.Places.{passes}
-use Rattle.joining.specs.Joining.{packets, carries, is_open}
+use Rattle.joining.specs.Joining.{is_open}
 use Rattle.joining.proofs.Fitness.{fit_zero, fit_other}
-use borrow.Author.Rules.{rules}
 use mathlib.Core.Path.{ap}
 use mathlib.Core.Bool.{not}
 use Rattle.joining.proofs.numbers_fit.Goals as goal

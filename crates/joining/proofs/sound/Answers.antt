@@ -1,8 +1,7 @@
 -- `joining::sound` meets its contract: it makes the three tests of refusal 5 on the numbers that stand in the announcement.
 -- Assumes nothing.
 use borrow.Author.Tests.{le-leb, lt-leb}
-use Rattle.joining.specs.Joining.{packets, sound}
-use borrow.Author.Rules.{rules}
+use Rattle.joining.specs.Joining.{sound}
 use Rattle.joining.proofs.sound.Goals as goal
 
 pub returns-then-size-lt-SMALLEST : goal.returns-then-size-lt-SMALLEST

@@ -6,7 +6,6 @@ use Rattle.report.proofs.Places.{passes}
 use Rattle.joining.specs.Inner.{session_with}
 use Rattle.joining.specs.Joining.{take_frame}
 use Rattle.joining.proofs.Steps.{fit_numbers, unfit, announcing, carrying}
-use borrow.Author.Rules.{rules}
 use mathlib.Core.Path.{ap}
 use mathlib.Core.Bool.{not}
 use Rattle.joining.proofs.stepped.Goals as goal
@@ -17,10 +16,10 @@ returns-then-n-ne0 c = rw (← c.frame_refusal-n.ensures, ne_eqb _ _ c.if-n-ne0.
 
 pub returns-then-not-numbers_fit : goal.returns-then-not-numbers_fit
 returns-then-not-numbers_fit c =
-    let a = c.args in 
-    let s = session_with c.args.bytes.now c.args.size c.args.count c.args.next in 
-    let e = sym c.frame_refusal-n.ensures ∙ c.if-n-ne0.false in 
-    let f = sym (fit_numbers s) ∙ sym c.numbers_fit.ensures ∙ not-true _ (ap not c.if-not-numbers_fit.true) in 
+    let a = c.args in
+    let s = session_with c.args.bytes.now c.args.size c.args.count c.args.next in
+    let e = sym c.frame_refusal-n.ensures ∙ c.if-n-ne0.false in
+    let f = sym (fit_numbers s) ∙ sym c.numbers_fit.ensures ∙ not-true _ (ap not c.if-not-numbers_fit.true) in
     rw (unfit s c.args.id a.«data».now e f) (record { value = c.refused-then-not-numbers_fit.ensures; bytes_after = refl })
 
 pub packet-requires : goal.packet-requires
@@ -31,16 +30,16 @@ packet-requires c =
 
 pub returns-then-id-eq-ANNOUNCEMENT : goal.returns-then-id-eq-ANNOUNCEMENT
 returns-then-id-eq-ANNOUNCEMENT c =
-    let a = c.args in 
-    let s = session_with c.args.bytes.now c.args.size c.args.count c.args.next in 
-    let e = sym c.frame_refusal-n.ensures ∙ c.if-n-ne0.false in 
-    let f = sym (fit_numbers s) ∙ passes _ c.numbers_fit.ensures (ap not c.if-not-numbers_fit.false) in 
+    let a = c.args in
+    let s = session_with c.args.bytes.now c.args.size c.args.count c.args.next in
+    let e = sym c.frame_refusal-n.ensures ∙ c.if-n-ne0.false in
+    let f = sym (fit_numbers s) ∙ passes _ c.numbers_fit.ensures (ap not c.if-not-numbers_fit.false) in
     rw (announcing s c.args.id a.«data».now e f (eq-eqb _ _ c.if-id-eq-ANNOUNCEMENT.true)) (record { value = c.announced.ensures.value; bytes_after = c.announced.ensures.bytes_after })
 
 pub returns-else-id-eq-ANNOUNCEMENT : goal.returns-else-id-eq-ANNOUNCEMENT
 returns-else-id-eq-ANNOUNCEMENT c =
-    let a = c.args in 
-    let s = session_with c.args.bytes.now c.args.size c.args.count c.args.next in 
-    let e = sym c.frame_refusal-n.ensures ∙ c.if-n-ne0.false in 
-    let f = sym (fit_numbers s) ∙ passes _ c.numbers_fit.ensures (ap not c.if-not-numbers_fit.false) in 
+    let a = c.args in
+    let s = session_with c.args.bytes.now c.args.size c.args.count c.args.next in
+    let e = sym c.frame_refusal-n.ensures ∙ c.if-n-ne0.false in
+    let f = sym (fit_numbers s) ∙ passes _ c.numbers_fit.ensures (ap not c.if-not-numbers_fit.false) in
     rw (carrying s c.args.id a.«data».now e f (ne_eqb _ _ c.if-id-eq-ANNOUNCEMENT.false)) (record { value = c.packet.ensures.value; bytes_after = c.packet.ensures.bytes_after })

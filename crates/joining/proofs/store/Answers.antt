@@ -6,7 +6,6 @@ use Prim.Native.Nat.{ℕ, ◌-◌, ◌*◌, ◌≤◌}
 use native.Mathlib.Omega.{arith}
 use lib.ListN.{length, take, drop, length-drop}
 use lib.Seq.{sets, take_all, take-nil}
-use borrow.Author.Rules.{rules}
 use Rattle.joining.proofs.store.Goals as goal
 
 -- A packet with no bytes, or one that begins past the size.

@@ -41,24 +41,24 @@ loop-row-init c =
 pub loop-row-preserved-in_default : goal.loop-row-preserved-in_default
 loop-row-preserved-in_default c =
     let reports : ℕ → ℕ → List Held = λ r n. with_rows ((rows_of c.args.losses.now c.args.shakes.now c.args.names.now)) r n (standing ((rows_of c.args.losses.now c.args.shakes.now c.args.names.now)) c.args.low) in
-    let on : {ns : List ℕ} {ss : List ℤ} {len : ℕ} {bar : Bar} {least : ℕ} → ((Pass c.args.rule c.args.most)) (with_row ((rows_of c.args.losses.now c.args.shakes.now c.args.names.now)) ((c.loop-row.row - 1)) (reports c.loop-row.row (c.args.high - c.loop-row.row))) ns ss len bar least → (c.args.low ≤ ((c.loop-row.row - 1))) × (((c.loop-row.row - 1)) ≤ c.args.high) × ((Pass c.args.rule c.args.most)) (reports ((c.loop-row.row - 1)) (c.args.high - ((c.loop-row.row - 1)))) ns ss len bar least = λ {ns} {ss} {len} {bar} {least} p. let one : c.loop-row.row ≡ suc ((c.loop-row.row - 1)) = omega (arith, c.loop-row-test.true) in
+    let on : (ns : List ℕ) (ss : List ℤ) (len : ℕ) (bar : Bar) (least : ℤ) → ((Pass c.args.rule c.args.most)) (with_row ((rows_of c.args.losses.now c.args.shakes.now c.args.names.now)) ((c.loop-row.row - 1)) (reports c.loop-row.row (c.args.high - c.loop-row.row))) ns ss len bar least → (c.args.low ≤ ((c.loop-row.row - 1))) × (((c.loop-row.row - 1)) ≤ c.args.high) × ((Pass c.args.rule c.args.most)) (reports ((c.loop-row.row - 1)) (c.args.high - ((c.loop-row.row - 1)))) ns ss len bar least = λ ns ss len bar least p. let one : c.loop-row.row ≡ suc ((c.loop-row.row - 1)) = omega (arith, c.loop-row-test.true) in
     let more : suc (c.args.high - c.loop-row.row) ≡ c.args.high - ((c.loop-row.row - 1)) = omega (arith, c.loop-row-test.true, c.loop-row.invariant.1) in (
       omega (arith, c.loop-row-test.true),
       omega (arith, c.loop-row.invariant.1),
       subst (λ hs. ((Pass c.args.rule c.args.most)) hs ns ss len bar least) (ap (λ r. with_row ((rows_of c.args.losses.now c.args.shakes.now c.args.names.now)) ((c.loop-row.row - 1)) (reports r (c.args.high - c.loop-row.row))) one ∙ ap (reports ((c.loop-row.row - 1))) more) p,
     ) in
-    on (pass_out c.requires.0 c.loop-row.invariant.2 ((rows_of c.args.losses.now c.args.shakes.now c.args.names.now)) ((c.loop-row.row - 1)) c.score_from-scored.ensures.0 c.score_from-scored.ensures.1 c.in_default.is)
+    on _ _ _ _ _ (pass_out c.requires.0 c.loop-row.invariant.2 ((rows_of c.args.losses.now c.args.shakes.now c.args.names.now)) ((c.loop-row.row - 1)) c.score_from-scored.ensures.0 c.score_from-scored.ensures.1 c.in_default.is)
 
 pub loop-row-preserved-then-not-admits : goal.loop-row-preserved-then-not-admits
 loop-row-preserved-then-not-admits c =
     let reports : ℕ → ℕ → List Held = λ r n. with_rows ((rows_of c.args.losses.now c.args.shakes.now c.args.names.now)) r n (standing ((rows_of c.args.losses.now c.args.shakes.now c.args.names.now)) c.args.low) in
-    let on : {ns : List ℕ} {ss : List ℤ} {len : ℕ} {bar : Bar} {least : ℕ} → ((Pass c.args.rule c.args.most)) (with_row ((rows_of c.args.losses.now c.args.shakes.now c.args.names.now)) ((c.loop-row.row - 1)) (reports c.loop-row.row (c.args.high - c.loop-row.row))) ns ss len bar least → (c.args.low ≤ ((c.loop-row.row - 1))) × (((c.loop-row.row - 1)) ≤ c.args.high) × ((Pass c.args.rule c.args.most)) (reports ((c.loop-row.row - 1)) (c.args.high - ((c.loop-row.row - 1)))) ns ss len bar least = λ {ns} {ss} {len} {bar} {least} p. let one : c.loop-row.row ≡ suc ((c.loop-row.row - 1)) = omega (arith, c.loop-row-test.true) in
+    let on : (ns : List ℕ) (ss : List ℤ) (len : ℕ) (bar : Bar) (least : ℤ) → ((Pass c.args.rule c.args.most)) (with_row ((rows_of c.args.losses.now c.args.shakes.now c.args.names.now)) ((c.loop-row.row - 1)) (reports c.loop-row.row (c.args.high - c.loop-row.row))) ns ss len bar least → (c.args.low ≤ ((c.loop-row.row - 1))) × (((c.loop-row.row - 1)) ≤ c.args.high) × ((Pass c.args.rule c.args.most)) (reports ((c.loop-row.row - 1)) (c.args.high - ((c.loop-row.row - 1)))) ns ss len bar least = λ ns ss len bar least p. let one : c.loop-row.row ≡ suc ((c.loop-row.row - 1)) = omega (arith, c.loop-row-test.true) in
     let more : suc (c.args.high - c.loop-row.row) ≡ c.args.high - ((c.loop-row.row - 1)) = omega (arith, c.loop-row-test.true, c.loop-row.invariant.1) in (
       omega (arith, c.loop-row-test.true),
       omega (arith, c.loop-row.invariant.1),
       subst (λ hs. ((Pass c.args.rule c.args.most)) hs ns ss len bar least) (ap (λ r. with_row ((rows_of c.args.losses.now c.args.shakes.now c.args.names.now)) ((c.loop-row.row - 1)) (reports r (c.args.high - c.loop-row.row))) one ∙ ap (reports ((c.loop-row.row - 1))) more) p,
     ) in
-    on (pass_skips c.requires.0 c.loop-row.invariant.2 ((rows_of c.args.losses.now c.args.shakes.now c.args.names.now)) ((c.loop-row.row - 1)) c.score_from-scored.ensures.0 c.in-Scored.is c.in-Scored.known_told-1-own.given.0.1 (sym c.admits.ensures ∙ not-true _ (ap not c.if-not-admits.true)))
+    on _ _ _ _ _ (pass_skips c.requires.0 c.loop-row.invariant.2 ((rows_of c.args.losses.now c.args.shakes.now c.args.names.now)) ((c.loop-row.row - 1)) c.score_from-scored.ensures.0 c.in-Scored.is c.in-Scored.known_told-1-own.given.0.1 (sym c.admits.ensures ∙ not-true _ (ap not c.if-not-admits.true)))
 
 pub put_in-len-requires : goal.put_in-len-requires
 put_in-len-requires c = (pass_few c.requires.0 c.loop-row.invariant.2, c.requires.0, pass_room c.requires.0 c.loop-row.invariant.2)
@@ -69,13 +69,13 @@ bar_in-bar-requires-in-loop-row c = placing_few c.put_in-len.ensures.0 c.require
 pub loop-row-preserved : goal.loop-row-preserved
 loop-row-preserved c =
     let reports : ℕ → ℕ → List Held = λ r n. with_rows ((rows_of c.args.losses.now c.args.shakes.now c.args.names.now)) r n (standing ((rows_of c.args.losses.now c.args.shakes.now c.args.names.now)) c.args.low) in
-    let on : {ns : List ℕ} {ss : List ℤ} {len : ℕ} {bar : Bar} {least : ℕ} → ((Pass c.args.rule c.args.most)) (with_row ((rows_of c.args.losses.now c.args.shakes.now c.args.names.now)) ((c.loop-row.row - 1)) (reports c.loop-row.row (c.args.high - c.loop-row.row))) ns ss len bar least → (c.args.low ≤ ((c.loop-row.row - 1))) × (((c.loop-row.row - 1)) ≤ c.args.high) × ((Pass c.args.rule c.args.most)) (reports ((c.loop-row.row - 1)) (c.args.high - ((c.loop-row.row - 1)))) ns ss len bar least = λ {ns} {ss} {len} {bar} {least} p. let one : c.loop-row.row ≡ suc ((c.loop-row.row - 1)) = omega (arith, c.loop-row-test.true) in
+    let on : (ns : List ℕ) (ss : List ℤ) (len : ℕ) (bar : Bar) (least : ℤ) → ((Pass c.args.rule c.args.most)) (with_row ((rows_of c.args.losses.now c.args.shakes.now c.args.names.now)) ((c.loop-row.row - 1)) (reports c.loop-row.row (c.args.high - c.loop-row.row))) ns ss len bar least → (c.args.low ≤ ((c.loop-row.row - 1))) × (((c.loop-row.row - 1)) ≤ c.args.high) × ((Pass c.args.rule c.args.most)) (reports ((c.loop-row.row - 1)) (c.args.high - ((c.loop-row.row - 1)))) ns ss len bar least = λ ns ss len bar least p. let one : c.loop-row.row ≡ suc ((c.loop-row.row - 1)) = omega (arith, c.loop-row-test.true) in
     let more : suc (c.args.high - c.loop-row.row) ≡ c.args.high - ((c.loop-row.row - 1)) = omega (arith, c.loop-row-test.true, c.loop-row.invariant.1) in (
       omega (arith, c.loop-row-test.true),
       omega (arith, c.loop-row.invariant.1),
       subst (λ hs. ((Pass c.args.rule c.args.most)) hs ns ss len bar least) (ap (λ r. with_row ((rows_of c.args.losses.now c.args.shakes.now c.args.names.now)) ((c.loop-row.row - 1)) (reports r (c.args.high - c.loop-row.row))) one ∙ ap (reports ((c.loop-row.row - 1))) more) p,
     ) in
-    on
+    on _ _ _ _ _
     (pass_puts c.requires.0 c.loop-row.invariant.2 ((rows_of c.args.losses.now c.args.shakes.now c.args.names.now)) ((c.loop-row.row - 1)) c.score_from-scored.ensures.0 c.in-Scored.is c.in-Scored.known_told-1-own.given.0.1 (sym c.admits.ensures ∙ not-false _ (ap not c.if-not-admits.false))
     c.put_in-len.ensures.0
     c.put_in-len.ensures.1

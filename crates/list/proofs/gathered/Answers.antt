@@ -15,6 +15,7 @@ use Rattle.list.specs.Rows.{rows_of}
 use Rattle.list.specs.Inner.{Gathered}
 use Rattle.list.proofs.Gathering.{gathered_none, gathered_few}
 use Rattle.list.proofs.gathered.Goals as goal
+use Rattle.list.proofs.gathered.Goals.{then-up-end, else-up-end}
 
 same_lines : {ns ns' : List ℕ} {ss ss' : List ℤ} {len len' : ℕ} → ns ≡ ns' → ss ≡ ss' → len ≡ len' → ◌≡◌ {A = Lines} (record { names = ns; scores = ss; len = len }) (record { names = ns'; scores = ss'; len = len' })
 same_lines p q r = λ i. record { names = p i; scores = q i; len = r i }
@@ -27,20 +28,22 @@ upward-up-requires c =
 pub overflow_cast-count : goal.overflow_cast-count
 overflow_cast-count c =
     let reports : ℕ → List Held = λ n. standing (rows_of c.args.losses.now c.args.shakes.now c.args.names.now) n in
-    let all-taken : Gathered c.args.rule (c.smaller-most.result) ((reports) (c.smaller-end.result)) c.if-up-end.found c.if-up-end.by c.if-up-end.len = ⊎_elim (λ w. same_lines w.4 w.5 w.6 ∙ w.3.ensures)
-    (λ w.
-    let all : c.upward-up.result.rows ≡ (c.smaller-end.result) = omega (arith, w.0.left, c.upward-up.ensures.0) in
-    same_lines w.1 w.2 w.3 ∙ c.upward-up.ensures.1 ∙ ap (λ n. columns_of (top c.args.rule (c.smaller-most.result) ((reports) n))) all)
-    c.if-up-end.branch in
+    let all-taken : Gathered c.args.rule (c.smaller-most.result) ((reports) (c.smaller-end.result)) c.if-up-end.found c.if-up-end.by c.if-up-end.len = elim c.if-up-end.branch [
+      | then-up-end w ↦ same_lines w.found-is w.by-is w.len-is ∙ w.downward-len.ensures
+      | else-up-end w ↦
+          let all : c.upward-up.result.rows ≡ (c.smaller-end.result) = omega (arith, w.if-up-end.false, c.upward-up.ensures.0) in
+          same_lines w.found-is w.by-is w.len-is ∙ c.upward-up.ensures.1 ∙ ap (λ n. columns_of (top c.args.rule (c.smaller-most.result) ((reports) n))) all
+    ] in
     let few = gathered_few c.args.rule (c.smaller-most.result) (omega (arith, c.smaller-most.ensures)) (reports (c.smaller-end.result)) (all-taken) in
     search rules
 
 pub returns : goal.returns
 returns c =
     let reports : ℕ → List Held = λ n. standing (rows_of c.args.losses.now c.args.shakes.now c.args.names.now) n in
-    let all-taken : Gathered c.args.rule (c.smaller-most.result) ((reports) (c.smaller-end.result)) c.if-up-end.found c.if-up-end.by c.if-up-end.len = ⊎_elim (λ w. same_lines w.4 w.5 w.6 ∙ w.3.ensures)
-    (λ w.
-    let all : c.upward-up.result.rows ≡ (c.smaller-end.result) = omega (arith, w.0.left, c.upward-up.ensures.0) in
-    same_lines w.1 w.2 w.3 ∙ c.upward-up.ensures.1 ∙ ap (λ n. columns_of (top c.args.rule (c.smaller-most.result) ((reports) n))) all)
-    c.if-up-end.branch in
+    let all-taken : Gathered c.args.rule (c.smaller-most.result) ((reports) (c.smaller-end.result)) c.if-up-end.found c.if-up-end.by c.if-up-end.len = elim c.if-up-end.branch [
+      | then-up-end w ↦ same_lines w.found-is w.by-is w.len-is ∙ w.downward-len.ensures
+      | else-up-end w ↦
+          let all : c.upward-up.result.rows ≡ (c.smaller-end.result) = omega (arith, w.if-up-end.false, c.upward-up.ensures.0) in
+          same_lines w.found-is w.by-is w.len-is ∙ c.upward-up.ensures.1 ∙ ap (λ n. columns_of (top c.args.rule (c.smaller-most.result) ((reports) n))) all
+    ] in
     all-taken ∙ ap₂ (λ k n. columns_of (top c.args.rule k (reports n))) c.smaller-most.ensures c.smaller-end.ensures

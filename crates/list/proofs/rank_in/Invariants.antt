@@ -22,7 +22,7 @@ invariant-loop-i l =
     (l.i ≤ l.len)
     × (l.len ≤ 16)
     × Roomy l.names l.scores
-    × Ranked (above l.rule) (record { l.name = l.name; l.score = to_z w32 l.score }) (take l.len (lines_of l.names l.scores)) l.i
+    × Ranked (above l.rule) (record { name = l.name; score = l.score }) (take l.len (lines_of l.names l.scores)) l.i
 
 abbrev pub decreases-loop-i : goal.decreases-loop-i
 decreases-loop-i l = l.len - l.i

@@ -19,6 +19,8 @@ use Rattle.list.specs.Rows.{rows_of}
 use Rattle.list.proofs.Sliding.{placing_few}
 use Rattle.list.proofs.Gathering.{Pass, pass_few, pass_room, pass_out, pass_skips, pass_puts}
 use mathlib.Core.Bool.{not}
+use mir.Syntax.{w32}
+use mir.Val.{to_z}
 use Rattle.list.proofs.upward.Goals as goal
 
 pub loop-row-init : goal.loop-row-init
@@ -35,36 +37,36 @@ loop-row-init c =
 
 pub loop-row-preserved-in_default : goal.loop-row-preserved-in_default
 loop-row-preserved-in_default c =
-    let Taken : ℕ → List ℕ → List ℤ → ℕ → Bar → ℕ → Type 0 = λ n. Pass c.args.rule c.args.most (standing ((rows_of c.args.losses.now c.args.shakes.now c.args.names.now)) n) in
-    let on : {ns : List ℕ} {ss : List ℤ} {len : ℕ} {bar : Bar} {least : ℕ} → (Taken) (suc (c.loop-row.row)) ns ss len bar least → (c.loop-row.stop ≤ c.args.end) × (Taken) (min ((c.loop-row.row) + 1) c.loop-row.stop) ns ss len bar least = λ {ns} {ss} {len} {bar} {least} p. let e : suc (c.loop-row.row) ≡ min ((c.loop-row.row) + 1) c.loop-row.stop = omega (arith, c.loop-row-test.true) in
+    let Taken : ℕ → List ℕ → List ℤ → ℕ → Bar → ℤ → Type 0 = λ n. Pass c.args.rule c.args.most (standing ((rows_of c.args.losses.now c.args.shakes.now c.args.names.now)) n) in
+    let on : (ns : List ℕ) (ss : List ℤ) (len : ℕ) (bar : Bar) (least : ℤ) → (Taken) (suc (c.loop-row.row)) ns ss len bar least → (c.loop-row.stop ≤ c.args.end) × (Taken) (min ((c.loop-row.row) + 1) c.loop-row.stop) ns ss len bar least = λ ns ss len bar least p. let e : suc (c.loop-row.row) ≡ min ((c.loop-row.row) + 1) c.loop-row.stop = omega (arith, c.loop-row-test.true) in
     (c.loop-row.invariant.0, subst (λ n. (Taken) n ns ss len bar least) e p) in
-    let now_taken : (Taken) (c.loop-row.row) c.loop-row.found c.loop-row.by c.loop-row.len c.loop-row.bar c.loop-row.least = let e : min (c.loop-row.row) c.loop-row.stop ≡ (c.loop-row.row) = omega (arith, c.loop-row-test.true) in
-    subst (λ n. (Taken) n c.loop-row.found c.loop-row.by c.loop-row.len c.loop-row.bar c.loop-row.least) e c.loop-row.invariant.1 in
-    on (pass_out c.requires.0 (now_taken) ((rows_of c.args.losses.now c.args.shakes.now c.args.names.now)) (c.loop-row.row) c.score_from-scored.ensures.0 c.score_from-scored.ensures.1 c.in_default.is)
+    let now_taken : (Taken) (c.loop-row.row) c.loop-row.found c.loop-row.by c.loop-row.len c.loop-row.bar (to_z w32 c.loop-row.least-bits) = let e : min (c.loop-row.row) c.loop-row.stop ≡ (c.loop-row.row) = omega (arith, c.loop-row-test.true) in
+    subst (λ n. (Taken) n c.loop-row.found c.loop-row.by c.loop-row.len c.loop-row.bar (to_z w32 c.loop-row.least-bits)) e c.loop-row.invariant.1 in
+    on _ _ _ _ _ (pass_out c.requires.0 (now_taken) ((rows_of c.args.losses.now c.args.shakes.now c.args.names.now)) (c.loop-row.row) c.score_from-scored.ensures.0 c.score_from-scored.ensures.1 c.in_default.is)
 
 pub loop-row-preserved-then-not-admits : goal.loop-row-preserved-then-not-admits
 loop-row-preserved-then-not-admits c =
-    let Taken : ℕ → List ℕ → List ℤ → ℕ → Bar → ℕ → Type 0 = λ n. Pass c.args.rule c.args.most (standing ((rows_of c.args.losses.now c.args.shakes.now c.args.names.now)) n) in
-    let on : {ns : List ℕ} {ss : List ℤ} {len : ℕ} {bar : Bar} {least : ℕ} → (Taken) (suc (c.loop-row.row)) ns ss len bar least → (c.loop-row.stop ≤ c.args.end) × (Taken) (min ((c.loop-row.row) + 1) c.loop-row.stop) ns ss len bar least = λ {ns} {ss} {len} {bar} {least} p. let e : suc (c.loop-row.row) ≡ min ((c.loop-row.row) + 1) c.loop-row.stop = omega (arith, c.loop-row-test.true) in
+    let Taken : ℕ → List ℕ → List ℤ → ℕ → Bar → ℤ → Type 0 = λ n. Pass c.args.rule c.args.most (standing ((rows_of c.args.losses.now c.args.shakes.now c.args.names.now)) n) in
+    let on : (ns : List ℕ) (ss : List ℤ) (len : ℕ) (bar : Bar) (least : ℤ) → (Taken) (suc (c.loop-row.row)) ns ss len bar least → (c.loop-row.stop ≤ c.args.end) × (Taken) (min ((c.loop-row.row) + 1) c.loop-row.stop) ns ss len bar least = λ ns ss len bar least p. let e : suc (c.loop-row.row) ≡ min ((c.loop-row.row) + 1) c.loop-row.stop = omega (arith, c.loop-row-test.true) in
     (c.loop-row.invariant.0, subst (λ n. (Taken) n ns ss len bar least) e p) in
-    let now_taken : (Taken) (c.loop-row.row) c.loop-row.found c.loop-row.by c.loop-row.len c.loop-row.bar c.loop-row.least = let e : min (c.loop-row.row) c.loop-row.stop ≡ (c.loop-row.row) = omega (arith, c.loop-row-test.true) in
-    subst (λ n. (Taken) n c.loop-row.found c.loop-row.by c.loop-row.len c.loop-row.bar c.loop-row.least) e c.loop-row.invariant.1 in
-    on (pass_skips c.requires.0 (now_taken) ((rows_of c.args.losses.now c.args.shakes.now c.args.names.now)) (c.loop-row.row) c.score_from-scored.ensures.0 c.in-Scored.is c.in-Scored.known_told-1-own.given.0.1 (sym c.admits.ensures ∙ not-true _ (ap not c.if-not-admits.true)))
+    let now_taken : (Taken) (c.loop-row.row) c.loop-row.found c.loop-row.by c.loop-row.len c.loop-row.bar (to_z w32 c.loop-row.least-bits) = let e : min (c.loop-row.row) c.loop-row.stop ≡ (c.loop-row.row) = omega (arith, c.loop-row-test.true) in
+    subst (λ n. (Taken) n c.loop-row.found c.loop-row.by c.loop-row.len c.loop-row.bar (to_z w32 c.loop-row.least-bits)) e c.loop-row.invariant.1 in
+    on _ _ _ _ _ (pass_skips c.requires.0 (now_taken) ((rows_of c.args.losses.now c.args.shakes.now c.args.names.now)) (c.loop-row.row) c.score_from-scored.ensures.0 c.in-Scored.is c.in-Scored.known_told-1-own.given.0.1 (sym c.admits.ensures ∙ not-true _ (ap not c.if-not-admits.true)))
 
 pub loop-row-preserved-then-turns : goal.loop-row-preserved-then-turns
 loop-row-preserved-then-turns c =
-    let Taken : ℕ → List ℕ → List ℤ → ℕ → Bar → ℕ → Type 0 = λ n. Pass c.args.rule c.args.most (standing ((rows_of c.args.losses.now c.args.shakes.now c.args.names.now)) n) in
-    let now_taken : (Taken) (c.loop-row.row) c.loop-row.found c.loop-row.by c.loop-row.len c.loop-row.bar c.loop-row.least = let e : min (c.loop-row.row) c.loop-row.stop ≡ (c.loop-row.row) = omega (arith, c.loop-row-test.true) in
-    subst (λ n. (Taken) n c.loop-row.found c.loop-row.by c.loop-row.len c.loop-row.bar c.loop-row.least) e c.loop-row.invariant.1 in
+    let Taken : ℕ → List ℕ → List ℤ → ℕ → Bar → ℤ → Type 0 = λ n. Pass c.args.rule c.args.most (standing ((rows_of c.args.losses.now c.args.shakes.now c.args.names.now)) n) in
+    let now_taken : (Taken) (c.loop-row.row) c.loop-row.found c.loop-row.by c.loop-row.len c.loop-row.bar (to_z w32 c.loop-row.least-bits) = let e : min (c.loop-row.row) c.loop-row.stop ≡ (c.loop-row.row) = omega (arith, c.loop-row-test.true) in
+    subst (λ n. (Taken) n c.loop-row.found c.loop-row.by c.loop-row.len c.loop-row.bar (to_z w32 c.loop-row.least-bits)) e c.loop-row.invariant.1 in
     let l = c.loop-row in
     let e : c.loop-row.row ≡ min (c.loop-row.row + 1) (c.loop-row.row) = omega arith in
-    (omega (arith, l.inv.0, c.loop-row-test.true), subst (λ n. Taken n l.found l.by l.len l.bar l.least) e (now_taken))
+    (omega (arith, l.invariant.0, c.loop-row-test.true), subst (λ n. Taken n l.found l.by l.len l.bar (to_z w32 c.loop-row.least-bits)) e (now_taken))
 
 pub put_in-len-requires : goal.put_in-len-requires
 put_in-len-requires c =
-    let Taken : ℕ → List ℕ → List ℤ → ℕ → Bar → ℕ → Type 0 = λ n. Pass c.args.rule c.args.most (standing ((rows_of c.args.losses.now c.args.shakes.now c.args.names.now)) n) in
-    let now_taken : (Taken) (c.loop-row.row) c.loop-row.found c.loop-row.by c.loop-row.len c.loop-row.bar c.loop-row.least = let e : min (c.loop-row.row) c.loop-row.stop ≡ (c.loop-row.row) = omega (arith, c.loop-row-test.true) in
-    subst (λ n. (Taken) n c.loop-row.found c.loop-row.by c.loop-row.len c.loop-row.bar c.loop-row.least) e c.loop-row.invariant.1 in
+    let Taken : ℕ → List ℕ → List ℤ → ℕ → Bar → ℤ → Type 0 = λ n. Pass c.args.rule c.args.most (standing ((rows_of c.args.losses.now c.args.shakes.now c.args.names.now)) n) in
+    let now_taken : (Taken) (c.loop-row.row) c.loop-row.found c.loop-row.by c.loop-row.len c.loop-row.bar (to_z w32 c.loop-row.least-bits) = let e : min (c.loop-row.row) c.loop-row.stop ≡ (c.loop-row.row) = omega (arith, c.loop-row-test.true) in
+    subst (λ n. (Taken) n c.loop-row.found c.loop-row.by c.loop-row.len c.loop-row.bar (to_z w32 c.loop-row.least-bits)) e c.loop-row.invariant.1 in
     (pass_few c.requires.0 (now_taken), c.requires.0, pass_room c.requires.0 (now_taken))
 
 pub bar_in-bar-requires-in-loop-row : goal.bar_in-bar-requires-in-loop-row
@@ -72,12 +74,12 @@ bar_in-bar-requires-in-loop-row c = placing_few c.put_in-len.ensures.0 c.require
 
 pub loop-row-preserved : goal.loop-row-preserved
 loop-row-preserved c =
-    let Taken : ℕ → List ℕ → List ℤ → ℕ → Bar → ℕ → Type 0 = λ n. Pass c.args.rule c.args.most (standing ((rows_of c.args.losses.now c.args.shakes.now c.args.names.now)) n) in
-    let on : {ns : List ℕ} {ss : List ℤ} {len : ℕ} {bar : Bar} {least : ℕ} → (Taken) (suc (c.loop-row.row)) ns ss len bar least → (c.loop-row.stop ≤ c.args.end) × (Taken) (min ((c.loop-row.row) + 1) c.loop-row.stop) ns ss len bar least = λ {ns} {ss} {len} {bar} {least} p. let e : suc (c.loop-row.row) ≡ min ((c.loop-row.row) + 1) c.loop-row.stop = omega (arith, c.loop-row-test.true) in
+    let Taken : ℕ → List ℕ → List ℤ → ℕ → Bar → ℤ → Type 0 = λ n. Pass c.args.rule c.args.most (standing ((rows_of c.args.losses.now c.args.shakes.now c.args.names.now)) n) in
+    let on : (ns : List ℕ) (ss : List ℤ) (len : ℕ) (bar : Bar) (least : ℤ) → (Taken) (suc (c.loop-row.row)) ns ss len bar least → (c.loop-row.stop ≤ c.args.end) × (Taken) (min ((c.loop-row.row) + 1) c.loop-row.stop) ns ss len bar least = λ ns ss len bar least p. let e : suc (c.loop-row.row) ≡ min ((c.loop-row.row) + 1) c.loop-row.stop = omega (arith, c.loop-row-test.true) in
     (c.loop-row.invariant.0, subst (λ n. (Taken) n ns ss len bar least) e p) in
-    let now_taken : (Taken) (c.loop-row.row) c.loop-row.found c.loop-row.by c.loop-row.len c.loop-row.bar c.loop-row.least = let e : min (c.loop-row.row) c.loop-row.stop ≡ (c.loop-row.row) = omega (arith, c.loop-row-test.true) in
-    subst (λ n. (Taken) n c.loop-row.found c.loop-row.by c.loop-row.len c.loop-row.bar c.loop-row.least) e c.loop-row.invariant.1 in
-    on
+    let now_taken : (Taken) (c.loop-row.row) c.loop-row.found c.loop-row.by c.loop-row.len c.loop-row.bar (to_z w32 c.loop-row.least-bits) = let e : min (c.loop-row.row) c.loop-row.stop ≡ (c.loop-row.row) = omega (arith, c.loop-row-test.true) in
+    subst (λ n. (Taken) n c.loop-row.found c.loop-row.by c.loop-row.len c.loop-row.bar (to_z w32 c.loop-row.least-bits)) e c.loop-row.invariant.1 in
+    on _ _ _ _ _
     (pass_puts c.requires.0 (now_taken) ((rows_of c.args.losses.now c.args.shakes.now c.args.names.now)) (c.loop-row.row) c.score_from-scored.ensures.0 c.in-Scored.is c.in-Scored.known_told-1-own.given.0.1 (sym c.admits.ensures ∙ not-false _ (ap not c.if-not-admits.false))
     c.put_in-len.ensures.0
     c.put_in-len.ensures.1

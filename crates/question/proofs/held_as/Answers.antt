@@ -78,7 +78,7 @@ bounds-window-row-3 c =
 pub returns-then-name-own_name : goal.returns-then-name-own_name
 returns-then-name-own_name c =
     let a = c.args in
-    sym (line_other a.t1 a.rule ((record { name = c.args.name; score = c.args.score })) (c.number-number.result) c.number-number.ensures c.if-name-own_name.true)
+    sym (line_other a.window a.rule ((record { name = c.args.name; score = c.args.score })) (c.number-number.result) c.number-number.ensures c.if-name-own_name.true)
 
 pub returns-in-Scored : goal.returns-in-Scored
 returns-in-Scored c =
@@ -88,10 +88,10 @@ returns-in-Scored c =
     let is = ap (λ v. score a.rule (low v)) (sym c.values.ensures) ∙ sym c.score.ensures ∙ c.in-Scored.is in
     same_bits w32 a.score own c.ranges.score (record { sfits = c.in-Scored.known_told-1-own.given.0.1 })
     ∙ ap (equal a.score) (sym (ap points is))
-    ∙ sym (line_score a.t1 a.rule ((record { name = c.args.name; score = c.args.score })) (c.number-number.result) c.number-number.ensures (held) c.if-name-own_name.false (ap is_scored is))
+    ∙ sym (line_score a.window a.rule ((record { name = c.args.name; score = c.args.score })) (c.number-number.result) c.number-number.ensures (held) c.if-name-own_name.false (ap is_scored is))
 
 pub returns-in-DoesNotCount : goal.returns-in-DoesNotCount
 returns-in-DoesNotCount c =
     let a = c.args in
     let is = ap (λ v. score a.rule (low v)) (sym c.values.ensures) ∙ sym c.score.ensures ∙ c.in-DoesNotCount.is in
-    sym (line_out a.t1 a.rule ((record { name = c.args.name; score = c.args.score })) (c.number-number.result) c.number-number.ensures (ap is_scored is))
+    sym (line_out a.window a.rule ((record { name = c.args.name; score = c.args.score })) (c.number-number.result) c.number-number.ensures (ap is_scored is))

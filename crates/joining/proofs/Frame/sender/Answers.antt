@@ -2,7 +2,6 @@
 -- Assumes nothing.
 use borrow.Author.Tests.{eq-eqb, ne_eqb}
 use Rattle.joining.specs.Frame.{sender_in}
-use borrow.Author.Rules.{rules}
 use Rattle.joining.proofs.Frame.sender.Goals as goal
 
 pub returns-then-n-ne0 : goal.returns-then-n-ne0

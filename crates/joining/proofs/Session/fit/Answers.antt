@@ -1,7 +1,6 @@
 -- `joining::Session::fit` meets its contract: the payload bytes say nothing on fitness.
 -- Assumes nothing.
 use Rattle.joining.specs.Joining.{fit, is_closed, is_open}
-use borrow.Author.Rules.{rules}
 use Rattle.joining.proofs.Session.fit.Goals as goal
 
 pub returns : goal.returns

@@ -1,6 +1,5 @@
 -- `joining::Session::frame` meets its contract: what the step leaves in the bytes, and beside them, is the outcome.
 -- Assumes nothing.
-use borrow.Author.Rules.{rules}
 use Rattle.joining.proofs.Session.frame.Goals as goal
 
 pub returns : goal.returns

@@ -2,7 +2,6 @@
 -- Assumes nothing.
 use mathlib.Core.Path.{◌∙◌}
 use Rattle.joining.specs.Joining.{payload_held}
-use borrow.Author.Rules.{rules}
 use Rattle.joining.proofs.Session.payload.Goals as goal
 
 pub returns : goal.returns

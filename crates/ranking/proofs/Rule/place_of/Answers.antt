@@ -12,6 +12,7 @@ use Rattle.laws.specs.Lists.{only}
 use Rattle.ranking.specs.Cells.{cell_counts, before, numbers_below}
 use Rattle.ranking.proofs.Scan.{counted_yes, counted_no}
 use Rattle.ranking.proofs.Rule.place_of.Goals as goal
+use Rattle.ranking.proofs.Rule.place_of.Goals.{then-comes_before, else-comes_before}
 
 pub loop-d-init : goal.loop-d-init
 loop-d-init c = (omega arith, omega arith, refl)
@@ -32,20 +33,20 @@ pub loop-d-preserved : goal.loop-d-preserved
 loop-d-preserved c =
     let a = c.args in
     let p : ℕ → Bool = λ e. cell_counts c.args.self e && before c.args.self e c.args.cell in
-    ⊎_elim
-    (λ w. (
-      omega arith,
-      omega (arith, w.1),
-      w.1
-          ∙ ap (λ m. m + 1) c.loop-d.invariant.2
-          ∙ sym (counted_yes p c.loop-d.d (sym c.comes_before.ensures ∙ w.0.taken)),
-    ))
-    (λ w. (
-      omega arith,
-      omega (arith, w.1),
-      w.1 ∙ c.loop-d.invariant.2 ∙ sym (counted_no p c.loop-d.d (sym c.comes_before.ensures ∙ w.0.left)),
-    ))
-    c.if-comes_before.branch
+    elim c.if-comes_before.branch [
+      | then-comes_before w ↦ (
+        omega arith,
+        omega (arith, w.n-is),
+        w.n-is
+            ∙ ap (λ m. m + 1) c.loop-d.invariant.2
+            ∙ sym (counted_yes p c.loop-d.d (sym c.comes_before.ensures ∙ w.if-comes_before.true)),
+      )
+      | else-comes_before w ↦ (
+        omega arith,
+        omega (arith, w.n-is),
+        w.n-is ∙ c.loop-d.invariant.2 ∙ sym (counted_no p c.loop-d.d (sym c.comes_before.ensures ∙ w.if-comes_before.false)),
+      )
+    ]
 
 pub returns : goal.returns
 returns c =

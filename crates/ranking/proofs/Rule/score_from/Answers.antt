@@ -22,8 +22,8 @@ pub returns-then-most-least : goal.returns-then-most-least
 returns-then-most-least c =
     let own_in : in_range ((low (values_named c.args.loss c.args.shake c.args.name))) ≡ true = low_in (values_named c.args.loss c.args.shake c.args.name) in
     let fits : ScoreFits (c.args.self) ((low (values_named c.args.loss c.args.shake c.args.name))) = points-fit (c.args.self) ((low (values_named c.args.loss c.args.shake c.args.name))) (word_fits (c.args.self) ((low (values_named c.args.loss c.args.shake c.args.name))) c.most.ensures.1 (own_in)) in
-    let low = ap₂ lt_z (kept w32 c.most.result c.most.type_inv ∙ c.most.ensures.0) (to_z-of_z c.ranges.least) in
-    (sym (from_hottest (c.args.self) ((low (values_named c.args.loss c.args.shake c.args.name))) c.args.least (own_in) (sym low ∙ c.if-most-least.true)), fits)
+    let lower = ap₂ lt_z (kept w32 c.most.result c.most.type_inv ∙ c.most.ensures.0) (to_z-of_z c.ranges.least) in
+    (sym (from_hottest (c.args.self) ((low (values_named c.args.loss c.args.shake c.args.name))) c.args.least (own_in) (sym lower ∙ c.if-most-least.true)), fits)
 
 pub returns-then-sum-least : goal.returns-then-sum-least
 returns-then-sum-least c =
