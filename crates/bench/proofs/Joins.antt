@@ -10,7 +10,7 @@ use lib.Dec.{eqb, lit≤}
 use lib.ListN.{length, take, drop, replicate, length-append, length-drop, length-take, length-replicate, replicate-append-replicate}
 use lib.Seq.{sets, sets-eq, take_all, take-nil, drop_at, drop-append-add, take-append_seam, length-take-le, take-add}
 use Rattle.wire.specs.Bytes.{number, bytes, part}
-use Rattle.report.specs.Payload.{size, read_payload}
+use Rattle.report.specs.Payload.{read_payload}
 use Rattle.joining.specs.declared.Session.{Session}
 use Rattle.joining.specs.declared.Answer.{Answer}
 use Rattle.joining.specs.declared.Answer.TheVariants.{Kept}

@@ -1,5 +1,6 @@
 // The window with its 32 slots: standing questions that each have a list.
 #![tactic(auto)]
+
 ghost use Rattle.std.specs.Prelude.{◌≡◌, ◌<◌};
 ghost use Rattle.window.specs.Rows.{report_limit};
 ghost use Rattle.list.specs.Lines.{all_of};

@@ -1,6 +1,7 @@
 // A test program's cases: lines of text on standard input, of which the first word says what is tried, and the others are
 // numbers. A number that isn't there is 0.
 #![tactic(auto)]
+
 ghost use Rattle.std.specs.Prelude.{◌-◌, ◌≤◌, length};
 
 use lines::{Number, Run};

@@ -1,5 +1,6 @@
 // What comes next in a log's bytes: whether it is a whole item that can be done where the log stands, and whether there is room for what it prints.
 #![tactic(auto)]
+
 ghost use Rattle.std.specs.Prelude.{◌≡◌, ◌&&◌, ◌≤◌, length};
 ghost use Rattle.coming.specs.Coming.{item_comes, frame_comes, slot_comes, comes, has_room, is_frame};
 ghost use Rattle.coming.specs.Inner.{slot_size};

@@ -1,5 +1,6 @@
 // The forms of the desk's lines: which one a line has, and what it is in words, as docs/DESK.md has them.
 #![tactic(auto)]
+
 use replies::put;
 
 // Which form a line has by its first word, or by the one behind `poke`.

@@ -1,5 +1,6 @@
 // The board with the senders of its reports and each sender's tally: every call that is handed all of it.
 #![tactic(auto)]
+
 ghost use Rattle.std.specs.Prelude.{◌≡◌};
 ghost use Rattle.board.specs.Work.{enter_work};
 ghost use Rattle.ledger.specs.Calls.{fit_ledger, with_board, fresh_ledger, set_call, remove_call, read_call, not_entered, entered_with, enter_call, tally_call, report_call};

@@ -1,6 +1,7 @@
 // A list in its two arrays, the reports' names and their scores, best first, and the pass over a window's rows that fills
 // one. A length over the room counts as the room.
 #![tactic(auto)]
+
 ghost use Rattle.std.specs.Prelude.{◌≡◌, [], min, ◌≤◌, ◌<◌, take, drop, pos};
 ghost use Rattle.search.specs.Best.{best, placed};
 ghost use Rattle.ranking.specs.Standing.{above, top};

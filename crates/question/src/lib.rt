@@ -1,5 +1,6 @@
 // One question: its rule, its list of at most 16 lines, and how far its search has come.
 #![tactic(auto)]
+
 ghost use Rattle.std.specs.Prelude.{◌≡◌, [], min, ◌≤◌, take, drop};
 ghost use Rattle.search.specs.Best.{best, placed};
 ghost use Rattle.ranking.specs.Standing.{above};

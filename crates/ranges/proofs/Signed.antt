@@ -1,7 +1,7 @@
 -- A number of the upper half of its bits stands for what is missing to the next power of two, below 0: in a wider number that power can be taken off,
 -- and what is left fits.
 -- Assumes nothing.
-use Rattle.std.proofs.Common.{◌≡◌, ℕ, suc, ◌-◌, ◌<◌, ◌≤◌, pos, negsuc, ◌-ℤ◌, ap, ◌∙◌, arith, to_z-of_z, SFits, to_z, of_z, lt-ltb}
+use Rattle.std.proofs.Common.{◌≡◌, ℕ, suc, ◌-◌, ◌<◌, pos, negsuc, ◌-ℤ◌, ap, ◌∙◌, arith, to_z-of_z, SFits, to_z, of_z, lt-ltb}
 use mir.Syntax.{Width}
 
 -- n is at most m, and one more than m is taken off.

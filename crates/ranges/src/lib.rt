@@ -1,5 +1,6 @@
 // The numbers of a line, each with a range that a letter names.
 #![tactic(auto)]
+
 use lines::Number;
 
 // The numbers that were read, whether all are right, and the word behind them. One that may be below zero is held as 32 bits hold it.

@@ -1,6 +1,7 @@
 // The desk's answers, as bytes in a buffer that a caller lends. Every function stores its text from any place on and answers the place
 // behind it; what lies past the buffer's end is not stored.
 #![tactic(auto)]
+
 use values::Edition;
 
 // Stores a text.

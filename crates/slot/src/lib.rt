@@ -1,5 +1,6 @@
 // What setting, removing, reading and entering do to one slot: a standing question with its list, or none.
 #![tactic(auto)]
+
 ghost use Rattle.std.specs.Prelude.{◌≡◌, ◌&&◌, min};
 ghost use Rattle.window.specs.Rows.{row_count, report_at, standing};
 ghost use Rattle.list.specs.Lines.{most_lines};

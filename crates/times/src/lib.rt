@@ -1,5 +1,6 @@
 // Frames with times: each sender's last kept time beside its session, and packets that come too late.
 #![tactic(auto)]
+
 ghost use Rattle.std.specs.Prelude.{◌≡◌, true, cond, ◌<◌, length, set, eqb};
 ghost use Rattle.joining.specs.Frame.{sender_of, frame_refusal};
 ghost use Rattle.joining.specs.Joining.{fit, closed, take_frame};

@@ -1,5 +1,6 @@
 // The held reports: the latest N that were entered, in a ring of rows.
 #![tactic(auto)]
+
 ghost use Rattle.std.specs.Prelude.{◌≡◌, true, min, ◌+◌, ◌-◌, ◌%◌, ◌<◌, ◌≤◌};
 ghost use Rattle.window.specs.Rows.{row_count, report_limit, fresh_window, fit_window, added, sized, empty, row_of, place_for, due, number_at, values_at, no_values, holds, rows_fit, counts_fit};
 

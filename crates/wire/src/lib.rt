@@ -1,6 +1,7 @@
 // Little-endian numbers and tagged fields (tag, two-byte length, value) in bytes that a caller lends.
 // Every function takes any place: what lies past the end reads as 0 and is not stored.
 #![tactic(auto)]
+
 ghost use Rattle.std.specs.Prelude.{◌≡◌, get_or, set, take};
 ghost use Rattle.std.proofs.lemmas.List.Edits.{sets};
 ghost use Rattle.wire.specs.Bytes.{number, bytes, part, field, head, field_at, is_field};

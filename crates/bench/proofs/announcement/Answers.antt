@@ -2,7 +2,6 @@
 -- Assumes nothing.
 use native.Mathlib.Omega.{arith}
 use Rattle.bench.proofs.Sending.{announcement-bytes}
-use borrow.Author.Rules.{rules}
 use Rattle.bench.proofs.announcement.Goals as goal
 
 pub returns : goal.returns

@@ -1,7 +1,6 @@
 -- `bench::fill` meets its contract: the packets stand behind the 12 bytes of the announcement's frame.
 -- Assumes nothing.
 use Rattle.bench.proofs.Sending.{all-stored}
-use borrow.Author.Rules.{rules}
 use Rattle.bench.proofs.fill.Goals as goal
 
 pub returns : goal.returns

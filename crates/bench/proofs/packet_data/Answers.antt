@@ -1,7 +1,6 @@
 -- `bench::packet_data` meets its contract: the sequence number and the payload's bytes are stored over eight 255s.
 -- Assumes nothing.
 use Rattle.bench.proofs.Sending.{packet-stored}
-use borrow.Author.Rules.{rules}
 use Rattle.bench.proofs.packet_data.Goals as goal
 
 pub returns : goal.returns

@@ -1,7 +1,6 @@
 -- `bench::put_frame` meets its contract: the data stands behind the four bytes of the identifier.
 -- Assumes nothing.
 use Rattle.bench.proofs.Sending.{put_behind}
-use borrow.Author.Rules.{rules}
 use Rattle.bench.proofs.put_frame.Goals as goal
 
 pub returns : goal.returns

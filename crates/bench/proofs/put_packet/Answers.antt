@@ -1,6 +1,5 @@
 -- `bench::put_packet` meets its contract: it stores the frame of the packet's data.
 -- Assumes nothing.
-use borrow.Author.Rules.{rules}
 use Rattle.bench.proofs.put_packet.Goals as goal
 
 pub returns : goal.returns

@@ -1,10 +1,7 @@
 -- `bench::put_packets` meets its contract: after each turn one packet more stands behind the announcement.
 -- Assumes nothing.
-use Prim.Native.Nat.{◌≤◌, ◌-◌}
 use mathlib.Core.Path.{◌≡◌, refl, ◌∙◌}
 use native.Mathlib.Omega.{arith}
-use lib.ListN.{length}
-use lib.Seq.{sets}
 use Rattle.bench.specs.Bench.{packets_from, frame_bytes}
 use Rattle.bench.proofs.Sending.{packets_more}
 use Rattle.bench.proofs.put_packets.Goals as goal
@@ -30,7 +27,7 @@ loop-sent-preserved c =
     let a = c.args in
     let l = c.loop-sent in (
       omega arith,
-      c.put_packet.auto.0 ∙ c.loop-sent.invariant.1,
+      c.put_packet.auto.room ∙ c.loop-sent.invariant.1,
       packets_more c.args.sender c.args.p.now c.args.room.now c.loop-sent.sent c.loop-sent.invariant.2 c.put_packet.ensures,
     )
 

@@ -1,10 +1,8 @@
 use Prim.Native.Nat.{◌≤◌, ◌-◌}
-use mathlib.Core.Path.{◌≡◌, refl, ◌∙◌}
-use native.Mathlib.Omega.{arith}
+use mathlib.Core.Path.{◌≡◌}
 use lib.ListN.{length}
 use lib.Seq.{sets}
 use Rattle.bench.specs.Bench.{packets_from, frame_bytes}
-use Rattle.bench.proofs.Sending.{packets_more}
 use Rattle.bench.proofs.put_packets.Given as goal
 
 abbrev pub invariant-loop-sent : goal.invariant-loop-sent

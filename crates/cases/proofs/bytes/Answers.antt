@@ -1,9 +1,7 @@
 -- `cases::bytes` is safe and ends: no more bytes are stored than words are left of 255.
 -- Assumes nothing.
-use Prim.Native.Nat.{◌≤◌, ◌-◌}
-use mathlib.Core.Path.{◌≡◌, refl}
+use mathlib.Core.Path.{refl}
 use native.Mathlib.Omega.{arith}
-use lib.ListN.{length}
 use borrow.Author.Rules.{rules}
 use Rattle.cases.proofs.bytes.Goals as goal
 

@@ -3,7 +3,6 @@
 use Prim.Native.Nat.{◌+◌, ◌-◌, ◌≤◌}
 use native.Mathlib.Omega.{arith}
 use lib.ListN.{length, take, drop, length-take, length-drop}
-use borrow.Author.Rules.{rules}
 use Rattle.lines.specs.declared.Run.TheVariants.{Until}
 use Rattle.lines.proofs.Words.{run_within}
 use Rattle.cases.proofs.next.Goals as goal

@@ -3,7 +3,6 @@
 use mathlib.Core.Path.{◌≡◌}
 use Prim.Native.Nat.{◌-◌}
 use lib.ListN.{length}
-use borrow.Author.Rules.{rules}
 use Rattle.forms.proofs.help.Given as goal
 
 abbrev pub invariant-loop-n : goal.invariant-loop-n

@@ -21,8 +21,7 @@ use mathlib.Core.Bool.{not}
 use Rattle.list.proofs.rank_in.Goals as goal
 
 pub loop-i-init : goal.loop-i-init
-loop-i-init c =
-    (
+loop-i-init c = (
   search rules,
   c.requires.0,
   c.requires.1,

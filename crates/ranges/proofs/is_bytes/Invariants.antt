@@ -1,6 +1,6 @@
 -- `ranges::is_bytes` is safe and ends: the pairs that are left fall.
 -- Assumes nothing.
-use Rattle.std.proofs.Common.{◌-◌, ◌/◌, length, rules}
+use Rattle.std.proofs.Common.{◌-◌, ◌/◌, length}
 use Rattle.ranges.proofs.is_bytes.Given as goal
 
 abbrev pub invariant-loop-k : goal.invariant-loop-k

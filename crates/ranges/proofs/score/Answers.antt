@@ -1,6 +1,6 @@
 -- `ranges::score` is safe: in 64 bits 4294967296 can be taken off, and what is left fits 32.
 -- Assumes nothing.
-use Rattle.std.proofs.Common.{◌%◌, arith, w16, w32, w64, rules}
+use Rattle.std.proofs.Common.{arith, w32, w64, rules}
 use mir.Facts.{to_z_pos}
 use Rattle.ranges.proofs.Signed.{fits_wide, fits_narrow}
 use Rattle.ranges.proofs.score.Goals as goal

@@ -1,6 +1,6 @@
 -- `ranges::weight` is safe: in 32 bits 65536 can be taken off, and what is left fits 16.
 -- Assumes nothing.
-use Rattle.std.proofs.Common.{◌%◌, arith, w16, w32, w64, rules}
+use Rattle.std.proofs.Common.{◌%◌, arith, w16, w32, rules}
 use mir.Facts.{to_z_pos}
 use Rattle.ranges.proofs.Signed.{fits_wide, fits_narrow}
 use Rattle.ranges.proofs.weight.Goals as goal

@@ -4,7 +4,6 @@ use mathlib.Core.Path.{sym}
 use borrow.Author.Tests.{le-ltb}
 use Rattle.bus.proofs.Places.{room_of_sessions}
 use Rattle.times.proofs.Lent.{met-passes, met-stops}
-use borrow.Author.Rules.{rules}
 use Rattle.times.proofs.meet_in.Goals as goal
 
 pub returns-then-k-ge-SENDERS : goal.returns-then-k-ge-SENDERS
@@ -13,7 +12,7 @@ returns-then-k-ge-SENDERS c =
     record { refuses = rw has; found = rw has; sessions = rw has (sym (room_of_sessions 254 c.args.room.now c.requires)); knows = rw has; times = rw has }
 
 pub returns-then-refusal-eq0 : goal.returns-then-refusal-eq0
-returns-then-refusal-eq0 c = met-passes c.args.room.now c.args.known.now c.args.at.now c.args.time c.args.id s.args.«data».now c.if-k-ge-SENDERS.false c.stopped-refusal.ensures.value c.stopped-refusal.ensures.room_after c.if-refusal-eq0.true
+returns-then-refusal-eq0 c = met-passes c.args.room.now c.args.known.now c.args.at.now c.args.time c.args.id c.args.«data».now c.if-k-ge-SENDERS.false c.stopped-refusal.ensures.value c.stopped-refusal.ensures.room_after c.if-refusal-eq0.true
 
 pub returns-else-refusal-eq0 : goal.returns-else-refusal-eq0
-returns-else-refusal-eq0 c = met-stops c.args.room.now c.args.known.now c.args.at.now c.args.time c.args.id s.args.«data».now c.if-k-ge-SENDERS.false c.stopped-refusal.ensures.value c.stopped-refusal.ensures.room_after c.if-refusal-eq0.false
+returns-else-refusal-eq0 c = met-stops c.args.room.now c.args.known.now c.args.at.now c.args.time c.args.id c.args.«data».now c.if-k-ge-SENDERS.false c.stopped-refusal.ensures.value c.stopped-refusal.ensures.room_after c.if-refusal-eq0.false

@@ -4,7 +4,6 @@ use mathlib.Core.Path.{refl, sym, ◌∙◌}
 use borrow.Author.Tests.{ne_eqb, eq-eqb}
 use Rattle.joining.specs.Frame.{sender_of}
 use Rattle.times.proofs.Lent.{unchanged}
-use borrow.Author.Rules.{rules}
 use Rattle.times.proofs.shut.Goals as goal
 
 pub returns-then-frame_refusal-ne0 : goal.returns-then-frame_refusal-ne0

@@ -4,7 +4,6 @@ use mathlib.Core.Path.{sym, ◌∙◌}
 use Rattle.joining.specs.Frame.{sender_of}
 use Rattle.times.proofs.Steps.{tests}
 use Rattle.times.proofs.Lent.{unchanged}
-use borrow.Author.Rules.{rules}
 use Rattle.times.proofs.stopped.Goals as goal
 
 pub returns-in-InTime : goal.returns-in-InTime

@@ -2,18 +2,17 @@
 -- Assumes nothing.
 use mathlib.Core.Path.{sym, ◌∙◌}
 use Rattle.times.proofs.Lent.{met-refused, met-taken}
-use borrow.Author.Rules.{rules}
 use Rattle.times.proofs.timed.Goals as goal
 
 pub returns-then-met-ne0 : goal.returns-then-met-ne0
-returns-then-met-ne0 c = met-refused c.args.room.now c.args.known.now c.args.at.now c.args.time c.args.id s.args.«data».now c.requires c.meet-met.ensures c.if-met-ne0.true
+returns-then-met-ne0 c = met-refused c.args.room.now c.args.known.now c.args.at.now c.args.time c.args.id c.args.«data».now c.requires c.meet-met.ensures c.if-met-ne0.true
 
 pub returns-then-kept : goal.returns-then-kept
 returns-then-kept c =
     let k = sym c.kept.ensures ∙ c.if-kept.true in
-    met-taken c.args.room.now c.args.known.now c.args.at.now c.args.time c.args.id s.args.«data».now c.requires c.meet-met.ensures c.if-met-ne0.false c.take-answer.ensures.value c.take-answer.ensures.room_after (rw k) (rw k)
+    met-taken c.args.room.now c.args.known.now c.args.at.now c.args.time c.args.id c.args.«data».now c.requires c.meet-met.ensures c.if-met-ne0.false c.take-answer.ensures.value c.take-answer.ensures.room_after (rw k) (rw k)
 
 pub returns : goal.returns
 returns c =
     let k = sym c.kept.ensures ∙ c.if-kept.false in
-    met-taken c.args.room.now c.args.known.now c.args.at.now c.args.time c.args.id s.args.«data».now c.requires c.meet-met.ensures c.if-met-ne0.false c.take-answer.ensures.value c.take-answer.ensures.room_after (rw k c.put.ensures.known_value) (rw k c.put.ensures.at_after)
+    met-taken c.args.room.now c.args.known.now c.args.at.now c.args.time c.args.id c.args.«data».now c.requires c.meet-met.ensures c.if-met-ne0.false c.take-answer.ensures.value c.take-answer.ensures.room_after (rw k c.put.ensures.known_value) (rw k c.put.ensures.at_after)

@@ -2,7 +2,6 @@
 -- Assumes nothing.
 use mathlib.Core.Path.{sym, ◌∙◌}
 use borrow.Author.Tests.{ne_eqb}
-use borrow.Author.Rules.{rules}
 use Rattle.times.proofs.turned.Goals as goal
 
 pub returns-then-n-ne0 : goal.returns-then-n-ne0

@@ -1,4 +1,3 @@
-
 use mathlib.Core.Path.{sym}
 use Prim.Native.Nat.{◌%◌}
 use lib.ListN.{length}

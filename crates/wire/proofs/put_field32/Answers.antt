@@ -1,4 +1,3 @@
-
 use mathlib.Core.Path.{sym, ap}
 use Rattle.wire.specs.Bytes.{bytes, head, field}
 use Rattle.wire.proofs.Numbers.{length-bytes}

@@ -1,4 +1,3 @@
-
 use mathlib.Core.Path.{sym}
 use Rattle.wire.proofs.Numbers.{number_past, number-part}
 use borrow.Author.Rules.{rules}

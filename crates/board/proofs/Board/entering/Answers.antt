@@ -23,7 +23,7 @@ leaving-gone-requires c =
 
 pub loop-i-init : goal.loop-i-init
 loop-i-init c =
-    let all_slots : length c.args.self.slots ≡ 32 = sym (length-map c.args.self.slots _) ∙ c.good.0.1.1.1.0.1.0.1 in
+    let all_slots : length c.args.self.slots ≡ 32 = c.well_formed.0.1.1.1.0.1.0.1 in
     let n = all_slots in
     (omega arith, n, turns-none _ _ _ _ _ _ _ refl (sym n) (sym n))
 

@@ -12,7 +12,7 @@ use mathlib.Core.Bool.{not}
 use Rattle.board.proofs.Board.slots_fit.Goals as goal
 
 pub loop-i-init : goal.loop-i-init
-loop-i-init c = record { up_to = search rules; many = sym (length-map c.args.self.slots _) ∙ c.well_formed.0.1.1.1.0.1.0.1; decides = refl }
+loop-i-init c = record { up_to = search rules; many = c.well_formed.0.1.1.1.0.1.0.1; decides = refl }
 
 pub returns-then-not-fit : goal.returns-then-not-fit
 returns-then-not-fit c =

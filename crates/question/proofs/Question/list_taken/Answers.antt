@@ -10,12 +10,11 @@ use Rattle.question.proofs.Taking.{taken_none, taken_more, taken-same}
 use Rattle.question.proofs.Question.list_taken.Goals as goal
 
 pub loop-row-init : goal.loop-row-init
-loop-row-init c =
-    (
-      search rules,
-      subst (λ b. b.k ≤ 16) (sym c.ranked-list.ensures) c.requires,
-      taken_none c.args.self c.ranked-list.result c.requires c.ranked-list.ensures c.args.window,
-    )
+loop-row-init c = (
+  search rules,
+  subst (λ b. b.k ≤ 16) (sym c.ranked-list.ensures) c.requires,
+  taken_none c.args.self c.ranked-list.result c.requires c.ranked-list.ensures c.args.window,
+)
 
 pub loop-row-preserved : goal.loop-row-preserved
 loop-row-preserved c =

@@ -1,6 +1,6 @@
 -- `ranges::Numbers::read` is safe and ends: the letters that are left fall.
 -- Assumes nothing.
-use Rattle.std.proofs.Common.{◌-◌, length, rules}
+use Rattle.std.proofs.Common.{◌-◌, length}
 use Rattle.ranges.proofs.Numbers.read.Given as goal
 
 abbrev pub invariant-loop-i : goal.invariant-loop-i

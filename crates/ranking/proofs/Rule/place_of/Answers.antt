@@ -34,14 +34,14 @@ loop-d-preserved c =
     let a = c.args in
     let p : ℕ → Bool = λ e. cell_counts c.args.self e && before c.args.self e c.args.cell in
     elim c.if-comes_before.branch [
-      then-comes_before w ↦ (
+      | then-comes_before w ↦ (
         omega arith,
         omega (arith, w.n-is),
         w.n-is
             ∙ ap (λ m. m + 1) c.loop-d.invariant.2
             ∙ sym (counted_yes p c.loop-d.d (sym c.comes_before.ensures ∙ w.if-comes_before.true)),
       )
-    | else-comes_before w ↦ (
+      | else-comes_before w ↦ (
         omega arith,
         omega (arith, w.n-is),
         w.n-is ∙ c.loop-d.invariant.2 ∙ sym (counted_no p c.loop-d.d (sym c.comes_before.ensures ∙ w.if-comes_before.false)),

@@ -1,7 +1,6 @@
 -- `times::Last::after` meets its contract: a frame that is kept sets the time, and another leaves it.
 -- Assumes nothing.
 use mathlib.Core.Path.{sym, ◌∙◌}
-use borrow.Author.Rules.{rules}
 use Rattle.times.proofs.Last.after.Goals as goal
 
 pub returns-then-kept : goal.returns-then-kept

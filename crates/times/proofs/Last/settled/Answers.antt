@@ -4,7 +4,6 @@ use mathlib.Core.Path.{◌∙◌, ap}
 use Rattle.times.specs.declared.Last.{Last}
 use Rattle.times.specs.declared.Heard.{Heard}
 use Rattle.times.specs.Timed.{kept_at}
-use borrow.Author.Rules.{rules}
 use Rattle.times.proofs.Last.settled.Goals as goal
 
 pub returns : goal.returns

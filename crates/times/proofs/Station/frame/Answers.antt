@@ -5,7 +5,6 @@ use Prim.Native.Nat.{ℕ}
 use Rattle.times.specs.Timed.{turned}
 use Rattle.times.specs.Run.{timed_at}
 use Rattle.times.proofs.Steps.{foreign_stays, unfit_stays}
-use borrow.Author.Rules.{rules}
 use Rattle.times.proofs.Station.frame.Goals as goal
 
 pub returns-then-n-ne0 : goal.returns-then-n-ne0

@@ -2,7 +2,6 @@
 -- Assumes nothing.
 use mathlib.Core.Path.{sym, ◌∙◌}
 use Rattle.times.proofs.Steps.{tests, in_time, unfit_stays, turned_back, settled}
-use borrow.Author.Rules.{rules}
 use Rattle.times.proofs.Station.timed.Goals as goal
 
 pub returns-in-InTime : goal.returns-in-InTime

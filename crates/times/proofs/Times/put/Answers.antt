@@ -1,7 +1,6 @@
 -- `times::Times::put` meets its contract: both arrays are stored to, or none where the sender has no place in them.
 -- Assumes nothing.
 use borrow.Author.Tests.{lt-ltb, le-ltb}
-use borrow.Author.Rules.{rules}
 use Rattle.times.proofs.Times.put.Goals as goal
 
 pub returns-then-k-lt-SENDERS : goal.returns-then-k-lt-SENDERS

@@ -4,10 +4,9 @@ use mathlib.Core.Path.{subst}
 use mathlib.Core.List.{List}
 use Prim.Native.Nat.{ℕ}
 use Rattle.times.specs.Run.{stations_in, timed_at, Takes}
-use borrow.Author.Rules.{rules}
 use Rattle.times.proofs.Times.take.Goals as goal
 
 pub returns : goal.returns
 returns c =
-    subst (λ (q : List ℕ). Takes (stations_in q c.args.known.now c.args.at.now) (timed_at c.args.time c.args.id s.args.«data».now) c.timed.result c.timed.new.0 c.timed.new.1.0 c.timed.new.1.1.0)
+    subst (λ (q : List ℕ). Takes (stations_in q c.args.known.now c.args.at.now) (timed_at c.args.time c.args.id c.args.«data».now) c.timed.result c.timed.new.room c.timed.new.known c.timed.new.at)
     c.whole.ensures.1 c.timed.ensures

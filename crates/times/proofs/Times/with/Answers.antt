@@ -1,7 +1,6 @@
 -- `times::Times::with` meets its contract: both arrays are stored to, or stay where the sender is past their end.
 -- Assumes nothing.
 use mathlib.Core.Path.{◌≡◌, sym}
-use Prim.Native.Nat.{ℕ, ◌≤◌}
 use native.Mathlib.Omega.{arith}
 use lib.ListN.{length}
 use lib.Seq.{set_out}
