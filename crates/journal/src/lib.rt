@@ -1,5 +1,6 @@
 // A log of the bench: its items, what each does, and the lines of text that it prints.
 #![tactic(auto)]
+
 ghost use Rattle.std.specs.Prelude.{◌≡◌, cond, [], ◌<◌, set};
 ghost use Rattle.std.proofs.lemmas.List.Edits.{sets};
 ghost use Rattle.joining.specs.Run.{senders};

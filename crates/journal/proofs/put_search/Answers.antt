@@ -9,5 +9,5 @@ returns-then-searched c = rw c.if-searched.true (record { value = c.put_s.ensure
 
 pub returns-else-searched : goal.returns-else-searched
 returns-else-searched c =
-    let a = c.args in 
+    let a = c.args in
     rw c.if-searched.false (record { value = (both (none c.args.out.now c.args.at (search rules))).0; out_after = (both (none c.args.out.now c.args.at (search rules))).1 })

@@ -50,10 +50,10 @@ shape_of-out c = c.loop-i.invariant.1
 
 pub returns : goal.returns
 returns c =
-    let a = c.args in 
-    let l = c.loop-i in 
-    let all : c.loop-i.i ≡ 32 = omega arith in 
-    let bs : length c.args.searched ≡ 32 = search rules in 
-    let ns : length c.args.steps ≡ 32 = search rules in 
+    let a = c.args in
+    let l = c.loop-i in
+    let all : c.loop-i.i ≡ 32 = omega arith in
+    let bs : length c.args.searched ≡ 32 = search rules in
+    let ns : length c.args.steps ≡ 32 = search rules in
     let whole : s_lines c.args.item 0 (take c.loop-i.i c.args.searched) (take c.loop-i.i c.args.steps) ≡ s_lines c.args.item 0 c.args.searched c.args.steps =
     ap₂ (λ (x : List Bool) (y : List ℕ). s_lines c.args.item 0 x y) (take_all c.loop-i.i c.args.searched (omega arith)) (take_all c.loop-i.i c.args.steps (omega arith)) in record { value = (both {l = c.args.out.now} (said whole c.loop-i.invariant.2)).0; out_after = (both {l = c.args.out.now} (said whole c.loop-i.invariant.2)).1 }

@@ -2,6 +2,7 @@
 -- Assumes nothing.
 use mathlib.Core.Path.{◌≡◌, refl, sym, ap, ◌∙◌}
 use mathlib.Core.List.{List}
+use mathlib.Core.Logic.{⊎_elim}
 use Prim.Native.Nat.{ℕ}
 use Rattle.items.specs.declared.Item.{Item}
 use Rattle.items.specs.declared.Item.TheVariants.{Set, SetHeat, SetTies}
@@ -14,7 +15,6 @@ use Rattle.journal.proofs.Log.by_item.Goals as goal
 -- What the item says is what is done.
 said : (self : Log) (item : Item) (bytes out : List ℕ) (at : ℕ) {i : Item} {left : List ℕ} {next : ℕ} {log : Log} → item ≡ i → Stores (by_item self i bytes) out at log next left → Stores (by_item self item bytes) out at log next left
 said self item bytes out at is s = outcome_is (ap (λ (x : Item). by_item self x bytes) (sym is)) s
-
 
 pub returns-in-Window : goal.returns-in-Window
 unfolding by_item
@@ -42,4 +42,8 @@ returns-in-Unknown c = said c.args.self c.args.item c.args.data.now c.args.out.n
 
 pub returns-in-Set : goal.returns-in-Set
 unfolding by_item
-returns-in-Set c = let h = c.in-Set.match-item-branch in ?
+returns-in-Set c =
+    let a = c.args in
+    ⊎_elim (λ e. said a.self a.item a.data.now a.out.now a.at e c.set_item.ensures)
+    (⊎_elim (λ e. said a.self a.item a.data.now a.out.now a.at e c.set_item.ensures) (λ e. said a.self a.item a.data.now a.out.now a.at e c.set_item.ensures))
+    c.in-Set.is

@@ -4,7 +4,6 @@ use mathlib.Core.Path.{◌≡◌, refl}
 use mathlib.Core.List.{[], ◌∷◌}
 use Prim.Native.Nat.{ℕ}
 use borrow.Author.Tests.{eq-eqb, ne_eqb}
-use types.Run.{miss}
 use Rattle.items.specs.declared.Item.{Item}
 use Rattle.items.specs.declared.Item.TheVariants.{Window, Set, Frame, Remove, Show, Timed, SetHeat, SetTies, Unknown}
 use Rattle.journal.specs.declared.Log.{Log}
@@ -39,10 +38,10 @@ returns-else-rows-eq0 c = rw (c.in-Window.is, ne_eqb c.args.self.board.window.co
 
 pub returns-then-rows-eq0-2 : goal.returns-then-rows-eq0-2
 returns-then-rows-eq0-2 c =
-    let needs_window : item_refusal (c.args.self) (c.args.item) ≡ early (c.args.self) = others (c.args.self) (c.args.item) (λ e. miss (1 ∷ 2 ∷ 3 ∷ 4 ∷ 5 ∷ 6 ∷ 7 ∷ []) 8 tt (rw e at c.in_default.in_default-own.keys3)) (λ n e. miss (1 ∷ 2 ∷ 3 ∷ 4 ∷ 5 ∷ 6 ∷ 7 ∷ []) 0 tt (rw e at c.in_default.in_default-own.keys3)) in
+    let needs_window : item_refusal (c.args.self) (c.args.item) ≡ early (c.args.self) = others (c.args.self) (c.args.item) c.in_default.not-Unknown c.in_default.not-Window in
     rw (needs_window, eq-eqb (c.args.self).board.window.counts.size 0 c.if-rows-eq0-2.true)
 
 pub returns-else-rows-eq0-2 : goal.returns-else-rows-eq0-2
 returns-else-rows-eq0-2 c =
-    let needs_window : item_refusal (c.args.self) (c.args.item) ≡ early (c.args.self) = others (c.args.self) (c.args.item) (λ e. miss (1 ∷ 2 ∷ 3 ∷ 4 ∷ 5 ∷ 6 ∷ 7 ∷ []) 8 tt (rw e at c.in_default.in_default-own.keys3)) (λ n e. miss (1 ∷ 2 ∷ 3 ∷ 4 ∷ 5 ∷ 6 ∷ 7 ∷ []) 0 tt (rw e at c.in_default.in_default-own.keys3)) in
+    let needs_window : item_refusal (c.args.self) (c.args.item) ≡ early (c.args.self) = others (c.args.self) (c.args.item) c.in_default.not-Unknown c.in_default.not-Window in
     rw (needs_window, ne_eqb (c.args.self).board.window.counts.size 0 c.if-rows-eq0-2.false)
