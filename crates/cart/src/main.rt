@@ -1,7 +1,9 @@
 // The log program: a log on standard input, its lines on standard output.
 #![tactic(auto)]
 
-ghost use Rattle.std.specs.Prelude.{◌≡◌, ◌≤◌, length, take};
+ghost use Rattle.std.specs.Prelude.{◌≡◌, ◌<◌, ◌≤◌, length, take, IfSome, true, false};
+ghost use Rattle.std.specs.Io.KnownBytes.{Appends};
+ghost use Rattle.journal.specs.Log.{log_text};
 ghost use Rattle.cart.specs.Turns.{Turns, Ends};
 
 use journal::Log;
@@ -27,7 +29,8 @@ struct Turn {
 impl Printed {
     // Hands the first bytes of a room over for printing.
     fn front<W: Write>(out: &mut W, err: &impl Print, room: &[u8], count: usize) -> Printed
-        ensures { result.count ≡ length (take count room.now) }
+        ensures count { result.count ≡ length (take count room.now) }
+        ensures printed { result.ok ≡ true → Appends (W.contents out.old) (W.contents out.new) (take result.count room.now) }
     {
         let text = wire::front(room, count);
         let ok = says(out, err, text);
@@ -45,7 +48,8 @@ impl Printed {
         waiting: Waiting,
         room: &mut [u8; 65536],
     ) -> Printed
-        ensures { Ends log waiting result room.new }
+        ensures ends { Ends log waiting result room.new }
+        ensures printed { result.ok ≡ true → Appends (W.contents out.old) (W.contents out.new) (take result.count room.new) }
     {
         let end = waiting.finish(log, room, 0);
         Printed::front(out, err, room, end)
@@ -62,7 +66,8 @@ impl Turn {
         piece: &[u8],
         room: &mut [u8; 65536],
     ) -> Turn
-        ensures { Turns log waiting piece.now result room.new }
+        ensures turns { Turns log waiting piece.now result room.new }
+        ensures printed { result.printed.ok ≡ true → Appends (W.contents out.old) (W.contents out.new) (take result.printed.count room.new) }
     {
         let fed = waiting.feed(log, piece, room);
         let left = fed.log;
@@ -84,7 +89,9 @@ fn main(rt: HostRuntime) {
 // Reads to the end of the log and prints what comes, a piece and a room at a time; whether all of it was read and printed. A read or a write that
 // fails is said, and the log's end is then not printed. The log is handed to a turn and back, and copied nowhere else. A proved loop has to end,
 // so it counts its turns down from a number that no run uses up.
-fn run<R: Read, W: Write>(input: &mut R, out: &mut W, err: &impl Print) -> bool {
+fn run<R: Read, W: Write>(input: &mut R, out: &mut W, err: &impl Print) -> bool
+    ensures { result ≡ true → IfSome (R.remaining input.old) (λ bytes. Appends (W.contents out.old) (W.contents out.new) (log_text bytes)) }
+{
     let mut log = Log::fresh();
     let mut waiting = Waiting::nothing();
     let mut space = [0u8; 65536];
@@ -121,7 +128,9 @@ fn run<R: Read, W: Write>(input: &mut R, out: &mut W, err: &impl Print) -> bool 
 }
 
 // Whether a read that brought nothing met the end of the log; where it failed, that is said.
-fn is_end(err: &impl Print, failed: bool) -> bool {
+fn is_end(err: &impl Print, failed: bool) -> bool
+    ensures { result ≡ true → failed ≡ false }
+{
     if failed {
         let _ = err.write_all(b"cart: the input can't be read\n");
         return false;
@@ -130,7 +139,9 @@ fn is_end(err: &impl Print, failed: bool) -> bool {
 }
 
 // Whether a text could be printed; where not, that is said.
-fn says<W: Write>(out: &mut W, err: &impl Print, text: &[u8]) -> bool {
+fn says<W: Write>(out: &mut W, err: &impl Print, text: &[u8]) -> bool
+    ensures { result ≡ true → Appends (W.contents out.old) (W.contents out.new) text.now }
+{
     if out.write_all(text).is_ok() {
         return true;
     }
@@ -140,7 +151,8 @@ fn says<W: Write>(out: &mut W, err: &impl Print, text: &[u8]) -> bool {
 
 // None, where a write failed or no byte was taken.
 fn turns_left(turns: u64, taken: usize, going: bool) -> u64
-    ensures { result ≤ turns }
+    ensures fewer { result ≤ turns }
+    ensures going { 0 < result → going ≡ true }
 {
     if going {
         if taken > 0 {
