@@ -1,6 +1,6 @@
 -- P9 to P11, P16, P21 and P22 through the calls, and what others of their kind are worked by (`third_says`). What an entry answers of a slot is said by what was entered before, so that each example is a short computation over two reports.
 -- Assumes nothing.
-use mathlib.Core.Path.{◌≡◌, refl, sym, ap, ap₂, ◌∙◌, subst}
+use mathlib.Core.Path.{◌≡◌, refl, sym, ap, ◌∙◌, subst}
 use mathlib.Core.Logic.{inl}
 use mathlib.Core.Bool.{Bool, true, false, not, cond}
 use mathlib.Core.List.{List, [], ◌∷◌, ◌++◌}

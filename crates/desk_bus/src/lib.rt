@@ -1,5 +1,6 @@
 // The desk's frames, sessions, payloads and bench sender: each call is made, and what it answers is written to the front of `out`.
 #![tactic(auto)]
+
 use bench::Bench;
 use bus::Bus;
 use joining::Answer;

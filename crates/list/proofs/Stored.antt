@@ -10,7 +10,7 @@ use native.Mathlib.Omega.{arith}
 use borrow.Author.Tests.{leb-true, leb-false}
 use lib.Dec.{leb}
 use lib.IntN.{ℤ, pos}
-use lib.ListN.{length, take, drop, get_or, replicate, length-map, length-take, length-append, length-replicate, drop_of_length-le}
+use lib.ListN.{length, take, drop, get_or, replicate, length-take, length-append, length-replicate, drop_of_length-le}
 use lib.Seq.{take_all, take-take, take-suc, length-take-le, drop-cons, get_or-take}
 use Rattle.laws.specs.Lists.{on_last}
 use Rattle.ranking.specs.Standing.{Entry}

@@ -9,7 +9,6 @@ use native.Mathlib.Nat.{add-zero, add-suc, mod-lt, not-suc-le-zero, le_of_suc-le
 use native.Mathlib.Omega.{arith}
 use borrow.Author.Tests.{eq-eqb, eqb-true, eqb-false}
 use lib.Dec.{eqb}
-use lib.ListN.{get_or}
 use Rattle.laws.specs.Lists.{◌∈◌}
 use Rattle.values.proofs.Facts.{low_same}
 use Rattle.ranking.specs.Standing.{Held, top, Permitted}

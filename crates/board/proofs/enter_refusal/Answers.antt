@@ -2,7 +2,6 @@
 -- Assumes nothing.
 use mathlib.Core.Path.{sym, ◌∙◌}
 use borrow.Author.Tests.{lt-ltb, le-ltb, not-true, not-false}
-use borrow.Author.Rules.{rules}
 use Rattle.board.specs.Work.{enter_refusal}
 use mathlib.Core.Path.{ap}
 use mathlib.Core.Bool.{not}

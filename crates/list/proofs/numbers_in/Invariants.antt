@@ -1,9 +1,5 @@
-use mathlib.Core.Path.{◌≡◌, refl, sym, subst}
-use Prim.Native.Nat.{◌+◌, ◌-◌, ◌/◌, ◌≤◌, ◌<◌}
-use native.Mathlib.Omega.{arith}
-use borrow.Author.Rules.{rules}
-use lib.ListN.{set}
-use Rattle.list.proofs.Reading.{Read, read_more, read_all}
+use Prim.Native.Nat.{◌-◌, ◌/◌, ◌≤◌}
+use Rattle.list.proofs.Reading.{Read}
 use Rattle.list.proofs.numbers_in.Given as goal
 
 abbrev pub invariant-loop-i : goal.invariant-loop-i

@@ -1,13 +1,11 @@
 -- By the entry's rank: it is past the room, there already, or new.
 -- Assumes nothing.
 use mathlib.Core.Path.{◌≡◌, sym, ap, ◌∙◌, subst}
-use mathlib.Core.List.{List}
 use Prim.Native.Nat.{◌+◌, ◌≤◌}
 use borrow.Author.Tests.{not-true, not-false}
-use borrow.Author.Rules.{rules}
 use lib.ListN.{length, take}
 use mir.Facts.{to_z-of_z}
-use Rattle.ranking.specs.Standing.{Entry, above}
+use Rattle.ranking.specs.Standing.{above}
 use Rattle.ranking.proofs.Entries.{above_strict}
 use Rattle.list.specs.Lines.{lines_of}
 use Rattle.list.specs.Inner.{rank_in, new_in, slid, Placing}

@@ -1,7 +1,6 @@
 -- The invariant: the lines before i rank above the entry.
 -- Assumes nothing.
 use mathlib.Core.Path.{◌≡◌, sym, ap, ◌∙◌}
-use Prim.Native.Nat.{◌≤◌, ◌-◌}
 use native.Mathlib.Omega.{arith}
 use borrow.Author.Tests.{not-true, not-false}
 use borrow.Author.Rules.{rules}
@@ -15,8 +14,8 @@ use Rattle.laws.proofs.Words.{kept}
 use Rattle.ranking.proofs.Entries.{above_strict}
 use Rattle.list.specs.Lines.{lines_of}
 use Rattle.list.specs.Inner.{rank_in}
-use Rattle.list.proofs.Stored.{Roomy, line_at, drop_line, none_left}
-use Rattle.list.proofs.Placed.{Ranked, ranked_none, ranked_on, ranked_here, ranked_end}
+use Rattle.list.proofs.Stored.{line_at, drop_line, none_left}
+use Rattle.list.proofs.Placed.{ranked_none, ranked_on, ranked_here, ranked_end}
 use mathlib.Core.Bool.{not}
 use Rattle.list.proofs.rank_in.Goals as goal
 

@@ -1,7 +1,7 @@
 -- The invariant: what stood from i on has moved one place back, and the place i is as it was.
 -- Assumes nothing.
 use mathlib.Core.Path.{◌≡◌, sym, ap, ◌∙◌}
-use Prim.Native.Nat.{suc, ◌≤◌, ◌<◌, ◌-◌}
+use Prim.Native.Nat.{suc, ◌≤◌, ◌-◌}
 use native.Mathlib.Omega.{arith}
 use borrow.Author.Rules.{rules}
 use lib.IntN.{pos}
@@ -9,7 +9,6 @@ use lib.ListN.{get_or, set}
 use mir.Facts.{to_z-of_z}
 use mir.Syntax.{w32}
 use Rattle.laws.proofs.Words.{kept}
-use Rattle.list.proofs.Stored.{Roomy}
 use Rattle.list.proofs.Sliding.{opened, opened-none, opened_more, closed}
 use Rattle.list.proofs.slide.Goals as goal
 

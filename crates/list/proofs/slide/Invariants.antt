@@ -1,14 +1,7 @@
-use mathlib.Core.Path.{◌≡◌, sym, ap, ◌∙◌}
-use Prim.Native.Nat.{suc, ◌≤◌, ◌<◌, ◌-◌}
-use native.Mathlib.Omega.{arith}
-use borrow.Author.Rules.{rules}
-use lib.IntN.{pos}
-use lib.ListN.{get_or, set}
-use mir.Facts.{to_z-of_z}
-use mir.Syntax.{w32}
-use Rattle.laws.proofs.Words.{kept}
+use mathlib.Core.Path.{◌≡◌}
+use Prim.Native.Nat.{◌≤◌, ◌<◌}
 use Rattle.list.proofs.Stored.{Roomy}
-use Rattle.list.proofs.Sliding.{opened, opened-none, opened_more, closed}
+use Rattle.list.proofs.Sliding.{opened}
 use Rattle.list.proofs.slide.Given as goal
 
 abbrev pub invariant-loop-i : goal.invariant-loop-i

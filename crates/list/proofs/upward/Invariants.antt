@@ -1,21 +1,7 @@
-use mathlib.Core.Path.{◌≡◌, sym, ap, ◌∙◌, subst}
-use mathlib.Core.List.{List}
-use Prim.Native.Nat.{ℕ, suc, min, ◌≤◌, ◌-◌, ◌+◌}
-use native.Mathlib.Omega.{arith}
-use borrow.Author.Rules.{rules}
-use borrow.Author.Tests.{not-true, not-false}
-use lib.IntN.{ℤ}
-use mir.Syntax.{w32}
-use Rattle.laws.proofs.Words.{kept}
-use Rattle.ranking.specs.Standing.{top}
-use Rattle.window.specs.declared.Window.{Window}
+use Prim.Native.Nat.{min, ◌≤◌, ◌-◌}
 use Rattle.window.specs.Rows.{standing}
-use Rattle.list.specs.declared.Bar.{Bar}
-use Rattle.list.specs.declared.Lines.{Lines}
-use Rattle.list.specs.Lines.{columns_of}
 use Rattle.list.specs.Rows.{rows_of}
-use Rattle.list.proofs.Sliding.{placing_few}
-use Rattle.list.proofs.Gathering.{Pass, pass_few, pass_room, pass_out, pass_skips, pass_puts}
+use Rattle.list.proofs.Gathering.{Pass}
 use Rattle.list.proofs.upward.Given as goal
 
 abbrev pub invariant-loop-row : goal.invariant-loop-row

@@ -1,11 +1,10 @@
 -- The invariant: the places from i on are 0, and those before it as they were.
 -- Assumes nothing.
 use mathlib.Core.Path.{◌≡◌, sym, ap, ◌∙◌}
-use Prim.Native.Nat.{suc, ◌≤◌, ◌-◌}
+use Prim.Native.Nat.{suc, ◌-◌}
 use native.Mathlib.Omega.{arith}
 use borrow.Author.Rules.{rules}
 use lib.IntN.{pos}
-use Rattle.list.proofs.Stored.{Roomy}
 use Rattle.list.proofs.Sliding.{wiped-none, wiped_more}
 use Rattle.list.specs.Inner.{wiped}
 use Rattle.list.proofs.wipe.Goals as goal

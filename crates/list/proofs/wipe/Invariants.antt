@@ -1,10 +1,7 @@
-use mathlib.Core.Path.{◌≡◌, sym, ap, ◌∙◌}
-use Prim.Native.Nat.{suc, ◌≤◌, ◌-◌}
-use native.Mathlib.Omega.{arith}
-use borrow.Author.Rules.{rules}
+use mathlib.Core.Path.{◌≡◌}
+use Prim.Native.Nat.{◌≤◌}
 use lib.IntN.{pos}
 use Rattle.list.proofs.Stored.{Roomy}
-use Rattle.list.proofs.Sliding.{wiped-none, wiped_more}
 use Rattle.list.specs.Inner.{wiped}
 use Rattle.list.proofs.wipe.Given as goal
 

@@ -2,13 +2,11 @@
 -- Assumes nothing.
 use mathlib.Core.Path.{◌≡◌, sym, ap, ◌∙◌}
 use mathlib.Core.Bool.{true}
-use Prim.Native.Nat.{ℕ}
 use borrow.Author.Tests.{not-true, not-false}
 use borrow.Author.Rules.{rules}
 use mir.Syntax.{w32}
 use Rattle.values.specs.Range.{low}
 use Rattle.ranking.specs.Cells.{score, is_scored, points}
-use Rattle.ranking.specs.Standing.{Entry}
 use Rattle.laws.specs.Whole.{equal}
 use Rattle.laws.proofs.Words.{same_bits}
 use Rattle.question.specs.Calls.{holds_number}

@@ -1,7 +1,6 @@
 -- Each test that fails decides, and the last decides where none does.
 -- Assumes nothing.
 use borrow.Author.Tests.{le-leb, lt-leb}
-use borrow.Author.Rules.{rules}
 use Rattle.question.specs.Calls.{holds_number}
 use Rattle.question.proofs.holds_number.Goals as goal
 

@@ -1,7 +1,6 @@
 -- A weight above 0 takes the largest heat, any other none.
 -- Assumes nothing.
 use mathlib.Core.Path.{sym, ap, ◌∙◌}
-use borrow.Author.Rules.{rules}
 use lib.IntN.{pos, ◌*ℤ◌, *ℤ-zero}
 use lib.Signed.{lt_z}
 use mir.Facts.{to_z-of_z}

@@ -1,7 +1,6 @@
 -- A weight of 0 lets every report count, and any other those of the second edition.
 -- Assumes nothing.
 use mathlib.Core.Path.{sym, ap, ◌∙◌}
-use borrow.Author.Rules.{rules}
 use lib.IntN.{pos}
 use mir.Facts.{to_z-of_z}
 use Rattle.laws.specs.Whole.{equal}

@@ -1,7 +1,6 @@
 -- No weight times any heat is 0, and so is any weight times no heat.
 -- Assumes nothing.
 use mathlib.Core.Path.{sym, ap, ◌∙◌}
-use borrow.Author.Rules.{rules}
 use Prim.Native.Nat.{◌%◌}
 use lib.IntN.{pos, ◌*ℤ◌, zero-*ℤ, *ℤ-zero}
 use mir.Facts.{to_z-of_z}

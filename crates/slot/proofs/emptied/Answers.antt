@@ -1,7 +1,6 @@
 -- The test is that of the definition.
 -- Assumes nothing.
 use borrow.Author.Tests.{eq-eqb, ne_eqb}
-use borrow.Author.Rules.{rules}
 use Rattle.slot.specs.Asking.{emptied}
 use Rattle.slot.proofs.emptied.Goals as goal
 

@@ -2,7 +2,6 @@
 -- Assumes nothing.
 use mathlib.Core.Path.{sym, ◌∙◌}
 use Rattle.slot.specs.Fitness.{slot_fit}
-use borrow.Author.Rules.{rules}
 use Rattle.slot.proofs.fit.Goals as goal
 
 pub returns-then-is_empty : goal.returns-then-is_empty

@@ -7,7 +7,6 @@ use Rattle.laws.proofs.Words.{kept}
 use Rattle.ranking.specs.Standing.{place_by}
 use Rattle.question.proofs.Stored.{roomy}
 use Rattle.slot.proofs.Gauges.{place_by_lem}
-use borrow.Author.Rules.{rules}
 use Rattle.slot.proofs.has_place.Goals as goal
 
 pub returns : goal.returns

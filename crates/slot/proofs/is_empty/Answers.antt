@@ -5,7 +5,6 @@ use borrow.Author.Tests.{eq-eqb, ne_eqb, not-true, not-false}
 use lib.ListN.{drop}
 use Rattle.list.specs.Lines.{lines_of, all_of, blank}
 use Rattle.slot.specs.Fitness.{is_empty}
-use borrow.Author.Rules.{rules}
 use mathlib.Core.Bool.{not}
 use Rattle.slot.proofs.is_empty.Goals as goal
 

@@ -3,7 +3,6 @@
 use mathlib.Core.Path.{sym, ap, ◌∙◌}
 use mathlib.Core.Bool.{◌&&◌}
 use mir.Facts.{to_z-of_z}
-use borrow.Author.Rules.{rules}
 use Rattle.laws.proofs.Tests.{and_so, and_no}
 use Rattle.question.specs.Lines.{is_past}
 use Rattle.slot.specs.Turn.{place_on}

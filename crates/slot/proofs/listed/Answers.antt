@@ -2,7 +2,6 @@
 -- Assumes nothing.
 use mathlib.Core.Path.{◌≡◌, sym, ap, ap₂, ◌∙◌}
 use mathlib.Core.Bool.{◌&&◌}
-use borrow.Author.Rules.{rules}
 use mir.Syntax.{w32}
 use mir.Val.{to_z, of_z}
 use Rattle.laws.proofs.Words.{kept}
@@ -10,7 +9,6 @@ use Rattle.values.specs.Range.{low}
 use Rattle.values.proofs.Facts.{low_in}
 use Rattle.values.proofs.Names.{name_back}
 use Rattle.ranking.specs.Cells.{score, is_scored, points, cell}
-use Rattle.ranking.specs.Standing.{Held}
 use Rattle.ranking.specs.declared.Score.TheVariants.{Scored}
 use Rattle.ranking.proofs.Cells.{counts-order, scored_counts}
 use Rattle.window.specs.Rows.{values_at, report_at}

@@ -1,15 +1,10 @@
 -- The invariant: one that has gone is among the lines left if it is among all.
 -- Assumes nothing.
-use mathlib.Core.Path.{◌≡◌, refl, sym, ap, ◌∙◌}
+use mathlib.Core.Path.{refl, sym, ap, ◌∙◌}
 use mathlib.Core.Bool.{not}
-use Prim.Native.Nat.{◌-◌, ◌≤◌}
 use native.Mathlib.Omega.{arith}
-use lib.Dec.{ltb}
-use lib.ListN.{take, drop}
-use Rattle.list.specs.Lines.{all_of}
 use Rattle.question.proofs.Stored.{roomy}
 use Rattle.slot.proofs.Listing.{lists-names, gone_here, gone_later, gone_nowhere}
-use borrow.Author.Rules.{rules}
 use Rattle.slot.proofs.lists.Goals as goal
 
 pub loop-i-init : goal.loop-i-init

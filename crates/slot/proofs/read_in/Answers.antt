@@ -2,7 +2,6 @@
 -- Assumes nothing.
 use borrow.Author.Tests.{eq-eqb, ne_eqb}
 use Rattle.slot.specs.Asking.{read_in}
-use borrow.Author.Rules.{rules}
 use Rattle.slot.proofs.read_in.Goals as goal
 
 pub returns-then-question-eq0 : goal.returns-then-question-eq0

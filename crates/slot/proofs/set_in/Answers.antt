@@ -7,7 +7,6 @@ use Rattle.question.specs.declared.Searched.{Searched}
 use Rattle.slot.specs.Asking.{set_in}
 use Rattle.slot.proofs.Refusals.{zero_is, zero_not}
 use Rattle.slot.proofs.Turns.{first_among}
-use borrow.Author.Rules.{rules}
 use Rattle.slot.proofs.set_in.Goals as goal
 
 pub returns-then-refusal-ne0 : goal.returns-then-refusal-ne0

@@ -11,7 +11,6 @@ use Rattle.list.specs.Rows.{rows_of}
 use Rattle.slot.specs.Asking.{searched_among}
 use Rattle.slot.specs.Turn.{lists}
 use Rattle.slot.proofs.Turns.{turn-searched, turn_kept, first_among}
-use borrow.Author.Rules.{rules}
 use mathlib.Core.Bool.{not}
 use Rattle.slot.proofs.turn.Goals as goal
 

@@ -1,7 +1,6 @@
 -- The tests are those of the definition, in its order.
 -- Assumes nothing.
 use mathlib.Core.Path.{sym, ◌∙◌}
-use borrow.Author.Rules.{rules}
 use borrow.Author.Tests.{le-leb, lt-leb}
 use Rattle.window.proofs.counts_fit.Goals as goal
 

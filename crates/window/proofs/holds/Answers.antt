@@ -1,7 +1,6 @@
 -- The tests are those of the definition, in its order.
 -- Assumes nothing.
 use mathlib.Core.Path.{ap, sym, ◌∙◌}
-use borrow.Author.Rules.{rules}
 use borrow.Author.Tests.{eq-eqb, ne_eqb}
 use Rattle.window.specs.Rows.{no_values}
 use Rattle.values.specs.Range.{in_range}

@@ -1,6 +1,5 @@
 -- The tests are those of the definition, in its order.
 -- Assumes nothing.
-use borrow.Author.Rules.{rules}
 use borrow.Author.Tests.{eq-eqb, ne_eqb}
 use Rattle.window.proofs.no_values.Goals as goal
 

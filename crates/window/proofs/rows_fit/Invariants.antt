@@ -1,13 +1,7 @@
-use mathlib.Core.Path.{◌≡◌, refl, sym, ap, ◌∙◌, subst}
-use mathlib.Core.Bool.{Bool, true}
-use Prim.Native.Nat.{ℕ, ◌-◌, ◌≤◌, ◌<◌}
-use native.Mathlib.Omega.{arith}
-use native.Mathlib.Numerals.{add-one}
-use borrow.Author.Tests.{not-true, not-false}
-use Rattle.window.specs.Rows.{number_in, values_in, due, holds, row_fit, rows_fit}
-use Rattle.window.specs.declared.Window.{Window}
-use Rattle.laws.proofs.Tests.{and_true}
-use Rattle.window.proofs.Fitness.{ranges_of, unfit_row}
+use mathlib.Core.Path.{◌≡◌}
+use mathlib.Core.Bool.{true}
+use Prim.Native.Nat.{◌-◌, ◌≤◌}
+use Rattle.window.specs.Rows.{rows_fit}
 use Rattle.window.proofs.rows_fit.Given as goal
 
 abbrev pub invariant-loop-row : goal.invariant-loop-row

@@ -6,7 +6,6 @@ use native.Mathlib.Omega.{arith}
 use Rattle.board.specs.Work.{arrival}
 use Rattle.board.proofs.Refusals.{zero_is, zero_not, Enterable, enterable}
 use Rattle.board.proofs.Filling.{new_name}
-use borrow.Author.Rules.{rules}
 use Rattle.board.proofs.Arrival.of.Goals as goal
 
 pub returns-then-refusal-ne0 : goal.returns-then-refusal-ne0

@@ -2,7 +2,6 @@
 -- Assumes nothing.
 use mathlib.Core.Path.{sym, ◌∙◌}
 use Rattle.board.specs.Calls.{enter_call}
-use borrow.Author.Rules.{rules}
 use Rattle.board.proofs.Board.enter.Goals as goal
 
 pub returns-then-fit : goal.returns-then-fit

@@ -5,7 +5,6 @@ use mathlib.Core.Bool.{false}
 use lib.ListN.{replicate}
 use Rattle.board.specs.Work.{enter_work}
 use Rattle.board.proofs.Refusals.{zero_not}
-use borrow.Author.Rules.{rules}
 use Rattle.board.proofs.Board.enter_work.Goals as goal
 
 pub returns-then-refusal-ne0 : goal.returns-then-refusal-ne0

@@ -1,14 +1,11 @@
 -- The loop fills three arrays, and when it ends they hold what entering leaves of every question.
 -- Assumes nothing.
 use mathlib.Core.Path.{◌≡◌, refl, sym, ◌∙◌}
-use Prim.Native.Nat.{◌-◌, ◌≤◌, ◌<◌}
+use Prim.Native.Nat.{◌<◌}
 use native.Mathlib.Omega.{arith}
-use lib.ListN.{length, length-map}
+use lib.ListN.{length}
 use Rattle.board.proofs.Refusals.{Enterable, enterable}
-use Rattle.window.specs.Rows.{report_at, standing}
-use Rattle.list.specs.Rows.{rows_of}
-use Rattle.board.proofs.Filling.{Turns, turns-none, turns_more, new_name, turns-all}
-use borrow.Author.Rules.{rules}
+use Rattle.board.proofs.Filling.{turns-none, turns_more, new_name, turns-all}
 use Rattle.board.proofs.Board.entering.Goals as goal
 
 pub overflow_add-number : goal.overflow_add-number

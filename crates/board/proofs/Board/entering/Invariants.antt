@@ -1,12 +1,9 @@
-use mathlib.Core.Path.{◌≡◌, refl, sym, ◌∙◌}
-use Prim.Native.Nat.{◌-◌, ◌≤◌, ◌<◌}
-use native.Mathlib.Omega.{arith}
-use lib.ListN.{length, length-map}
-use Rattle.board.proofs.Refusals.{Enterable, enterable}
+use mathlib.Core.Path.{◌≡◌}
+use Prim.Native.Nat.{◌-◌, ◌≤◌}
+use lib.ListN.{length}
 use Rattle.window.specs.Rows.{report_at, standing}
 use Rattle.list.specs.Rows.{rows_of}
-use Rattle.board.proofs.Filling.{Turns, turns-none, turns_more, new_name, turns-all}
-use borrow.Author.Rules.{rules}
+use Rattle.board.proofs.Filling.{Turns}
 use Rattle.board.proofs.Board.entering.Given as goal
 
 abbrev pub invariant-loop-i : goal.invariant-loop-i

@@ -2,7 +2,6 @@
 -- Assumes nothing.
 use lib.ListN.{replicate}
 use Rattle.board.specs.Work.{fresh_board}
-use borrow.Author.Rules.{rules}
 use Rattle.board.proofs.Board.fresh.Goals as goal
 
 pub returns : goal.returns

@@ -1,11 +1,9 @@
 -- A walk over the slots.
 -- Assumes nothing.
 use mathlib.Core.Path.{refl, sym, ◌∙◌}
-use Prim.Native.Nat.{◌-◌}
 use native.Mathlib.Omega.{arith}
-use lib.ListN.{length-map}
 use borrow.Author.Tests.{not-true, not-false}
-use Rattle.board.proofs.Slots.{Walk, walk_ends, walk_fails, walk_on}
+use Rattle.board.proofs.Slots.{walk_ends, walk_fails, walk_on}
 use borrow.Author.Rules.{rules}
 use mathlib.Core.Path.{ap}
 use mathlib.Core.Bool.{not}

@@ -1,7 +1,6 @@
 -- The tests are those of the definition: two scores are equal where their bits are.
 -- Assumes nothing.
 use mathlib.Core.Path.{sym, ◌∙◌}
-use borrow.Author.Rules.{rules}
 use borrow.Author.Tests.{eq-eqb, ne_eqb}
 use mir.Syntax.{w32}
 use Rattle.laws.proofs.Tests.{and_after, and_stops, and_true}

@@ -1,7 +1,6 @@
 -- The arrays' bar, of the lines that are shown.
 -- Assumes nothing.
 use mathlib.Core.Path.{ap, ◌∙◌}
-use borrow.Author.Rules.{rules}
 use lib.Dec.{eqb}
 use Rattle.list.specs.Bars.{bar_at}
 use Rattle.list.proofs.Lines.bar.Goals as goal

@@ -1,7 +1,7 @@
 -- The invariant: the list is the best k of the lines so far.
 -- Assumes nothing.
 use mathlib.Core.Path.{◌≡◌, ap, ◌∙◌}
-use Prim.Native.Nat.{min, ◌≤◌, ◌-◌}
+use Prim.Native.Nat.{min}
 use native.Mathlib.Omega.{arith}
 use borrow.Author.Rules.{rules}
 use lib.IntN.{pos}
@@ -11,8 +11,8 @@ use Rattle.search.specs.Best.{best, placed}
 use Rattle.ranking.specs.Standing.{above}
 use Rattle.laws.proofs.Words.{kept}
 use Rattle.ranking.proofs.Entries.{above_strict}
-use Rattle.list.specs.Lines.{lines_of, lines_in, columns_of}
-use Rattle.list.proofs.Stored.{Roomy, roomy_known, all_lines}
+use Rattle.list.specs.Lines.{lines_in, columns_of}
+use Rattle.list.proofs.Stored.{roomy_known, all_lines}
 use Rattle.list.proofs.Placing.{best_none, best_more}
 use Rattle.list.proofs.Lines.best.Goals as goal
 

@@ -1,17 +1,10 @@
-use mathlib.Core.Path.{◌≡◌, ap, ◌∙◌}
+use mathlib.Core.Path.{◌≡◌}
 use Prim.Native.Nat.{min, ◌≤◌, ◌-◌}
-use native.Mathlib.Omega.{arith}
-use borrow.Author.Rules.{rules}
-use lib.IntN.{pos}
-use lib.ListN.{take, get_or}
-use mir.Syntax.{w32}
-use Rattle.search.specs.Best.{best, placed}
+use lib.ListN.{take}
+use Rattle.search.specs.Best.{best}
 use Rattle.ranking.specs.Standing.{above}
-use Rattle.laws.proofs.Words.{kept}
-use Rattle.ranking.proofs.Entries.{above_strict}
-use Rattle.list.specs.Lines.{lines_of, lines_in, columns_of}
-use Rattle.list.proofs.Stored.{Roomy, roomy_known, all_lines}
-use Rattle.list.proofs.Placing.{best_none, best_more}
+use Rattle.list.specs.Lines.{lines_of, columns_of}
+use Rattle.list.proofs.Stored.{Roomy}
 use Rattle.list.proofs.Lines.best.Given as goal
 
 abbrev pub invariant-loop-i : goal.invariant-loop-i

@@ -1,13 +1,12 @@
 -- The invariant: what is left to fall decides the whole.
 -- Assumes nothing.
 use mathlib.Core.Path.{ap}
-use Prim.Native.Nat.{◌-◌}
 use borrow.Author.Tests.{not-true, not-false}
 use borrow.Author.Rules.{rules}
 use Rattle.ranking.specs.Standing.{above}
-use Rattle.list.specs.Lines.{lines_in, falls}
+use Rattle.list.specs.Lines.{falls}
 use Rattle.list.proofs.Stored.{roomy_known, front-lines}
-use Rattle.list.proofs.Walking.{Descent, descent_on, descent_fails, descent_ends}
+use Rattle.list.proofs.Walking.{descent_on, descent_fails, descent_ends}
 use mathlib.Core.Bool.{not}
 use Rattle.list.proofs.Lines.falls.Goals as goal
 

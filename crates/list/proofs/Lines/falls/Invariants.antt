@@ -1,11 +1,7 @@
-use mathlib.Core.Path.{ap}
 use Prim.Native.Nat.{◌-◌}
-use borrow.Author.Tests.{not-true, not-false}
-use borrow.Author.Rules.{rules}
 use Rattle.ranking.specs.Standing.{above}
 use Rattle.list.specs.Lines.{lines_in, falls}
-use Rattle.list.proofs.Stored.{roomy_known, front-lines}
-use Rattle.list.proofs.Walking.{Descent, descent_on, descent_fails, descent_ends}
+use Rattle.list.proofs.Walking.{Descent}
 use Rattle.list.proofs.Lines.falls.Given as goal
 
 abbrev pub invariant-loop-i : goal.invariant-loop-i

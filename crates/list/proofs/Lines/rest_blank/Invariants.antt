@@ -1,11 +1,7 @@
-use mathlib.Core.Path.{refl, ap}
 use Prim.Native.Nat.{◌-◌}
-use borrow.Author.Tests.{eq-eqb, ne_eqb}
-use borrow.Author.Rules.{rules}
 use lib.ListN.{drop}
 use Rattle.list.specs.Lines.{lines_of, all_of, blank}
-use Rattle.list.proofs.Stored.{line_at, roomy_known, drop_shown}
-use Rattle.list.proofs.Walking.{Walk, walk_on, walk_fails, walk_ends, blank-name, blank-score}
+use Rattle.list.proofs.Walking.{Walk}
 use Rattle.list.proofs.Lines.rest_blank.Given as goal
 
 abbrev pub invariant-loop-i : goal.invariant-loop-i

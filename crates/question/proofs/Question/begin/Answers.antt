@@ -1,7 +1,6 @@
 -- A search begins exactly where a step would be refused 25.
 -- Assumes nothing.
 use mathlib.Core.Path.{ap, ◌∙◌}
-use borrow.Author.Rules.{rules}
 use Rattle.question.proofs.Doors.{begin-refused, begin_done}
 use Rattle.question.proofs.Question.begin.Goals as goal
 

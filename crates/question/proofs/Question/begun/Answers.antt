@@ -2,7 +2,6 @@
 -- Assumes nothing.
 use mathlib.Core.Path.{ap, ◌∙◌}
 use mathlib.Core.List.{[]}
-use borrow.Author.Rules.{rules}
 use Rattle.question.specs.Lines.{asked}
 use Rattle.question.proofs.Question.begun.Goals as goal
 

@@ -1,7 +1,6 @@
 -- The first k of its list.
 -- Assumes nothing.
 use mathlib.Core.Path.{ap, ◌∙◌}
-use borrow.Author.Rules.{rules}
 use lib.ListN.{take}
 use Rattle.list.specs.Lines.{lines_in, columns_of}
 use Rattle.question.specs.Lines.{holding}

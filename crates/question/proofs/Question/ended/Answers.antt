@@ -1,7 +1,6 @@
 -- A full list's search took the cells that reach its last score, any other took all.
 -- Assumes nothing.
 use mathlib.Core.Path.{ap, ap₂, ◌∙◌}
-use borrow.Author.Rules.{rules}
 use mir.Syntax.{w32}
 use Rattle.ranking.specs.Cells.{reach_of}
 use Rattle.laws.proofs.Words.{kept}

@@ -1,7 +1,6 @@
 -- Each branch is a case of when a search has ended.
 -- Assumes nothing.
 use mathlib.Core.Path.{sym, ap, ap₂, ◌∙◌}
-use borrow.Author.Rules.{rules}
 use borrow.Author.Tests.{not-true, not-false}
 use lib.Signed.{lt_z}
 use mir.Syntax.{w32}

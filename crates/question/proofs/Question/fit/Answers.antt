@@ -1,7 +1,6 @@
 -- The four tests are the definition's, in its order.
 -- Assumes nothing.
 use mathlib.Core.Path.{sym, ap, ◌∙◌}
-use borrow.Author.Rules.{rules}
 use lib.ListN.{drop}
 use Rattle.ranking.specs.Standing.{above}
 use Rattle.list.specs.declared.Lines.{Lines}

@@ -1,7 +1,6 @@
 -- A cell that can be taken is marked where the search has come past it, and no other is.
 -- Assumes nothing.
 use mathlib.Core.Path.{sym, ◌∙◌}
-use borrow.Author.Rules.{rules}
 use Rattle.laws.proofs.Tests.{and_no}
 use Rattle.ranking.specs.Cells.{in_order}
 use Rattle.ranking.proofs.Cells.{order_in}

@@ -2,7 +2,6 @@
 -- Assumes nothing.
 use mathlib.Core.Path.{sym, ◌∙◌}
 use mathlib.Core.Bool.{true}
-use borrow.Author.Rules.{rules}
 use Rattle.laws.proofs.Tests.{if_so, if_not}
 use Rattle.ranking.specs.Cells.{before}
 use Rattle.ranking.proofs.Cells.{in_order_lem}

@@ -1,13 +1,12 @@
 -- The invariant: what is left to test decides the whole.
 -- Assumes nothing.
 use mathlib.Core.Path.{ap, ◌∙◌}
-use Prim.Native.Nat.{min, ◌-◌}
+use Prim.Native.Nat.{min}
 use borrow.Author.Tests.{not-true, not-false}
 use borrow.Author.Rules.{rules}
 use Rattle.list.specs.declared.Lines.{Lines}
 use Rattle.list.specs.Lines.{all_of}
-use Rattle.list.proofs.Walking.{Walk, as_read, walk_on, walk_fails, walk_ends}
-use Rattle.question.specs.Lines.{lines}
+use Rattle.list.proofs.Walking.{as_read, walk_on, walk_fails, walk_ends}
 use Rattle.question.specs.Calls.{held_as}
 use Rattle.question.proofs.Stored.{roomy, shown_lines}
 use mathlib.Core.Bool.{not}

@@ -1,10 +1,6 @@
-use mathlib.Core.Path.{◌≡◌, sym, ap, ◌∙◌, subst}
+use mathlib.Core.Path.{◌≡◌}
 use Prim.Native.Nat.{◌≤◌, ◌-◌}
-use native.Mathlib.Omega.{arith}
-use borrow.Author.Rules.{rules}
-use Rattle.window.specs.Rows.{report_in}
-use Rattle.question.specs.Inner.{taking, list_taken}
-use Rattle.question.proofs.Taking.{taken_none, taken_more, taken-same}
+use Rattle.question.specs.Inner.{list_taken}
 use Rattle.question.proofs.Question.list_taken.Given as goal
 
 abbrev pub invariant-loop-row : goal.invariant-loop-row

@@ -1,9 +1,8 @@
 -- The invariant: the cells so far have their marks.
 -- Assumes nothing.
 use mathlib.Core.Path.{◌≡◌, refl, sym, subst}
-use Prim.Native.Nat.{◌+◌, ◌-◌, ◌≤◌, ◌<◌}
+use Prim.Native.Nat.{◌+◌, ◌<◌}
 use native.Mathlib.Omega.{arith}
-use borrow.Author.Rules.{rules}
 use lib.ListN.{set}
 use Rattle.question.specs.Lines.{is_marked}
 use Rattle.question.proofs.Marking.{Filled, filled_more, filled_all}

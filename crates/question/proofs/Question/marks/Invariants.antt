@@ -1,10 +1,6 @@
-use mathlib.Core.Path.{◌≡◌, refl, sym, subst}
-use Prim.Native.Nat.{◌+◌, ◌-◌, ◌≤◌, ◌<◌}
-use native.Mathlib.Omega.{arith}
-use borrow.Author.Rules.{rules}
-use lib.ListN.{set}
+use Prim.Native.Nat.{◌-◌, ◌≤◌}
 use Rattle.question.specs.Lines.{is_marked}
-use Rattle.question.proofs.Marking.{Filled, filled_more, filled_all}
+use Rattle.question.proofs.Marking.{Filled}
 use Rattle.question.proofs.Question.marks.Given as goal
 
 abbrev pub invariant-loop-cell : goal.invariant-loop-cell

@@ -2,7 +2,6 @@
 -- Assumes nothing.
 use mathlib.Core.Path.{ap, ap₂, ◌∙◌}
 use Prim.Native.Nat.{min}
-use borrow.Author.Rules.{rules}
 use lib.ListN.{take}
 use mir.Facts.{to_z-of_z}
 use Rattle.search.specs.Best.{placed}

@@ -4,7 +4,6 @@ use mathlib.Core.Path.{sym, ◌∙◌}
 use Prim.Native.Nat.{min}
 use native.Mathlib.Omega.{arith}
 use borrow.Author.Tests.{le-leb, lt-leb, not-true, not-false}
-use borrow.Author.Rules.{rules}
 use Rattle.question.specs.Calls.{ranges_fit}
 use Rattle.question.proofs.Fitness.{third_fails, fourth_fails, fifth_decides, min_test}
 use mathlib.Core.Path.{ap}

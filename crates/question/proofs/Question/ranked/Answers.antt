@@ -3,7 +3,6 @@
 use mathlib.Core.Path.{◌≡◌, ap, ap₂, ◌∙◌}
 use Prim.Native.Nat.{min}
 use native.Mathlib.Omega.{arith}
-use borrow.Author.Rules.{rules}
 use Rattle.search.specs.Best.{best}
 use Rattle.ranking.specs.Standing.{above}
 use Rattle.list.specs.Lines.{lines_in, columns_of}

@@ -1,7 +1,6 @@
 -- What its list answers.
 -- Assumes nothing.
 use mathlib.Core.Path.{ap, ◌∙◌}
-use borrow.Author.Rules.{rules}
 use lib.ListN.{drop}
 use Rattle.list.specs.declared.Lines.{Lines}
 use Rattle.list.specs.Lines.{lines_of, all_of, blank}

@@ -1,7 +1,6 @@
 -- All the rows are lent, and nothing else of the window is read.
 -- Assumes nothing.
 use mathlib.Core.Path.{refl, ◌∙◌}
-use borrow.Author.Rules.{rules}
 use Rattle.list.specs.Rows.{rows_of}
 use Rattle.question.proofs.Finding.{searched_arrays, searched_rows}
 use Rattle.question.proofs.Question.searched.Goals as goal

@@ -3,7 +3,6 @@
 use mathlib.Core.Path.{◌≡◌, sym, ap, ◌∙◌}
 use Prim.Native.Nat.{min}
 use native.Mathlib.Omega.{arith}
-use borrow.Author.Rules.{rules}
 use Rattle.ranking.specs.Standing.{top}
 use Rattle.window.specs.Rows.{standing}
 use Rattle.list.specs.Rows.{rows_of}

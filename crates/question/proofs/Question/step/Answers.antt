@@ -1,7 +1,6 @@
 -- What a step is refused with decides: 24 comes before 25; else the rows of a fit window serve as its held reports.
 -- Assumes nothing.
 use mathlib.Core.Path.{ap, ◌∙◌}
-use borrow.Author.Rules.{rules}
 use Rattle.question.proofs.Doors.{step-refused, step_done}
 use Rattle.question.proofs.Question.step.Goals as goal
 

@@ -1,7 +1,6 @@
 -- The three tests are the definition's, in its order.
 -- Assumes nothing.
 use mathlib.Core.Path.{sym, ◌∙◌}
-use borrow.Author.Rules.{rules}
 use Rattle.question.specs.Inner.{step_refusal}
 use Rattle.question.proofs.Question.step_refusal.Goals as goal
 

@@ -1,7 +1,6 @@
 -- The list is taken, and the cell after the next one is next.
 -- Assumes nothing.
 use mathlib.Core.Path.{sym, ap₂, ◌∙◌}
-use borrow.Author.Rules.{rules}
 use borrow.Author.Tests.{not-true, not-false}
 use Rattle.question.proofs.Taking.{step_wide, step-none, step-taken}
 use Rattle.question.specs.Lines.{with_next}

@@ -1,7 +1,6 @@
 -- A list with room for 16 lines.
 -- Assumes nothing.
 use mathlib.Core.Path.{ap, ◌∙◌}
-use borrow.Author.Rules.{rules}
 use mir.Facts.{to_z-of_z}
 use Rattle.question.specs.Lines.{with_entry}
 use Rattle.question.proofs.Question.with_entry.Goals as goal

@@ -1,7 +1,6 @@
 -- The two tests are those of the definition.
 -- Assumes nothing.
 use mathlib.Core.Path.{sym, ◌∙◌}
-use borrow.Author.Rules.{rules}
 use Rattle.laws.proofs.Tests.{and_after, and_stops}
 use Rattle.ranking.specs.Cells.{is_no_range}
 use Rattle.ranking.proofs.Ranges.is_none.Goals as goal

@@ -1,7 +1,6 @@
 -- Each branch is a case of the definition, of the scores read back from their bits.
 -- Assumes nothing.
 use mathlib.Core.Path.{sym, ◌∙◌}
-use borrow.Author.Rules.{rules}
 use Rattle.laws.proofs.Whole.{lt_z_strict}
 use Rattle.laws.proofs.Words.{less_kept}
 use Rattle.ranking.proofs.Entries.{score-above, score_below, score_tie}

@@ -1,17 +1,16 @@
 -- The invariant: the columns so far have their part.
 -- Assumes nothing.
 use mathlib.Core.Path.{◌≡◌, refl, ◌∙◌, subst}
-use Prim.Native.Nat.{ℕ, ◌-◌, ◌≤◌, ◌<◌}
+use Prim.Native.Nat.{ℕ, ◌<◌}
 use native.Mathlib.Omega.{arith}
 use borrow.Author.Count.{below_more}
-use borrow.Author.Rules.{rules}
 use lib.IntN.{pos}
-use lib.ListN.{length, get_or, set, length-set}
+use lib.ListN.{get_or, set, length-set}
 use lib.Seq.{get_or-set_same, get_or-set_other}
 use mir.Syntax.{w32}
 use mir.Val.{to_z, of_z}
 use Rattle.laws.proofs.Words.{kept}
-use Rattle.ranking.specs.Inner.{loss_part, Words}
+use Rattle.ranking.specs.Inner.{loss_part}
 use Rattle.ranking.proofs.Rule.across.Goals as goal
 
 pub loop-column-init : goal.loop-column-init

@@ -1,14 +1,7 @@
-use mathlib.Core.Path.{◌≡◌, refl, ◌∙◌, subst}
+use mathlib.Core.Path.{◌≡◌}
 use Prim.Native.Nat.{ℕ, ◌-◌, ◌≤◌, ◌<◌}
-use native.Mathlib.Omega.{arith}
-use borrow.Author.Count.{below_more}
-use borrow.Author.Rules.{rules}
 use lib.IntN.{pos}
-use lib.ListN.{length, get_or, set, length-set}
-use lib.Seq.{get_or-set_same, get_or-set_other}
-use mir.Syntax.{w32}
-use mir.Val.{to_z, of_z}
-use Rattle.laws.proofs.Words.{kept}
+use lib.ListN.{length, get_or}
 use Rattle.ranking.specs.Inner.{loss_part, Words}
 use Rattle.ranking.proofs.Rule.across.Given as goal
 

@@ -1,7 +1,6 @@
 -- The cells' best scores come back from their calls as they are, and the tie is the test of the cells' numbers.
 -- Assumes nothing.
 use mathlib.Core.Path.{ap₂, ◌∙◌}
-use borrow.Author.Rules.{rules}
 use lib.Dec.{ltb}
 use mir.Syntax.{w32}
 use Rattle.ranking.specs.Cells.{before, greater}

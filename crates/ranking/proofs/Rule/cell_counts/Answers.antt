@@ -2,7 +2,6 @@
 -- Assumes nothing.
 use mathlib.Core.Path.{sym, ◌∙◌}
 use Prim.Native.Nat.{◌/◌}
-use borrow.Author.Rules.{rules}
 use Rattle.laws.proofs.Tests.{and_after, and_stops}
 use Rattle.ranking.specs.Cells.{meets, cell_counts}
 use Rattle.ranking.proofs.Rule.cell_counts.Goals as goal

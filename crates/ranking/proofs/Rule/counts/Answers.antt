@@ -2,7 +2,6 @@
 -- Assumes nothing.
 use mathlib.Core.Path.{sym, ap, ◌∙◌}
 use Prim.Native.Nat.{◌%◌}
-use borrow.Author.Rules.{rules}
 use mir.Syntax.{w16}
 use Rattle.laws.proofs.Tests.{and_after, and_stops, and_true}
 use Rattle.laws.proofs.Words.{kept}

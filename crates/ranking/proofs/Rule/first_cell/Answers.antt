@@ -1,7 +1,6 @@
 -- The scan from no cell finds the cell at place 0.
 -- Assumes nothing.
 use native.Mathlib.Omega.{arith}
-use borrow.Author.Rules.{rules}
 use Rattle.ranking.proofs.Rule.first_cell.Goals as goal
 
 pub seek-requires : goal.seek-requires

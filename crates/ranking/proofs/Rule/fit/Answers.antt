@@ -1,7 +1,6 @@
 -- The three calls are the three parts of the definition.
 -- Assumes nothing.
 use mathlib.Core.Path.{sym, ◌∙◌}
-use borrow.Author.Rules.{rules}
 use Rattle.laws.proofs.Tests.{and_after, and_stops, and_true}
 use Rattle.ranking.specs.Cells.{ranges_proper, ties_known, fit_rule}
 use Rattle.ranking.proofs.Rule.fit.Goals as goal

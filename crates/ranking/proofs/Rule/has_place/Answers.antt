@@ -1,7 +1,6 @@
 -- A short list has a place; of a full one the last score is asked, if it has one.
 -- Assumes nothing.
 use mathlib.Core.Path.{ap₂, ◌∙◌}
-use borrow.Author.Rules.{rules}
 use borrow.Author.Tests.{lt-ltb, le-ltb, eq-eqb, ne_eqb}
 use mir.Facts.{to_z-of_z}
 use Rattle.ranking.specs.Standing.{passes, place_by}

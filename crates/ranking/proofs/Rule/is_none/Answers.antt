@@ -2,7 +2,6 @@
 -- Assumes nothing.
 use mathlib.Core.Path.{sym, ◌∙◌}
 use mathlib.Core.Bool.{◌&&◌}
-use borrow.Author.Rules.{rules}
 use lib.Dec.{eqb}
 use Rattle.laws.proofs.Tests.{and_after, and_stops, and_true}
 use Rattle.ranking.specs.Cells.{is_no_range, is_none}

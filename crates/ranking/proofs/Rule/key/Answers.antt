@@ -1,7 +1,6 @@
 -- The two cases are those of the definition; a name fits its word, so nothing is taken from less.
 -- Assumes nothing.
 use mathlib.Core.Path.{sym, ◌∙◌}
-use borrow.Author.Rules.{rules}
 use Rattle.laws.proofs.Tests.{if_so, if_not}
 use Rattle.ranking.specs.Inner.{key_of}
 use Rattle.ranking.proofs.Rule.key.Goals as goal

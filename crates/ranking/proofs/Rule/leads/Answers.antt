@@ -1,7 +1,6 @@
 -- Each branch is a case of the definition.
 -- Assumes nothing.
 use mathlib.Core.Path.{sym, ◌∙◌}
-use borrow.Author.Rules.{rules}
 use Rattle.ranking.proofs.Scan.{leads-cells, leads_from, leads_to}
 use Rattle.ranking.proofs.Rule.leads.Goals as goal
 

@@ -1,7 +1,6 @@
 -- The corner has 12 bits, and counts by its weight.
 -- Assumes nothing.
 use mathlib.Core.Path.{◌∙◌}
-use borrow.Author.Rules.{rules}
 use mir.Syntax.{w16, w32}
 use Rattle.laws.proofs.Words.{kept}
 use Rattle.ranking.specs.Inner.{loss_part}

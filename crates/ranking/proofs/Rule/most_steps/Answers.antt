@@ -4,8 +4,6 @@ use mathlib.Core.Path.{◌≡◌, sym, ap, ap₂, ◌∙◌, subst}
 use Prim.Native.Nat.{◌*◌, ◌-◌, ◌≤◌}
 use native.Mathlib.Nat.{mul-le-mul}
 use native.Mathlib.Omega.{arith}
-use borrow.Author.Rules.{rules}
-use Rattle.ranking.specs.declared.Rule.{Rule}
 use Rattle.ranking.specs.declared.Stripes.{Stripes}
 use Rattle.ranking.proofs.Columns.{width, most_steps_lem, width_small}
 use Rattle.ranking.proofs.Rule.most_steps.Goals as goal

@@ -1,7 +1,6 @@
 -- d is answered where all tests pass, as in the definition.
 -- Assumes nothing.
 use mathlib.Core.Path.{sym, ◌∙◌}
-use borrow.Author.Rules.{rules}
 use Rattle.laws.proofs.Tests.{and_true, and_after, and_stops}
 use Rattle.ranking.specs.Inner.{leads}
 use Rattle.ranking.proofs.Scan.{nearer_yes, nearer_no}

@@ -2,7 +2,6 @@
 -- Assumes nothing.
 use mathlib.Core.Path.{sym, ap, ◌∙◌}
 use Prim.Native.Nat.{◌+◌}
-use borrow.Author.Rules.{rules}
 use Rattle.laws.proofs.Tests.{if_so, if_not}
 use Rattle.ranking.specs.Cells.{place_of, cell_at, cell_after}
 use Rattle.ranking.proofs.Cells.{in_order_lem}

@@ -1,7 +1,6 @@
 -- The ranges are whole.
 -- Assumes nothing.
 use mathlib.Core.Path.{ap, ◌∙◌}
-use borrow.Author.Rules.{rules}
 use Rattle.ranking.specs.Cells.{rule_within}
 use Rattle.ranking.proofs.Rule.of.Goals as goal
 

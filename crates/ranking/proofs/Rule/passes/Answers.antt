@@ -1,7 +1,6 @@
 -- The scores are handed on as they are, and the tie is the later report's where the rule gives it to that.
 -- Assumes nothing.
 use mathlib.Core.Path.{◌∙◌}
-use borrow.Author.Rules.{rules}
 use mir.Facts.{to_z-of_z}
 use Rattle.ranking.specs.Cells.{greater}
 use Rattle.ranking.specs.Standing.{passes}

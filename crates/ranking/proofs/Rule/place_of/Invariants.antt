@@ -1,14 +1,10 @@
-use mathlib.Core.Path.{◌≡◌, refl, sym, ap, ◌∙◌, subst}
-use mathlib.Core.Logic.{⊎_elim}
-use mathlib.Core.Bool.{Bool, ◌&&◌}
+use mathlib.Core.Path.{◌≡◌}
+use mathlib.Core.Bool.{◌&&◌}
 use mathlib.Core.List.{[]}
-use Prim.Native.Nat.{ℕ, ◌+◌, ◌-◌, ◌≤◌}
-use native.Mathlib.Omega.{arith}
-use borrow.Author.Rules.{rules}
+use Prim.Native.Nat.{◌-◌, ◌≤◌}
 use lib.ListN.{length}
 use Rattle.laws.specs.Lists.{only}
 use Rattle.ranking.specs.Cells.{cell_counts, before, numbers_below}
-use Rattle.ranking.proofs.Scan.{counted_yes, counted_no}
 use Rattle.ranking.proofs.Rule.place_of.Given as goal
 
 abbrev pub invariant-loop-d : goal.invariant-loop-d

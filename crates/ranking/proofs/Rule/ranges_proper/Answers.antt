@@ -1,7 +1,6 @@
 -- The two calls are the two halves of the definition.
 -- Assumes nothing.
 use mathlib.Core.Path.{sym, ◌∙◌}
-use borrow.Author.Rules.{rules}
 use Rattle.laws.proofs.Tests.{and_after, and_stops}
 use Rattle.ranking.specs.Cells.{is_proper, ranges_proper}
 use Rattle.ranking.proofs.Rule.ranges_proper.Goals as goal

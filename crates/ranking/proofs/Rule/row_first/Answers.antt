@@ -1,14 +1,13 @@
 -- Of the columns that have a value inside the range the one at the better end is taken first.
 -- Assumes nothing.
 use mathlib.Core.Path.{◌≡◌, sym, ap₂, ◌∙◌, subst}
-use Prim.Native.Nat.{ℕ, ◌+◌, ◌*◌, ◌<◌}
+use Prim.Native.Nat.{◌+◌, ◌*◌, ◌<◌}
 use native.Mathlib.Omega.{arith}
 use borrow.Author.Rules.{rules}
 use mir.Facts.{to_z-of_z}
 use mir.Syntax.{w16}
 use mir.Val.{SFits}
 use Rattle.ranking.specs.Inner.{stripes_of, edge_of, FirstOf}
-use Rattle.ranking.specs.declared.Rule.{Rule}
 use Rattle.ranking.specs.declared.Stripes.{Stripes}
 use Rattle.ranking.proofs.Columns.{edge_first}
 use Rattle.ranking.proofs.Rule.row_first.Goals as goal

@@ -1,7 +1,6 @@
 -- The corner has 12 bits, and counts by its weight; the best heat is added.
 -- Assumes nothing.
 use mathlib.Core.Path.{◌≡◌, ap, ap₂, ◌∙◌}
-use borrow.Author.Rules.{rules}
 use lib.IntN.{◌+ℤ◌}
 use mir.Facts.{to_z-of_z}
 use mir.Syntax.{w16, w32}

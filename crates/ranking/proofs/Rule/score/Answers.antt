@@ -1,7 +1,6 @@
 -- Each branch is a case of the definition.
 -- Assumes nothing.
 use mathlib.Core.Path.{sym, ap, ◌∙◌}
-use borrow.Author.Rules.{rules}
 use mir.Syntax.{w32}
 use Rattle.laws.proofs.Words.{kept}
 use Rattle.values.specs.Range.{low}

@@ -2,17 +2,13 @@
 -- Assumes nothing.
 use mathlib.Core.Path.{◌≡◌, sym, ap, ap₂, ◌∙◌}
 use mathlib.Core.Bool.{true}
-use borrow.Author.Rules.{rules}
-use lib.IntN.{ℤ}
 use lib.Signed.{lt_z}
 use mir.Facts.{to_z-of_z}
 use mir.Syntax.{w32}
 use mir.Val.{to_z, of_z}
 use Rattle.laws.proofs.Words.{kept}
-use Rattle.values.specs.declared.Values.{Values}
 use Rattle.values.specs.Range.{in_range, low}
 use Rattle.values.proofs.Facts.{low_in}
-use Rattle.ranking.specs.declared.Rule.{Rule}
 use Rattle.ranking.specs.declared.Score.TheVariants.{Scored}
 use Rattle.ranking.specs.Cells.{sum, score, ScoreFits, from_least, values_named}
 use Rattle.ranking.proofs.Cells.{from_hottest, from_low, from_counted, from_out, score-named, points-fit, word_fits}

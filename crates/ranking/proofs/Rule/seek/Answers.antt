@@ -1,9 +1,8 @@
 -- The invariant is what a scan knows after the cells below d; after all of them it has found the cell that follows.
 -- Assumes nothing.
 use mathlib.Core.Path.{◌≡◌, sym, subst}
-use Prim.Native.Nat.{◌+◌, ◌-◌, ◌≤◌, ◌<◌}
+use Prim.Native.Nat.{◌+◌, ◌<◌}
 use native.Mathlib.Omega.{arith}
-use borrow.Author.Rules.{rules}
 use Rattle.ranking.proofs.Scan.{Scanned, scanned_none, scanned_more, scanned_all}
 use Rattle.ranking.specs.Inner.{follows}
 use Rattle.ranking.proofs.Rule.seek.Goals as goal

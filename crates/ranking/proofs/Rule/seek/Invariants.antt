@@ -1,8 +1,5 @@
-use mathlib.Core.Path.{◌≡◌, sym, subst}
-use Prim.Native.Nat.{◌+◌, ◌-◌, ◌≤◌, ◌<◌}
-use native.Mathlib.Omega.{arith}
-use borrow.Author.Rules.{rules}
-use Rattle.ranking.proofs.Scan.{Scanned, scanned_none, scanned_more, scanned_all}
+use Prim.Native.Nat.{◌-◌, ◌≤◌}
+use Rattle.ranking.proofs.Scan.{Scanned}
 use Rattle.ranking.specs.Inner.{follows}
 use Rattle.ranking.proofs.Rule.seek.Given as goal
 

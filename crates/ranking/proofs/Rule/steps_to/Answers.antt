@@ -1,7 +1,6 @@
 -- Each branch is a case of the definition.
 -- Assumes nothing.
 use mathlib.Core.Path.{sym, ◌∙◌}
-use borrow.Author.Rules.{rules}
 use Rattle.laws.proofs.Tests.{if_so, if_not}
 use Rattle.ranking.specs.Cells.{place_of, most_steps, steps_to}
 use Rattle.ranking.proofs.Cells.{in_order_lem}

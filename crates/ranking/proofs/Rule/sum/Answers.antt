@@ -1,7 +1,6 @@
 -- The weights' sum is the rule's.
 -- Assumes nothing.
 use mathlib.Core.Path.{◌∙◌}
-use borrow.Author.Rules.{rules}
 use mir.Syntax.{w32}
 use Rattle.laws.proofs.Words.{kept}
 use Rattle.ranking.specs.Cells.{sum}

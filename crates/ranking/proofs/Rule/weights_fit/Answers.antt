@@ -1,7 +1,6 @@
 -- The three calls are the three parts of the definition.
 -- Assumes nothing.
 use mathlib.Core.Path.{sym, ap, ◌∙◌}
-use borrow.Author.Rules.{rules}
 use mir.Syntax.{w16}
 use Rattle.laws.proofs.Tests.{and_after, and_stops, and_true}
 use Rattle.laws.proofs.Words.{kept}

@@ -1,7 +1,6 @@
 -- The sum is compared.
 -- Assumes nothing.
 use mathlib.Core.Path.{ap₂, ◌∙◌}
-use borrow.Author.Rules.{rules}
 use lib.Signed.{le_z}
 use mir.Facts.{to_z-of_z}
 use mir.Syntax.{w32}

@@ -1,13 +1,11 @@
 -- Loss and shake, and the best heat's part; it fits as a sum does.
 -- Assumes nothing.
 use mathlib.Core.Path.{◌≡◌, ap, ap₂, ◌∙◌}
-use borrow.Author.Rules.{rules}
 use lib.IntN.{◌+ℤ◌}
 use mir.Facts.{to_z-of_z}
 use mir.Syntax.{w32}
 use mir.Val.{SFits, to_z, of_z}
 use Rattle.laws.proofs.Words.{kept}
-use Rattle.values.specs.declared.Values.{Values}
 use Rattle.values.specs.Range.{low}
 use Rattle.values.proofs.Facts.{low_in}
 use Rattle.ranking.specs.Cells.{weighed, sum, rule_of}

@@ -1,17 +1,14 @@
 -- The sum of two parts, and fits since each value counts by its low 12 bits.
 -- Assumes nothing.
 use mathlib.Core.Path.{◌≡◌, ap, ap₂, ◌∙◌}
-use borrow.Author.Rules.{rules}
 use lib.IntN.{pos, ◌+ℤ◌, ◌*ℤ◌}
 use mir.Facts.{to_z-of_z}
 use mir.Syntax.{w32}
 use mir.Val.{SFits, to_z, of_z}
 use Rattle.laws.proofs.Words.{kept}
-use Rattle.values.specs.declared.Values.{Values}
 use Rattle.values.specs.Range.{low}
 use Rattle.values.proofs.Facts.{low_in, range_facts}
 use Rattle.ranking.specs.Inner.{pair_part, Words}
-use Rattle.ranking.specs.declared.Weights.{Weights}
 use Rattle.ranking.proofs.Cells.{two_fit}
 use Rattle.ranking.proofs.Weights.pair.Goals as goal
 

@@ -1,7 +1,6 @@
 -- Loss and shake, and the heat's part; it fits since each value counts by its low 12 bits.
 -- Assumes nothing.
 use mathlib.Core.Path.{◌≡◌, ap, ap₂, ◌∙◌}
-use borrow.Author.Rules.{rules}
 use lib.IntN.{pos, ◌+ℤ◌, ◌*ℤ◌}
 use mir.Facts.{to_z-of_z}
 use mir.Syntax.{w32}

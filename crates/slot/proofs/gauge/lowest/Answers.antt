@@ -1,14 +1,13 @@
 -- The invariant: the lowest of the lines from the end on.
 -- Assumes nothing.
 use mathlib.Core.Path.{◌≡◌, sym, ap, ◌∙◌}
-use Prim.Native.Nat.{◌+◌, ◌-◌, ◌≤◌, min}
+use Prim.Native.Nat.{◌+◌, ◌-◌, min}
 use native.Mathlib.Omega.{arith}
 use lib.ListN.{get_or, take, drop}
 use Rattle.question.proofs.Stored.{roomy}
 use Rattle.slot.specs.Gauges.{lowest}
 use Rattle.slot.proofs.Listing.{none_left}
 use Rattle.slot.proofs.Gauges.{low_room, low-names, low_more}
-use borrow.Author.Rules.{rules}
 use Rattle.slot.proofs.gauge.lowest.Goals as goal
 
 pub returns-then-len-question : goal.returns-then-len-question

@@ -1,6 +1,5 @@
 -- The edition is that in the name.
 -- Assumes nothing.
-use borrow.Author.Rules.{rules}
 use Rattle.window.proofs.Row.values.Goals as goal
 
 pub returns : goal.returns

@@ -1,7 +1,6 @@
 -- The report is stored where the window can take one.
 -- Assumes nothing.
 use mathlib.Core.Path.{sym, ◌∙◌}
-use borrow.Author.Rules.{rules}
 use borrow.Author.Tests.{le-ltb}
 use Rattle.window.specs.Rows.{added}
 use Rattle.window.proofs.Window.added.Goals as goal

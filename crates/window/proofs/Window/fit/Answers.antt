@@ -1,7 +1,6 @@
 -- The counts are tested first, and then the rows.
 -- Assumes nothing.
 use mathlib.Core.Path.{sym, ◌∙◌}
-use borrow.Author.Rules.{rules}
 use Rattle.window.specs.Rows.{fit_window}
 use Rattle.window.proofs.Window.fit.Goals as goal
 

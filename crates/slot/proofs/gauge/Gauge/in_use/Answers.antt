@@ -1,12 +1,11 @@
 -- The invariant: no slot from the bound on is in use.
 -- Assumes nothing.
-use mathlib.Core.Path.{◌≡◌, refl, sym, ◌∙◌}
-use Prim.Native.Nat.{◌-◌, ◌≤◌}
+use mathlib.Core.Path.{refl, sym, ◌∙◌}
+use Prim.Native.Nat.{◌-◌}
 use native.Mathlib.Omega.{arith}
-use Rattle.slot.specs.Gauges.{no_question, is_idle, in_use}
+use Rattle.slot.specs.Gauges.{no_question, is_idle}
 use borrow.Author.Tests.{not-true, not-false}
 use Rattle.slot.proofs.Gauges.{none-used, used_here, used_below}
-use borrow.Author.Rules.{rules}
 use mathlib.Core.Path.{ap}
 use mathlib.Core.Bool.{not}
 use Rattle.slot.proofs.gauge.Gauge.in_use.Goals as goal

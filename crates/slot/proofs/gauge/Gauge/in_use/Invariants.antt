@@ -1,10 +1,6 @@
-use mathlib.Core.Path.{◌≡◌, refl, sym, ◌∙◌}
-use Prim.Native.Nat.{◌-◌, ◌≤◌}
-use native.Mathlib.Omega.{arith}
-use Rattle.slot.specs.Gauges.{no_question, is_idle, in_use}
-use borrow.Author.Tests.{not-true, not-false}
-use Rattle.slot.proofs.Gauges.{none-used, used_here, used_below}
-use borrow.Author.Rules.{rules}
+use mathlib.Core.Path.{◌≡◌}
+use Prim.Native.Nat.{◌≤◌}
+use Rattle.slot.specs.Gauges.{in_use}
 use Rattle.slot.proofs.gauge.Gauge.in_use.Given as goal
 
 abbrev pub invariant-loop-used : goal.invariant-loop-used

@@ -3,7 +3,6 @@
 use mathlib.Core.Path.{◌∙◌}
 use mir.Syntax.{w32}
 use Rattle.laws.proofs.Words.{kept}
-use borrow.Author.Rules.{rules}
 use Rattle.slot.proofs.gauge.Gauge.of.Goals as goal
 
 pub returns : goal.returns

@@ -1,12 +1,10 @@
 -- The invariant: the first i places hold the gauges of the first i slots.
 -- Assumes nothing.
 use mathlib.Core.Path.{◌≡◌, sym}
-use Prim.Native.Nat.{◌-◌, ◌≤◌}
 use native.Mathlib.Omega.{arith}
 use lib.ListN.{length}
 use Rattle.slot.specs.Gauges.{no_question, gauge_of}
-use Rattle.slot.proofs.Filling.{Filled, filled_none, filled_more, filled_all}
-use borrow.Author.Rules.{rules}
+use Rattle.slot.proofs.Filling.{filled_none, filled_more, filled_all}
 use Rattle.slot.proofs.gauge.Gauge.of_slots.Goals as goal
 
 pub loop-i-init : goal.loop-i-init

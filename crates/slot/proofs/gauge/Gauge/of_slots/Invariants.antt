@@ -1,10 +1,8 @@
-use mathlib.Core.Path.{◌≡◌, sym}
+use mathlib.Core.Path.{◌≡◌}
 use Prim.Native.Nat.{◌-◌, ◌≤◌}
-use native.Mathlib.Omega.{arith}
 use lib.ListN.{length}
-use Rattle.slot.specs.Gauges.{no_question, gauge_of}
-use Rattle.slot.proofs.Filling.{Filled, filled_none, filled_more, filled_all}
-use borrow.Author.Rules.{rules}
+use Rattle.slot.specs.Gauges.{gauge_of}
+use Rattle.slot.proofs.Filling.{Filled}
 use Rattle.slot.proofs.gauge.Gauge.of_slots.Given as goal
 
 abbrev pub invariant-loop-i : goal.invariant-loop-i

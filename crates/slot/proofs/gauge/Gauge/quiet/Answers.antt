@@ -5,7 +5,6 @@ use mir.Syntax.{w32}
 use Rattle.laws.proofs.Words.{kept}
 use Rattle.values.specs.Range.{low}
 use Rattle.ranking.specs.Standing.{might_pass}
-use borrow.Author.Rules.{rules}
 use Rattle.slot.specs.Gauges.{is_quiet}
 use Rattle.slot.proofs.gauge.Gauge.quiet.Goals as goal
 
