@@ -1,11 +1,11 @@
 -- Times count from the first frame that has one: what is asked for makes no other line a frame, and a start that is there stays.
 -- Assumes nothing.
-use mathlib.Core.Path.{◌≡◌, refl, sym, ap, ◌∙◌}
+use mathlib.Core.Path.{◌≡◌, refl, sym, ◌∙◌}
 use mathlib.Core.Bool.{Bool, true, false, cond, not, ◌&&◌, ◌||◌, true≢false}
 use mathlib.Core.List.{List, [], ◌∷◌, ◌++◌}
 use Prim.Native.Nat.{ℕ}
-use lib.Dec.{eqb, ltb, leb}
-use lib.ListN.{length, get_or}
+use lib.Dec.{eqb}
+use lib.ListN.{length}
 use Rattle.lines.specs.Words.{word_at}
 use Rattle.stamps.specs.declared.Stamp.{Stamp}
 use Rattle.stamps.specs.declared.Since.{Since}
@@ -15,7 +15,7 @@ use Rattle.dump.specs.Dump.{is_drop, frame_in}
 use Rattle.capture.specs.declared.Sort.{Sort}
 use Rattle.capture.specs.declared.Sort.TheVariants as sort
 use Rattle.capture.proofs.Frames.{by_sort}
-use Rattle.capture.specs.Capture.{id_size, raw_text, is_marked, data_text, id_in, hex_in, sort_of_frame, is, is_elsewhere, placed, is_foreign, is_beyond, frame_for, wanted, sort_for, sort_in, items_of_line, is_frame, start_after, stamp_in, since_in, items_of_lines, start_after_lines, first_stamp}
+use Rattle.capture.specs.Capture.{raw_text, is_marked, sort_of_frame, is, is_elsewhere, placed, is_foreign, is_beyond, frame_for, wanted, sort_for, sort_in, items_of_line, is_frame, start_after, stamp_in, since_in, items_of_lines, start_after_lines, first_stamp}
 
 -- ---- what is a frame
 

@@ -1,5 +1,6 @@
 // Captured frames: what a line of the text that `candump` prints holds, and the log item of its frame.
 #![tactic(auto)]
+
 ghost use Rattle.std.specs.Prelude.{◌≡◌, ◌+◌, min, not, ◌&&◌, eqb, length, replicate};
 ghost use Rattle.joining.specs.Frame.{frame_refusal};
 ghost use Rattle.std.proofs.lemmas.List.Edits.{sets};

@@ -5,6 +5,7 @@
 // `time MS` gives the frames behind it that time, in milliseconds, until `untimed` ends that. Empty lines and those that start
 // with # say nothing.
 #![tactic(auto)]
+
 ghost use Rattle.std.specs.Prelude.{◌≡◌, [], ◌∷◌, map, Bool, not, ◌||◌, ◌*◌, ◌≤◌, length, take};
 ghost use Rattle.std.proofs.lemmas.List.Edits.{sets};
 ghost use Rattle.items.specs.Run.{run_bytes};

@@ -2,6 +2,7 @@
 // Into a log (`-L`) it prints `(TIME) INTERFACE ID#DATA`, perhaps with R or T behind it. On a screen it prints
 // `INTERFACE ID [LENGTH] XX XX ..`, perhaps with a time before it (`-t`), marks before the identifier (`-x`), and letters behind the data (`-a`).
 #![tactic(auto)]
+
 ghost use Rattle.std.specs.Prelude.{◌≡◌, ◌+◌, ◌≤◌, min, length, take, drop};
 ghost use Rattle.std.proofs.lemmas.List.Edits.{sets};
 ghost use Rattle.dump.specs.Dump.{opens, closes, behind_time, time_in, interface_in, is_log, ended, logged_in, fields_in, between, count_in, pair_of, pairs_in, mark_of, closed_at, data_of, text_of, is_id, shown_in, is_drop};

@@ -1,5 +1,6 @@
 // The desk's lines (docs/DESK.md): what a line asks for, or which form it should have had.
 #![tactic(auto)]
+
 mod extras;
 
 pub use extras::{Extras, Said};

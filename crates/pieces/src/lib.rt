@@ -1,5 +1,6 @@
 // A log that comes in pieces of any size: what has come of the next item waits, and whole items are done as they come.
 #![tactic(auto)]
+
 ghost use Rattle.std.specs.Prelude.{◌≡◌, ◌&&◌, ◌+◌, min, ltb, eqb, get_or, drop};
 ghost use Rattle.std.proofs.lemmas.List.Edits.{sets};
 ghost use Rattle.text.specs.Text.{behind};

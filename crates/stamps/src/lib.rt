@@ -1,5 +1,6 @@
 // The times that can-utils' `candump` prints before its frames, and the time from the first of them to another as a log holds it.
 #![tactic(auto)]
+
 ghost use Rattle.std.specs.Prelude.{◌≡◌, ◌+◌, ◌-◌, ◌*◌, ◌≤◌, drop, get_or};
 ghost use Rattle.lines.specs.Numbers.{no_number};
 ghost use Rattle.stamps.specs.Stamps.{no_stamp, fraction_in, stamp_of, bare, seconds_of, seconds_in, two_at, month_starts, leap_day, day_of, is_date, day_in, is_clock, clock_in, seconds_from, dated_in, earliest, since_of};

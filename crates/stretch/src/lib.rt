@@ -1,6 +1,7 @@
 // A stretch of a log's whole items, done where the log stands: frames, and items for a slot that there is. The window, the slots, the
 // sessions and their last times are locals of one function for the whole stretch, so that a frame changes them in place and copies none of them.
 #![tactic(auto)]
+
 ghost use Rattle.std.specs.Prelude.{◌≡◌, true, cond, ◌&&◌, [], ◌+◌, ◌≤◌, ◌<◌, length};
 ghost use Rattle.std.proofs.lemmas.List.Edits.{sets};
 ghost use Rattle.wire.specs.Bytes.{number, part};
@@ -358,8 +359,8 @@ fn brings(
     counts: Counts,
 ) -> Brought
     ensures value { result ≡ brought answer counts }
-    ensures known_value { known.exit.now ≡ (times_by begun answer id (record { known = known.entry.now; at = lasts.old })).known }
-    ensures lasts_after { lasts.new ≡ (times_by begun answer id (record { known = known.entry.now; at = lasts.old })).at }
+    ensures known_value { known.new ≡ (times_by begun answer id (record { known = known.old; at = lasts.old })).known }
+    ensures lasts_after { lasts.new ≡ (times_by begun answer id (record { known = known.old; at = lasts.old })).at }
 {
     match answer {
         Answer::Refused(n) => {
@@ -392,8 +393,8 @@ fn put_back(
     begun: Begun,
     id: u32,
 )
-    ensures known_value { known.exit.now ≡ (put_back begun id (record { known = known.entry.now; at = lasts.old })).known }
-    ensures lasts_after { lasts.new ≡ (put_back begun id (record { known = known.entry.now; at = lasts.old })).at }
+    ensures known_value { known.new ≡ (put_back begun id (record { known = known.old; at = lasts.old })).known }
+    ensures lasts_after { lasts.new ≡ (put_back begun id (record { known = known.old; at = lasts.old })).at }
 {
     if begun.timed == begun.place {
         let last = Last {

@@ -107,8 +107,8 @@ impl Times {
         sender: u8,
         last: Last,
     )
-        ensures known_value { known.exit.now ≡ (put_last (record { known = known.entry.now; at = at.old }) sender last).known }
-        ensures at_after { at.new ≡ (put_last (record { known = known.entry.now; at = at.old }) sender last).at }
+        ensures known_value { known.new ≡ (put_last (record { known = known.old; at = at.old }) sender last).known }
+        ensures at_after { at.new ≡ (put_last (record { known = known.old; at = at.old }) sender last).at }
     {
         let k = sender as usize;
         if k < Bus::SENDERS {

@@ -1,9 +1,7 @@
 -- `capture::digits` meets its contract: what stands behind the #, without a mark.
 -- Assumes nothing.
-use mathlib.Core.Path.{◌≡◌, refl, sym, ap, ◌∙◌}
-use lib.ListN.{take}
-use Rattle.capture.specs.Capture.{is_marked, raw_text, data_text}
-use borrow.Author.Rules.{rules}
+use mathlib.Core.Path.{sym, ◌∙◌}
+use Rattle.capture.specs.Capture.{data_text}
 use Rattle.capture.proofs.digits.Goals as goal
 
 pub returns-then-marked : goal.returns-then-marked

@@ -1,13 +1,10 @@
 -- `capture::eight` meets its contract: what is stored and the pairs that are left make all the bytes.
 -- Assumes nothing.
 use mathlib.Core.Path.{◌≡◌, refl, sym}
-use Prim.Native.Nat.{◌≤◌, ◌-◌, ◌+◌, ◌*◌, ◌/◌}
-use lib.ListN.{length, drop, replicate, length-set}
+use Prim.Native.Nat.{◌-◌, ◌+◌, ◌*◌}
+use lib.ListN.{length-set}
 use native.Mathlib.Numerals.{add-one}
-use lib.Seq.{sets}
 use Rattle.capture.proofs.Texts.{bytes_more, bytes-end, pair_most}
-use Rattle.capture.specs.Capture.{bytes_in}
-use borrow.Author.Rules.{rules}
 use native.Mathlib.Omega.{arith}
 use Rattle.capture.proofs.eight_bytes.Goals as goal
 

@@ -1,12 +1,8 @@
-use mathlib.Core.Path.{◌≡◌, refl, sym}
-use Prim.Native.Nat.{◌≤◌, ◌-◌, ◌+◌, ◌*◌, ◌/◌}
-use lib.ListN.{length, drop, replicate, length-set}
-use native.Mathlib.Numerals.{add-one}
+use mathlib.Core.Path.{◌≡◌}
+use Prim.Native.Nat.{◌≤◌, ◌-◌, ◌*◌, ◌/◌}
+use lib.ListN.{length, drop, replicate}
 use lib.Seq.{sets}
-use Rattle.capture.proofs.Texts.{bytes_more, bytes-end, pair_most}
 use Rattle.capture.specs.Capture.{bytes_in}
-use borrow.Author.Rules.{rules}
-use native.Mathlib.Omega.{arith}
 use Rattle.capture.proofs.eight_bytes.Given as goal
 
 abbrev pub invariant-loop-k : goal.invariant-loop-k

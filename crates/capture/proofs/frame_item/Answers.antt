@@ -1,7 +1,5 @@
 -- `capture::frame_item` meets its contract: a case for each time.
 -- Assumes nothing.
-use mathlib.Core.Path.{◌≡◌, refl, sym, ap, ap₂, ◌∙◌}
-use borrow.Author.Rules.{rules}
 use Rattle.capture.proofs.frame_item.Goals as goal
 
 pub returns-in-Unknown : goal.returns-in-Unknown

@@ -1,15 +1,10 @@
 -- `capture::hexadecimal` meets its contract: the pairs that are passed are bytes, so the rest decides.
 -- Assumes nothing.
 use mathlib.Core.Path.{◌≡◌, refl, sym, ◌∙◌}
-use Prim.Native.Nat.{◌≤◌, ◌-◌, ◌+◌, ◌*◌, ◌/◌, ◌%◌}
-use lib.ListN.{length, drop}
+use Prim.Native.Nat.{◌-◌, ◌+◌, ◌*◌}
 use borrow.Author.Tests.{not-true, not-false}
 use Rattle.capture.proofs.Texts.{hex_odd, hex_more, hex_stop, hex_end}
-use Rattle.capture.specs.Capture.{hex_in}
-use borrow.Author.Rules.{rules}
 use native.Mathlib.Omega.{arith}
-use mathlib.Core.Path.{ap}
-use mathlib.Core.Bool.{not}
 use Rattle.capture.proofs.hexadecimal.Goals as goal
 
 pub returns-then-s-ne0 : goal.returns-then-s-ne0
@@ -37,7 +32,7 @@ pub returns-then-not-n : goal.returns-then-not-n
 returns-then-not-n c =
     let s = c.args.s.now in
     let two : 2 * c.loop-k.k + 2 - 2 * c.loop-k.k ≡ 2 = omega arith in
-    sym (hex_stop s c.loop-k.k c.read-n.result (rw two at c.read-n.ensures) (omega arith) (not-true _ (ap not c.if-not-n.true))) ∙ c.loop-k.invariant.2
+    sym (hex_stop s c.loop-k.k c.read-n.result (rw two at c.read-n.ensures) (omega arith) (not-true _ c.if-not-n.true)) ∙ c.loop-k.invariant.2
 
 pub overflow_add-k : goal.overflow_add-k
 overflow_add-k c = omega arith
@@ -49,7 +44,7 @@ pub loop-k-preserved : goal.loop-k-preserved
 loop-k-preserved c =
     let s = c.args.s.now in
     let two : 2 * c.loop-k.k + 2 - 2 * c.loop-k.k ≡ 2 = omega arith in
-    (omega arith, c.loop-k.invariant.1, sym (hex_more s c.loop-k.k c.read-n.result (rw two at c.read-n.ensures) (omega arith) (not-false _ (ap not c.if-not-n.false))) ∙ c.loop-k.invariant.2)
+    (omega arith, c.loop-k.invariant.1, sym (hex_more s c.loop-k.k c.read-n.result (rw two at c.read-n.ensures) (omega arith) (not-false _ c.if-not-n.false)) ∙ c.loop-k.invariant.2)
 
 pub returns : goal.returns
 returns c =

@@ -1,13 +1,8 @@
 -- `capture::is_elsewhere` meets its contract: no name asks for all.
 -- Assumes nothing.
-use mathlib.Core.Path.{◌≡◌, refl, sym, ap, ◌∙◌}
-use mathlib.Core.Bool.{not}
-use Prim.Native.Nat.{ℕ}
-use borrow.Author.Tests.{eq-eqb, ne_eqb, lt-ltb, le-ltb}
+use borrow.Author.Tests.{eq-eqb, ne_eqb}
 use lib.ListN.{length}
-use Rattle.wire.specs.Bytes.{same}
 use Rattle.capture.specs.Capture.{is_elsewhere}
-use borrow.Author.Rules.{rules}
 use Rattle.capture.proofs.is_elsewhere.Goals as goal
 
 pub returns-then-name-eq0 : goal.returns-then-name-eq0

@@ -1,13 +1,10 @@
 -- `capture::marked` meets its contract: its tests in their order.
 -- Assumes nothing.
-use mathlib.Core.Path.{◌≡◌, refl, sym, ap, ◌∙◌}
-use Prim.Native.Nat.{ℕ, ◌-◌}
-use borrow.Author.Tests.{eq-eqb, ne_eqb, lt-ltb, le-ltb}
-use lib.ListN.{length, get_or, take, drop}
+use mathlib.Core.Path.{sym, ◌∙◌}
+use borrow.Author.Tests.{eq-eqb, ne_eqb}
+use lib.ListN.{length, get_or}
 use Rattle.lines.proofs.Words.{all-behind}
-use Rattle.lines.specs.Numbers.{number_in}
 use Rattle.capture.specs.Capture.{is_marked}
-use borrow.Author.Rules.{rules}
 use Rattle.capture.proofs.marked.Goals as goal
 
 pub returns-then-text-ne-MARKED_DIGITS : goal.returns-then-text-ne-MARKED_DIGITS

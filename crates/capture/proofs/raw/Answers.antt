@@ -1,7 +1,6 @@
 -- `capture::raw` meets its contract: a part to the end.
 -- Assumes nothing.
 use Rattle.capture.proofs.Texts.{data_behind}
-use borrow.Author.Rules.{rules}
 use Rattle.capture.proofs.raw.Goals as goal
 
 pub returns : goal.returns

@@ -1,9 +1,7 @@
 -- `capture::since` meets its contract: from the first of the two.
 -- Assumes nothing.
-use mathlib.Core.Path.{◌≡◌, refl, sym, ap, ap₂, ◌∙◌}
+use mathlib.Core.Path.{◌∙◌}
 use Rattle.capture.specs.Capture.{since_in}
-use Rattle.stamps.specs.Stamps.{since_of}
-use borrow.Author.Rules.{rules}
 use Rattle.capture.proofs.since.Goals as goal
 
 pub returns : goal.returns

@@ -1,6 +1,5 @@
 -- `commands::frame_item` meets its contract: a case for each time.
 -- Assumes nothing.
-use borrow.Author.Rules.{rules}
 use Rattle.commands.proofs.frame_item.Goals as goal
 
 pub returns-in-Untimed : goal.returns-in-Untimed

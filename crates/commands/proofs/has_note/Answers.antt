@@ -1,6 +1,5 @@
 -- `commands::has_note` meets its contract: a test for each case.
 -- Assumes nothing.
-use borrow.Author.Rules.{rules}
 use Rattle.commands.proofs.has_note.Goals as goal
 
 pub returns-else-noted : goal.returns-else-noted

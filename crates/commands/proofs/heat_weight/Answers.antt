@@ -2,17 +2,19 @@
 -- Assumes nothing.
 use mathlib.Core.Path.{◌≡◌}
 use mathlib.Core.Bool.{true, ◌||◌}
-use mathlib.Core.Logic.{⊎_elim}
 use Rattle.laws.proofs.Tests.{or_left, or_right}
 use Rattle.commands.specs.Lines.{heat_at}
-use borrow.Author.Rules.{rules}
 use Rattle.commands.proofs.heat_weight.Goals as goal
+use Rattle.commands.proofs.heat_weight.Goals.{then-no_more-via-then-no_more, then-no_more-via-else-no_more+then-early}
 
 pub returns-then-no_more : goal.returns-then-no_more
 unfolding heat_at
 returns-then-no_more c =
     let given : (c.no_more.result || c.rule-early.result.known) ≡ true =
-    ⊎_elim (λ t. or_left _ _ t.taken) (λ e. or_right c.no_more.result _ e.1.taken) c.then-no_more.branch in
+    elim c.then-no_more.branch [
+      | then-no_more-via-then-no_more w ↦ or_left _ _ w.if-no_more.true
+      | then-no_more-via-else-no_more+then-early w ↦ or_right c.no_more.result _ w.if-early.true
+    ] in
     rw (← c.no_more.ensures, ← c.rule-early.ensures, given) c.given.ensures
 
 pub returns : goal.returns

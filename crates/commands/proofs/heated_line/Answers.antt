@@ -1,7 +1,6 @@
 -- `commands::heated_line` meets its contract: each answer is what the definition says.
 -- Assumes nothing.
 use Rattle.commands.proofs.Reading.{heated_wrong, heated_right, value_most}
-use borrow.Author.Rules.{rules}
 use native.Mathlib.Omega.{arith}
 use Rattle.commands.proofs.heated_line.Goals as goal
 

@@ -1,7 +1,6 @@
 -- `commands::no_more` meets its contract: what is left has no bytes.
 -- Assumes nothing.
 use Rattle.commands.specs.Lines.{no_more}
-use borrow.Author.Rules.{rules}
 use Rattle.commands.proofs.no_more.Goals as goal
 
 pub returns : goal.returns

@@ -1,7 +1,6 @@
 -- `commands::note_in` meets its contract: all behind the words that its first one asks for.
 -- Assumes nothing.
 use mathlib.Core.Path.{◌∙◌}
-use borrow.Author.Rules.{rules}
 use Rattle.commands.proofs.note_in.Goals as goal
 
 pub returns : goal.returns

@@ -1,7 +1,6 @@
 -- `commands::one_slot` meets its contract: each answer is what the definition says.
 -- Assumes nothing.
 use Rattle.commands.proofs.Reading.{slot_is, value_most}
-use borrow.Author.Rules.{rules}
 use native.Mathlib.Omega.{arith}
 use Rattle.commands.proofs.one_slot.Goals as goal
 

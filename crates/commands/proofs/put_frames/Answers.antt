@@ -1,13 +1,12 @@
 -- `commands::put_frames` meets its contract: after i turns the items of i frames are stored.
 -- Assumes nothing.
 use mathlib.Core.Path.{◌≡◌, refl, ◌∙◌}
-use Prim.Native.Nat.{◌≤◌, ◌-◌, ◌+◌, ◌*◌}
+use Prim.Native.Nat.{◌-◌, ◌+◌, ◌*◌}
 use lib.ListN.{length}
-use lib.Seq.{sets, length-sets}
+use lib.Seq.{length-sets}
 use Rattle.items.specs.Run.{run_bytes}
 use Rattle.bench.specs.Bench.{frames_in}
-use Rattle.commands.proofs.Writing.{cut, item_at, item_most, frames_longer, frames_more}
-use borrow.Author.Rules.{rules}
+use Rattle.commands.proofs.Writing.{item_at, item_most, frames_longer, frames_more}
 use native.Mathlib.Omega.{arith}
 use Rattle.commands.proofs.put_frames.Goals as goal
 
@@ -69,5 +68,5 @@ shape_of-room c = c.loop-i.invariant.1
 
 pub returns : goal.returns
 returns c =
-    let a = c.args in 
+    let a = c.args in
     let all : c.loop-i.i ≡ c.args.count = omega arith in record { value = c.loop-i.invariant.2 ∙ rw all; room_after = c.loop-i.invariant.4 ∙ rw all }

@@ -1,12 +1,8 @@
-use mathlib.Core.Path.{◌≡◌, refl, ◌∙◌}
-use Prim.Native.Nat.{◌≤◌, ◌-◌, ◌+◌, ◌*◌}
+use mathlib.Core.Path.{◌≡◌}
+use Prim.Native.Nat.{◌≤◌, ◌-◌, ◌*◌}
 use lib.ListN.{length}
-use lib.Seq.{sets, length-sets}
-use Rattle.items.specs.Run.{run_bytes}
-use Rattle.bench.specs.Bench.{frames_in}
-use Rattle.commands.proofs.Writing.{cut, item_at, item_most, frames_longer, frames_more}
-use borrow.Author.Rules.{rules}
-use native.Mathlib.Omega.{arith}
+use lib.Seq.{sets}
+use Rattle.commands.proofs.Writing.{cut}
 use Rattle.commands.proofs.put_frames.Given as goal
 
 abbrev pub invariant-loop-i : goal.invariant-loop-i

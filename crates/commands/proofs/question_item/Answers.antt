@@ -2,7 +2,6 @@
 -- Assumes nothing.
 use mathlib.Core.Path.{sym, ◌∙◌}
 use Rattle.commands.specs.Lines.{question_item}
-use borrow.Author.Rules.{rules}
 use Rattle.commands.proofs.question_item.Goals as goal
 
 pub returns-then-no_more : goal.returns-then-no_more

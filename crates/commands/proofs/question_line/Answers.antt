@@ -1,13 +1,11 @@
 -- `commands::question_line` meets its contract: each answer is what the definition says.
 -- Assumes nothing.
 use mathlib.Core.Path.{ap, ◌∙◌}
-use mathlib.Core.List.{List}
-use Prim.Native.Nat.{ℕ, ◌≤◌}
+use Prim.Native.Nat.{◌≤◌}
 use Rattle.items.proofs.Signs.{signed_kept}
 use Rattle.commands.specs.declared.Command.TheVariants as command
 use Rattle.commands.specs.Lines.{question_item}
 use Rattle.commands.proofs.Reading.{question_wrong, question_right, value_most, weight_most, heat_most, ties_most}
-use borrow.Author.Rules.{rules}
 use native.Mathlib.Omega.{arith}
 use Rattle.commands.proofs.question_line.Goals as goal
 

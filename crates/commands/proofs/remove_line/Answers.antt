@@ -1,7 +1,6 @@
 -- `commands::remove` meets its contract: the slot, or the word that is wrong.
 -- Assumes nothing.
 use Rattle.commands.proofs.Reading.{remove_wrong, remove_right}
-use borrow.Author.Rules.{rules}
 use Rattle.commands.proofs.remove_line.Goals as goal
 
 pub returns-then-s-ne0 : goal.returns-then-s-ne0

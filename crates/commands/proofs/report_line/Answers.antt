@@ -1,7 +1,6 @@
 -- `commands::one_report` meets its contract: each answer is what the definition says.
 -- Assumes nothing.
 use Rattle.commands.proofs.Reading.{report_wrong, report_right, value_most}
-use borrow.Author.Rules.{rules}
 use native.Mathlib.Omega.{arith}
 use Rattle.commands.proofs.report_line.Goals as goal
 

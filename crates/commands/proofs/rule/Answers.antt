@@ -2,7 +2,6 @@
 -- Assumes nothing.
 use mathlib.Core.Path.{sym, ◌∙◌}
 use Rattle.commands.specs.Lines.{tie_rule_in, tie_rule_at}
-use borrow.Author.Rules.{rules}
 use Rattle.commands.proofs.rule.Goals as goal
 
 pub returns-then-same : goal.returns-then-same

@@ -1,7 +1,6 @@
 -- `commands::tie_rule` meets its contract: a case for each answer.
 -- Assumes nothing.
 use Rattle.commands.specs.Lines.{ties_at}
-use borrow.Author.Rules.{rules}
 use Rattle.commands.proofs.tie_rule.Goals as goal
 
 pub returns-then-early : goal.returns-then-early

@@ -1,7 +1,6 @@
 -- `commands::time_line` meets its contract: each answer is what the definition says.
 -- Assumes nothing.
 use Rattle.commands.proofs.Reading.{time_wrong, time_right}
-use borrow.Author.Rules.{rules}
 use Rattle.commands.proofs.time_line.Goals as goal
 
 pub returns-then-wrong-ne0 : goal.returns-then-wrong-ne0

@@ -2,7 +2,6 @@
 -- Assumes nothing.
 use mathlib.Core.Path.{◌∙◌}
 use Rattle.commands.specs.Lines.{value_at}
-use borrow.Author.Rules.{rules}
 use Rattle.commands.proofs.value.Goals as goal
 
 pub returns : goal.returns

@@ -1,7 +1,6 @@
 -- `commands::window` meets its contract: each answer is what the definition says.
 -- Assumes nothing.
 use Rattle.commands.proofs.Reading.{window_wrong, window_right, value_most}
-use borrow.Author.Rules.{rules}
 use native.Mathlib.Omega.{arith}
 use Rattle.commands.proofs.window_line.Goals as goal
 

@@ -2,7 +2,6 @@
 -- Assumes nothing.
 use mathlib.Core.Path.{sym, ◌∙◌}
 use Rattle.commands.specs.Lines.{words_before}
-use borrow.Author.Rules.{rules}
 use Rattle.commands.proofs.words_before.Goals as goal
 
 pub returns-then-same : goal.returns-then-same

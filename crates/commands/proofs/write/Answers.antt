@@ -1,6 +1,5 @@
 -- `commands::write` meets its contract: what the line stands for is written.
 -- Assumes nothing.
-use borrow.Author.Rules.{rules}
 use Rattle.commands.proofs.write.Goals as goal
 
 pub returns : goal.returns

@@ -1,12 +1,11 @@
 -- `dump::between` meets its contract: its tests in their order.
 -- Assumes nothing.
-use mathlib.Core.Path.{◌≡◌, refl, sym, ap, ◌∙◌}
+use mathlib.Core.Path.{◌≡◌, sym, ◌∙◌}
 use Prim.Native.Nat.{◌+◌, ◌-◌}
-use borrow.Author.Tests.{eq-eqb, ne_eqb, le-leb, lt-leb, lt-ltb, le-ltb}
+use borrow.Author.Tests.{eq-eqb, ne_eqb}
 use native.Mathlib.Omega.{arith}
 use lib.ListN.{length, get_or}
 use Rattle.dump.specs.Dump.{between}
-use borrow.Author.Rules.{rules}
 use Rattle.dump.proofs.between.Goals as goal
 
 pub returns-then-word-size : goal.returns-then-word-size

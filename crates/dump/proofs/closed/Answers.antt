@@ -1,13 +1,10 @@
 -- `dump::closed` meets its contract: its tests in their order.
 -- Assumes nothing.
-use mathlib.Core.Path.{◌≡◌, refl, sym, ap, ◌∙◌}
-use Prim.Native.Nat.{ℕ}
-use borrow.Author.Tests.{eq-eqb, ne_eqb, le-leb, lt-leb, lt-ltb, le-ltb}
+use mathlib.Core.Path.{sym, ap, ◌∙◌}
+use borrow.Author.Tests.{eq-eqb, ne_eqb}
 use lib.ListN.{length, get_or}
-use Rattle.lines.specs.Words.{word_at, tail_at}
-use Rattle.wire.specs.Bytes.{same}
+use Rattle.lines.specs.Words.{word_at}
 use Rattle.dump.specs.Dump.{closed_at}
-use borrow.Author.Rules.{rules}
 use Rattle.dump.proofs.closed.Goals as goal
 
 pub returns-then-word-eq0 : goal.returns-then-word-eq0

@@ -7,7 +7,6 @@ use Prim.Native.Nat.{ℕ}
 use native.Mathlib.Omega.{arith}
 use lib.ListN.{length}
 use Rattle.dump.specs.Dump.{closes}
-use borrow.Author.Rules.{rules}
 use Rattle.dump.proofs.closes.Goals as goal
 
 none : (w : List ℕ) → length w ≡ 0 → false ≡ closes w

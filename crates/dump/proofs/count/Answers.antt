@@ -1,6 +1,6 @@
 -- `dump::count` meets its contract: the brackets decide.
 -- Assumes nothing.
-use mathlib.Core.Path.{◌≡◌, refl, sym, ap, ◌∙◌}
+use mathlib.Core.Path.{◌≡◌, sym, ◌∙◌}
 use mathlib.Core.Bool.{true, ◌&&◌}
 use Prim.Native.Nat.{ℕ}
 use mathlib.Core.List.{List}
@@ -9,7 +9,6 @@ use lib.Dec.{eqb}
 use lib.ListN.{length, get_or}
 use Rattle.laws.proofs.Tests.{and_both}
 use Rattle.dump.specs.Dump.{between, count_in}
-use borrow.Author.Rules.{rules}
 use Rattle.dump.proofs.count.Goals as goal
 
 -- A byte between two others: three bytes.

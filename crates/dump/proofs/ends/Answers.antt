@@ -1,15 +1,10 @@
 -- `dump::ends` meets its contract: its tests in their order.
 -- Assumes nothing.
-use mathlib.Core.Path.{◌≡◌, refl, sym, ap, ◌∙◌}
-use mathlib.Core.Bool.{true, false}
-use mathlib.Core.List.{[], ◌∷◌}
-use Prim.Native.Nat.{ℕ}
-use borrow.Author.Tests.{eq-eqb, ne_eqb, le-leb, lt-leb, lt-ltb, le-ltb}
+use mathlib.Core.Path.{◌≡◌, sym, ap, ◌∙◌}
+use borrow.Author.Tests.{eq-eqb, ne_eqb}
 use Rattle.lines.specs.Words.{word_at, tail_at}
 use lib.ListN.{length}
-use Rattle.wire.specs.Bytes.{same}
 use Rattle.dump.specs.Dump.{ended}
-use borrow.Author.Rules.{rules}
 use Rattle.dump.proofs.ends.Goals as goal
 
 pub returns-then-rest-ne0 : goal.returns-then-rest-ne0

@@ -1,10 +1,7 @@
 -- `dump::fields` meets its contract: RX and TX stand before three words more.
 -- Assumes nothing.
-use mathlib.Core.Path.{◌≡◌, refl, sym, ap, ◌∙◌}
-use Rattle.lines.specs.Words.{word_at, tail_at}
-use Rattle.wire.specs.Bytes.{same}
+use mathlib.Core.Path.{sym, ◌∙◌}
 use Rattle.dump.specs.Dump.{fields_in}
-use borrow.Author.Rules.{rules}
 use Rattle.dump.proofs.fields.Goals as goal
 
 pub returns-then-same : goal.returns-then-same

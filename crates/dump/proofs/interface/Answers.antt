@@ -1,9 +1,8 @@
 -- `dump::interface` meets its contract: the first word behind the time.
 -- Assumes nothing.
-use mathlib.Core.Path.{◌≡◌, sym, ap, ◌∙◌}
-use Rattle.lines.specs.Words.{word_at, tail_at}
+use mathlib.Core.Path.{ap, ◌∙◌}
+use Rattle.lines.specs.Words.{word_at}
 use Rattle.dump.specs.Dump.{interface_in}
-use borrow.Author.Rules.{rules}
 use Rattle.dump.proofs.interface.Goals as goal
 
 pub returns : goal.returns

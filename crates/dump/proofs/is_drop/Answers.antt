@@ -1,8 +1,7 @@
 -- `dump::is_drop` meets its contract: the first word decides.
 -- Assumes nothing.
-use mathlib.Core.Path.{◌≡◌, sym, ap, ◌∙◌}
+use mathlib.Core.Path.{◌∙◌}
 use Rattle.dump.specs.Dump.{is_drop}
-use borrow.Author.Rules.{rules}
 use Rattle.dump.proofs.is_drop.Goals as goal
 
 pub returns : goal.returns

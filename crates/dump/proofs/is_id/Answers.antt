@@ -1,10 +1,8 @@
 -- `dump::is_id` meets its contract: its tests in their order.
 -- Assumes nothing.
-use mathlib.Core.Path.{◌≡◌, refl, sym, ap, ◌∙◌}
-use borrow.Author.Tests.{eq-eqb, ne_eqb, le-leb, lt-leb, lt-ltb, le-ltb}
+use borrow.Author.Tests.{le-leb, lt-leb}
 use lib.ListN.{length}
 use Rattle.dump.specs.Dump.{hash_at, is_id}
-use borrow.Author.Rules.{rules}
 use Rattle.dump.proofs.is_id.Goals as goal
 
 pub returns-then-word-gt-ID_DIGITS : goal.returns-then-word-gt-ID_DIGITS

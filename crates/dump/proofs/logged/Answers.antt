@@ -1,24 +1,20 @@
 -- `dump::logged` meets its contract: the third word where the line ends behind it.
 -- Assumes nothing.
-use mathlib.Core.Path.{◌≡◌, refl, sym, ap, ◌∙◌}
+use mathlib.Core.Path.{◌≡◌, sym, ◌∙◌}
 use mathlib.Core.Bool.{true, false}
-use borrow.Author.Tests.{not-true, not-false}
-use Rattle.lines.specs.Words.{word_at, tail_at}
 use Rattle.dump.specs.Dump.{ended, logged_in}
-use borrow.Author.Rules.{rules}
-use mathlib.Core.Bool.{not}
 use Rattle.dump.proofs.logged.Goals as goal
 
 pub returns-then-not-ends : goal.returns-then-not-ends
 unfolding logged_in
 returns-then-not-ends c =
     let line = c.args.line.now in
-    let p : ended line ≡ false = sym c.ends.ensures ∙ not-true c.ends.result (ap not c.if-not-ends.true) in
+    let p : ended line ≡ false = sym c.ends.ensures ∙ c.if-not-ends.true in
     c.front.ensures ∙ rw p
 
 pub returns : goal.returns
 unfolding logged_in
 returns c =
     let line = c.args.line.now in
-    let p : ended line ≡ true = sym c.ends.ensures ∙ not-false c.ends.result (ap not c.if-not-ends.false) in
+    let p : ended line ≡ true = sym c.ends.ensures ∙ c.if-not-ends.false in
     c.word.ensures ∙ rw p

@@ -1,7 +1,6 @@
 -- `dump::opens` meets its contract: the first byte.
 -- Assumes nothing.
 use Rattle.dump.specs.Dump.{opens}
-use borrow.Author.Rules.{rules}
 use Rattle.dump.proofs.opens.Goals as goal
 
 pub returns : goal.returns

@@ -1,14 +1,9 @@
 -- `dump::put_mark` meets its contract: two letters where the length is over 8.
 -- Assumes nothing.
-use mathlib.Core.Path.{◌≡◌, refl, sym, ap, ◌∙◌}
-use mathlib.Core.List.{List}
-use Prim.Native.Nat.{ℕ}
-use borrow.Author.Tests.{eq-eqb, ne_eqb, le-leb, lt-leb, lt-ltb, le-ltb}
+use mathlib.Core.Path.{◌∙◌}
+use borrow.Author.Tests.{lt-ltb, le-ltb}
 use native.Mathlib.Numerals.{add-one}
-use lib.ListN.{get_or, set}
-use lib.Seq.{sets}
 use Rattle.dump.specs.Dump.{mark_of}
-use borrow.Author.Rules.{rules}
 use Rattle.dump.proofs.put_mark.Goals as goal
 
 pub returns-then-n-le-DATA : goal.returns-then-n-le-DATA

@@ -1,11 +1,9 @@
 -- `dump::put_pair` meets its contract: the word where it has two letters, and ?? for another.
 -- Assumes nothing.
-use mathlib.Core.Path.{◌≡◌, refl, sym, ap, ◌∙◌}
-use borrow.Author.Tests.{eq-eqb, ne_eqb, le-leb, lt-leb, lt-ltb, le-ltb}
+use mathlib.Core.Path.{◌∙◌}
+use borrow.Author.Tests.{eq-eqb, ne_eqb}
 use lib.ListN.{length}
-use lib.Seq.{sets}
 use Rattle.dump.specs.Dump.{pair_of}
-use borrow.Author.Rules.{rules}
 use Rattle.dump.proofs.put_pair.Goals as goal
 
 pub returns-then-word-eq2 : goal.returns-then-word-eq2

@@ -1,13 +1,11 @@
 -- `dump::put_pairs` meets its contract: what is stored and the pairs that are left make them all.
 -- Assumes nothing.
-use mathlib.Core.Path.{◌≡◌, refl, sym, ap, ◌∙◌}
+use mathlib.Core.Path.{◌≡◌, refl, ap, ◌∙◌}
 use mathlib.Core.List.{List}
-use Prim.Native.Nat.{ℕ, ◌≤◌, ◌+◌, ◌-◌, ◌*◌}
+use Prim.Native.Nat.{ℕ, ◌+◌, ◌-◌, ◌*◌}
 use native.Mathlib.Omega.{arith}
-use lib.ListN.{length}
 use lib.Seq.{sets, length-sets}
-use borrow.Author.Rules.{rules}
-use Rattle.dump.specs.Dump.{pair_of, pairs_in}
+use Rattle.dump.specs.Dump.{pair_of}
 use Rattle.dump.proofs.Texts.{pairs_turn, pairs_end}
 use Rattle.dump.proofs.put_pairs.Goals as goal
 

@@ -1,6 +1,6 @@
 -- `orders::blanks` is safe and ends: the test keeps the index in the line, and what is left of it falls.
 -- Assumes nothing.
-use Rattle.std.proofs.Common.{◌-◌, length, rules}
+use Rattle.std.proofs.Common.{◌-◌, length}
 use Rattle.orders.proofs.blanks.Given as goal
 
 abbrev pub invariant-loop-i : goal.invariant-loop-i

@@ -1,6 +1,6 @@
 -- `orders::is_text` is safe and ends: the test keeps the index in the line, and what is left of it falls.
 -- Assumes nothing.
-use Rattle.std.proofs.Common.{◌-◌, length, rules}
+use Rattle.std.proofs.Common.{◌-◌, length}
 use Rattle.orders.proofs.is_text.Given as goal
 
 abbrev pub invariant-loop-i : goal.invariant-loop-i

@@ -1,11 +1,10 @@
 -- `stamps::bare` meets its contract: a part, which is nothing where there are less than two bytes.
 -- Assumes nothing.
-use mathlib.Core.Path.{◌≡◌, sym, ap, ◌∙◌}
+use mathlib.Core.Path.{◌≡◌, ◌∙◌}
 use Prim.Native.Nat.{◌-◌}
 use native.Mathlib.Omega.{arith}
-use lib.ListN.{length, take, drop}
+use lib.ListN.{length}
 use Rattle.stamps.specs.Stamps.{bare}
-use borrow.Author.Rules.{rules}
 use Rattle.stamps.proofs.bare.Goals as goal
 
 pub returns-then-word-lt2 : goal.returns-then-word-lt2

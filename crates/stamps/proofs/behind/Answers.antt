@@ -1,11 +1,10 @@
 -- `stamps::behind` meets its contract: a part to the end, which is nothing past it.
 -- Assumes nothing.
-use mathlib.Core.Path.{◌≡◌, sym, ◌∙◌}
+use mathlib.Core.Path.{sym, ◌∙◌}
 use Prim.Native.Nat.{◌≤◌}
 use native.Mathlib.Omega.{arith}
-use lib.ListN.{length, drop, drop_of_length-le}
+use lib.ListN.{length, drop_of_length-le}
 use Rattle.lines.proofs.Words.{all-behind}
-use borrow.Author.Rules.{rules}
 use Rattle.stamps.proofs.behind.Goals as goal
 
 pub returns-then-n-text : goal.returns-then-n-text

@@ -1,9 +1,7 @@
 -- `stamps::day_of` meets its contract: the same sum.
 -- Assumes nothing.
-use mathlib.Core.Path.{◌≡◌, refl, sym, ap, ◌∙◌}
 use native.Mathlib.Omega.{arith}
 use Rattle.stamps.specs.Stamps.{day_of}
-use borrow.Author.Rules.{rules}
 use Rattle.stamps.proofs.day_of.Goals as goal
 
 pub returns : goal.returns

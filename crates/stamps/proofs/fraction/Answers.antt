@@ -1,11 +1,10 @@
 -- `stamps::fraction` meets its contract: the digits over nine zeros.
 -- Assumes nothing.
-use mathlib.Core.Path.{◌≡◌, refl, sym, ap, ◌∙◌}
+use mathlib.Core.Path.{◌∙◌}
 use native.Mathlib.Omega.{arith}
 use borrow.Author.Tests.{le-leb, lt-leb}
 use lib.ListN.{length}
 use Rattle.stamps.specs.Stamps.{fraction_in}
-use borrow.Author.Rules.{rules}
 use Rattle.stamps.proofs.fraction.Goals as goal
 
 pub returns-then-text-gt-DIGITS : goal.returns-then-text-gt-DIGITS

@@ -1,10 +1,7 @@
 -- `stamps::is_clock` meets its contract: its tests in their order.
 -- Assumes nothing.
-use mathlib.Core.Path.{◌≡◌, refl, sym, ap, ◌∙◌}
-use borrow.Author.Tests.{not-true, not-false, eq-eqb, ne_eqb, le-leb, lt-leb, lt-ltb, le-ltb}
-use lib.ListN.{get_or}
+use borrow.Author.Tests.{eq-eqb, ne_eqb}
 use Rattle.stamps.specs.Stamps.{is_clock}
-use borrow.Author.Rules.{rules}
 use Rattle.stamps.proofs.is_clock.Goals as goal
 
 pub returns-then-byte-ne58 : goal.returns-then-byte-ne58

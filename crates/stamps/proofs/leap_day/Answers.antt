@@ -1,8 +1,7 @@
 -- `stamps::leap_day` meets its contract: its tests in their order.
 -- Assumes nothing.
-use mathlib.Core.Path.{◌≡◌, refl, sym, ap, ◌∙◌}
 use native.Mathlib.Omega.{arith}
-use borrow.Author.Tests.{not-true, not-false, eq-eqb, ne_eqb, le-leb, lt-leb, lt-ltb, le-ltb}
+use borrow.Author.Tests.{eq-eqb, ne_eqb, lt-ltb, le-ltb}
 use Rattle.stamps.specs.Stamps.{leap_day}
 use Rattle.stamps.proofs.leap_day.Goals as goal
 

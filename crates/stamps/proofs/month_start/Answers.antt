@@ -1,6 +1,6 @@
 -- `stamps::month_start` meets its contract: a table.
 -- Assumes nothing.
-use mathlib.Core.Path.{◌≡◌, refl, sym, ap, ◌∙◌}
+use mathlib.Core.Path.{◌≡◌, refl}
 use native.Mathlib.Omega.{arith}
 use mathlib.Core.Bool.{Bool, true, ◌&&◌}
 use mathlib.Core.List.{List, [], ◌∷◌}
@@ -10,7 +10,6 @@ use lib.ListN.{get_or}
 use borrow.Author.Tests.{leb-true}
 use Rattle.laws.proofs.Tests.{and_both}
 use Rattle.stamps.specs.Stamps.{month_starts}
-use borrow.Author.Rules.{rules}
 use Rattle.stamps.proofs.month_start.Goals as goal
 
 -- No number of a list is over the largest.

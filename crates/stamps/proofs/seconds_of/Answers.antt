@@ -1,9 +1,7 @@
 -- `stamps::seconds_of` meets its contract: what stands before the point, and what stands behind it.
 -- Assumes nothing.
-use mathlib.Core.Path.{◌≡◌, sym, ap, ap₂, ◌∙◌}
-use lib.ListN.{take, drop}
+use mathlib.Core.Path.{◌∙◌}
 use Rattle.stamps.specs.Stamps.{point_at, seconds_of}
-use borrow.Author.Rules.{rules}
 use Rattle.stamps.proofs.seconds_of.Goals as goal
 
 pub returns : goal.returns

@@ -8,13 +8,17 @@ use borrow.Author.Rules.{rules}
 use Rattle.stretch.proofs.brings.Goals as goal
 
 pub returns-in-Refused : goal.returns-in-Refused
-returns-in-Refused c = rw c.in-Refused.is (record { value = ((c.not_brought.ensures, (c.put_back.ensures.known_value, c.put_back.ensures.lasts_after))).0; known_value = ((c.not_brought.ensures, (c.put_back.ensures.known_value, c.put_back.ensures.lasts_after))).1; lasts_after = ((c.not_brought.ensures, (c.put_back.ensures.known_value, c.put_back.ensures.lasts_after))).2 })
+returns-in-Refused c = rw c.in-Refused.is (record { value = c.not_brought.ensures; known_value = c.put_back.ensures.known_value; lasts_after = c.put_back.ensures.lasts_after })
 
 pub returns-in-Kept : goal.returns-in-Kept
-returns-in-Kept c = rw c.in-Kept.is (record { value = ((c.not_brought-in-Kept.ensures, (refl, refl))).0; known_value = ((c.not_brought-in-Kept.ensures, (refl, refl))).1; lasts_after = ((c.not_brought-in-Kept.ensures, (refl, refl))).2 })
+returns-in-Kept c = rw c.in-Kept.is (record { value = c.not_brought-in-Kept.ensures; known_value = refl; lasts_after = refl })
 
 pub returns-in-Complete : goal.returns-in-Complete
 returns-in-Complete c =
-    let known = c.answer-in-Complete-1.given in 
-    let r = c.in-Complete.r in 
-    rw c.in-Complete.is (record { value = ((ap (λ (a : Arrival). record { refused = not (eqb a.refusal 0); code = a.refusal; number = a.number; gone = a.oldest; row = record { loss = c.in-Complete.r.values.loss; shake = c.in-Complete.r.values.shake; name = a.name } }) c.of-arrival.ensures, (refl, refl))).0; known_value = ((ap (λ (a : Arrival). record { refused = not (eqb a.refusal 0); code = a.refusal; number = a.number; gone = a.oldest; row = record { loss = c.in-Complete.r.values.loss; shake = c.in-Complete.r.values.shake; name = a.name } }) c.of-arrival.ensures, (refl, refl))).1; lasts_after = ((ap (λ (a : Arrival). record { refused = not (eqb a.refusal 0); code = a.refusal; number = a.number; gone = a.oldest; row = record { loss = c.in-Complete.r.values.loss; shake = c.in-Complete.r.values.shake; name = a.name } }) c.of-arrival.ensures, (refl, refl))).2 })
+    let r = c.in-Complete.r in
+    rw c.in-Complete.is
+    (record {
+      value = ap (λ (a : Arrival). record { refused = not (eqb a.refusal 0); code = a.refusal; number = a.number; gone = a.oldest; row = record { loss = r.values.loss; shake = r.values.shake; name = a.name } }) c.of-arrival.ensures;
+      known_value = refl;
+      lasts_after = refl;
+    })

@@ -43,4 +43,4 @@ heard b g c v w {id} {a} e-v e t h =
 pub returns : goal.returns
 returns c =
     let a = c.args in
-    heard (stations_in c.args.room.now c.args.known.now c.args.lasts.now) c.args.begun c.args.counts _ _ (twelve c.args.begun.place c.args.bytes.now) c.read32-id.ensures (c.take-answer.ensures.value, c.take-answer.ensures.room_after) (c.brings.ensures.value, c.brings.ensures.known_value, c.brings.ensures.lasts_after)
+    heard (stations_in c.args.room.now c.args.known.now c.args.lasts.now) c.args.begun c.args.counts _ _ (twelve c.args.begun.place c.args.bytes.now) c.read32-id.ensures (c.take-answer.ensures.value, c.take-answer.ensures.room_after) (c.brings.ensures.value, (c.brings.ensures.known_value, c.brings.ensures.lasts_after))

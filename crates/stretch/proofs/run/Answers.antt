@@ -112,8 +112,7 @@ loop-gauges-smaller-then-not-is_frame c =
 pub loop-gauges-preserved-then-not-is_frame : goal.loop-gauges-preserved-then-not-is_frame
 loop-gauges-preserved-then-not-is_frame c =
     let small : length c.args.out.now < 2 ^ 64 = search rules in
-    let not_a_frame : is_frame ((get_or c.args.bytes.now c.loop-gauges.i 0)) ≡ false = sym c.is_frame.ensures ∙ not-true _ (ap not c.if-not-is_frame.true) in
-    (
+    let not_a_frame : is_frame ((get_or c.args.bytes.now c.loop-gauges.i 0)) ≡ false = sym c.is_frame.ensures ∙ not-true _ (ap not c.if-not-is_frame.true) in (
       stands_slot _ _ _ _ (small) c.loop-gauges.invariant.0 c.goes_on.ensures c.loop-gauges-test.true refl c.next_item-items.ensures (not_a_frame)
           c.value_at-value.ensures c.byte-s.ensures c.serve-slot.ensures c.of.ensures c.in_use-used-then-not-is_frame.ensures refl,
       due-later _ _ _ c.loop-gauges.invariant.1 _ (omega arith),
@@ -150,8 +149,7 @@ pub loop-gauges-preserved-then-begun-ne0 : goal.loop-gauges-preserved-then-begun
 loop-gauges-preserved-then-begun-ne0 c =
     let small : length c.args.out.now < 2 ^ 64 = search rules in
     let a_frame : is_frame ((get_or c.args.bytes.now c.loop-gauges.i 0)) ≡ true = sym c.is_frame.ensures ∙ not-false _ (ap not c.if-not-is_frame.false) in
-    let due : Due (length c.args.bytes.now) (c.begin-begun.result.place + 15) c.begin-begun.result.timed = due-next _ _ _ c.begin-begun.ensures c.loop-gauges.invariant.1 in
-    (
+    let due : Due (length c.args.bytes.now) (c.begin-begun.result.place + 15) c.begin-begun.result.timed = due-next _ _ _ c.begin-begun.ensures c.loop-gauges.invariant.1 in (
       stands_none _ _ _ _ (small) c.loop-gauges.invariant.0 c.goes_on.ensures c.loop-gauges-test.true refl c.next_item-items.ensures (a_frame)
           refl (hears_stopped c.begin-begun.ensures c.if-begun-ne0.true) refl (c.put_refusal-at.ensures.value, c.put_refusal-at.ensures.out_after) c.begin-begun.ensures.ends,
       due,
@@ -191,8 +189,7 @@ loop-gauges-preserved-then-brought-eq0 c =
     let frame-comes : Framed c.args.bytes.now c.loop-gauges.i ((get_or c.args.bytes.now c.loop-gauges.i 0)) = frame_there _ _ _ _ (small) c.loop-gauges.invariant.0 c.goes_on.ensures c.loop-gauges-test.true refl c.next_item-items.ensures (a_frame) in
     let frame_is : (frame_in (part (c.begin-begun.result.place + 3) 12 c.args.bytes.now)).frame
     ≡ (frame_of ((get_or c.args.bytes.now c.loop-gauges.i 0)) (part (c.loop-gauges.i + 3) (frame_size ((get_or c.args.bytes.now c.loop-gauges.i 0))) c.args.bytes.now)).frame = times.frame_there (frame-comes).which _ _ _ c.begin-begun.ensures.ends in
-    let due : Due (length c.args.bytes.now) (c.begin-begun.result.place + 15) c.begin-begun.result.timed = due-next _ _ _ c.begin-begun.ensures c.loop-gauges.invariant.1 in
-    (
+    let due : Due (length c.args.bytes.now) (c.begin-begun.result.place + 15) c.begin-begun.result.timed = due-next _ _ _ c.begin-begun.ensures c.loop-gauges.invariant.1 in (
       stands_none _ _ _ _ (small) c.loop-gauges.invariant.0 c.goes_on.ensures c.loop-gauges-test.true refl c.next_item-items.ensures (a_frame)
           refl (hears_then c.begin-begun.ensures c.if-begun-ne0.false (frame_is) c.hear-brought.ensures) c.if-brought-eq0.true (c.put_refusal-at-in-loop-gauges.ensures.value, c.put_refusal-at-in-loop-gauges.ensures.out_after) c.begin-begun.ensures.ends,
       due,
@@ -234,8 +231,7 @@ loop-gauges-preserved c =
     let frame-comes : Framed c.args.bytes.now c.loop-gauges.i ((get_or c.args.bytes.now c.loop-gauges.i 0)) = frame_there _ _ _ _ (small) c.loop-gauges.invariant.0 c.goes_on.ensures c.loop-gauges-test.true refl c.next_item-items.ensures (a_frame) in
     let frame_is : (frame_in (part (c.begin-begun.result.place + 3) 12 c.args.bytes.now)).frame
     ≡ (frame_of ((get_or c.args.bytes.now c.loop-gauges.i 0)) (part (c.loop-gauges.i + 3) (frame_size ((get_or c.args.bytes.now c.loop-gauges.i 0))) c.args.bytes.now)).frame = times.frame_there (frame-comes).which _ _ _ c.begin-begun.ensures.ends in
-    let due : Due (length c.args.bytes.now) (c.begin-begun.result.place + 15) c.begin-begun.result.timed = due-next _ _ _ c.begin-begun.ensures c.loop-gauges.invariant.1 in
-    (
+    let due : Due (length c.args.bytes.now) (c.begin-begun.result.place + 15) c.begin-begun.result.timed = due-next _ _ _ c.begin-begun.ensures c.loop-gauges.invariant.1 in (
       stands_enters _ _ _ _ (small) c.loop-gauges.invariant.0 c.goes_on.ensures c.loop-gauges-test.true refl c.next_item-items.ensures (a_frame)
           refl (hears_then c.begin-begun.ensures c.if-begun-ne0.false (frame_is) c.hear-brought.ensures) c.if-brought-eq0.false c.place-place.ensures c.put_row-rows.ensures (c.put_refusal-at-in-loop-gauges.ensures.value, c.put_refusal-at-in-loop-gauges.ensures.out_after) c.begin-begun.ensures.ends c.loop-slot.invariant (omega arith),
       due,

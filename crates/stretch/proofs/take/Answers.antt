@@ -35,4 +35,4 @@ does log bus bytes room at {r} bus₁ {known} {lasts} e d f =
 pub returns : goal.returns
 returns c =
     let a = c.args in
-    does c.args.log c.fill.new.0 c.args.bytes.now c.args.out.now c.args.at c.run-run.new.1.0 c.fill.ensures.room_after_2.0 c.run-run.ensures c.read-standing.ensures
+    does c.args.log c.fill.new.room c.args.bytes.now c.args.out.now c.args.at c.run-run.new.bus c.fill.ensures.room_after_2.0 c.run-run.ensures c.read-standing.ensures

@@ -2,7 +2,6 @@ use mathlib.Core.Path.{sym, ◌∙◌}
 use native.Mathlib.Omega.{arith}
 use lib.ListN.{length}
 use lib.Seq.{length-take-le, take-length, take_all}
-use borrow.Author.Rules.{rules}
 use Rattle.wire.proofs.front.Goals as goal
 
 -- `wire::front` meets its contract: past the end `take` takes all.

@@ -2,7 +2,6 @@
 -- Assumes nothing.
 use mathlib.Core.Path.{sym}
 use lib.Seq.{set_out}
-use borrow.Author.Rules.{rules}
 use Rattle.wire.proofs.put.Goals as goal
 
 pub returns-else-at-buf : goal.returns-else-at-buf

@@ -2,7 +2,6 @@
 -- Assumes nothing.
 use native.Mathlib.Omega.{arith}
 use Rattle.wire.proofs.Stores.{put_half, put_four}
-use borrow.Author.Rules.{rules}
 use Rattle.wire.proofs.put32.Goals as goal
 
 pub returns-then-buf-at : goal.returns-then-buf-at

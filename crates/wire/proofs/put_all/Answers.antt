@@ -1,9 +1,8 @@
 -- `wire::put_all` meets its contract: after i turns the first i bytes of the value are stored, and what is left over falls past the end.
 -- Assumes nothing.
-use mathlib.Core.Path.{◌≡◌, refl, sym, ◌∙◌}
-use Prim.Native.Nat.{◌≤◌, ◌-◌}
-use lib.ListN.{length, take, length-set}
-use lib.Seq.{sets, take_all}
+use mathlib.Core.Path.{refl, sym, ◌∙◌}
+use lib.ListN.{length-set}
+use lib.Seq.{take_all}
 use borrow.Author.Tests.{ltb-true, ltb-false}
 use native.Mathlib.Omega.{arith}
 use Rattle.wire.proofs.Stores.{sets_past, sets_cut, sets_more}

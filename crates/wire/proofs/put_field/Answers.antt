@@ -3,7 +3,6 @@ use Prim.Native.Nat.{◌%◌}
 use lib.ListN.{length}
 use Rattle.wire.specs.Bytes.{field}
 use Rattle.wire.proofs.Stores.{put_value, head-low, sets_past}
-use borrow.Author.Rules.{rules}
 use Rattle.wire.proofs.put_field.Goals as goal
 
 pub returns-then-at-buf : goal.returns-then-at-buf

@@ -2,7 +2,6 @@ use mathlib.Core.Path.{sym, ap}
 use Rattle.wire.specs.Bytes.{bytes, head, field}
 use Rattle.wire.proofs.Numbers.{length-bytes}
 use Rattle.wire.proofs.Stores.{put_value, sets_past}
-use borrow.Author.Rules.{rules}
 use Rattle.wire.proofs.put_field32.Goals as goal
 
 pub returns-then-at-buf : goal.returns-then-at-buf

@@ -3,7 +3,6 @@
 use Rattle.wire.specs.Bytes.{head}
 use mathlib.Core.Path.{sym}
 use Rattle.wire.proofs.Stores.{put_tag, sets_past}
-use borrow.Author.Rules.{rules}
 use Rattle.wire.proofs.put_head.Goals as goal
 
 pub returns-then-at-buf : goal.returns-then-at-buf

@@ -2,7 +2,6 @@
 -- Assumes nothing.
 use mathlib.Core.Path.{sym}
 use Rattle.wire.proofs.Numbers.{number_two, number_past}
-use borrow.Author.Rules.{rules}
 use Rattle.wire.proofs.read16.Goals as goal
 
 pub returns-then-at-s : goal.returns-then-at-s

@@ -1,6 +1,5 @@
 use mathlib.Core.Path.{sym}
 use Rattle.wire.proofs.Numbers.{number_past, number-part}
-use borrow.Author.Rules.{rules}
 use Rattle.wire.proofs.read24.Goals as goal
 
 -- `wire::read24` meets its contract: a number of three bytes is its first byte and 256 times the other two.

@@ -3,7 +3,6 @@
 use mathlib.Core.Path.{sym, ◌∙◌}
 use native.Mathlib.Omega.{arith}
 use Rattle.wire.proofs.Numbers.{number_past, number_half, number_four}
-use borrow.Author.Rules.{rules}
 use Rattle.wire.proofs.read32.Goals as goal
 
 pub returns-then-s-at : goal.returns-then-s-at

@@ -1,14 +1,10 @@
 -- `capture::Sort::is_frame` meets its contract: a case for each sort that is none.
 -- Assumes nothing.
-use mathlib.Core.Path.{◌≡◌, refl, sym, ap, ap₂, ◌∙◌}
+use mathlib.Core.Path.{◌≡◌, refl}
 use mathlib.Core.Bool.{true}
-use mathlib.Core.List.{List, [], ◌∷◌}
-use Prim.Native.Nat.{ℕ}
-use types.Run.{miss}
 use Rattle.capture.specs.declared.Sort.{Sort}
 use Rattle.capture.specs.declared.Sort.TheVariants as sort
 use Rattle.capture.specs.Capture.{is_frame}
-use borrow.Author.Rules.{rules}
 use Rattle.capture.proofs.Sort.is_frame.Goals as goal
 
 -- Any other sort than these.
@@ -37,7 +33,4 @@ pub returns-in-Broken : goal.returns-in-Broken
 returns-in-Broken c = rw c.in-Broken.is
 
 pub returns-in_default : goal.returns-in_default
-returns-in_default c =
-    let k = c.in_default.in_default-own.keys4 in
-    let at : List ℕ = 0 ∷ 1 ∷ 2 ∷ 3 ∷ 4 ∷ 5 ∷ 6 ∷ 7 ∷ 8 ∷ 9 ∷ [] in
-    some c.args.self (λ e. miss at 10 tt (rw e at k)) (λ e. miss at 11 tt (rw e at k)) (λ e. miss at 12 tt (rw e at k))
+returns-in_default c = some c.args.self c.in_default.not-Dropped c.in_default.not-Nothing c.in_default.not-Broken

@@ -12,7 +12,6 @@ use Rattle.capture.specs.declared.Sort.{Sort}
 use Rattle.capture.specs.declared.Sort.TheVariants as sort
 use Rattle.capture.specs.Capture.{id_size, data_text, id_in, hex_in, sort_of_frame}
 use Rattle.capture.proofs.Frames.{size}
-use borrow.Author.Rules.{rules}
 use Rattle.capture.proofs.Sort.of_frame.Goals as goal
 
 -- What is left of the definition behind its first tests.
@@ -42,13 +41,13 @@ pub returns-then-not-id : goal.returns-then-not-id
 unfolding sort_of_frame
 returns-then-not-id c =
     let id_is : c.identifier-id.result ≡ id_in (c.args.word.now) = c.identifier-id.ensures in
-    rw (ap (λ (n : Number). not n.known) (sym (id_is)) ∙ (ap not c.if-not-id.true))
+    rw (ap (λ (n : Number). not n.known) (sym (id_is)) ∙ c.if-not-id.true)
 
 pub returns-then-first-eq35 : goal.returns-then-first-eq35
 unfolding sort_of_frame
 returns-then-first-eq35 c =
     let id_is : c.identifier-id.result ≡ id_in (c.args.word.now) = c.identifier-id.ensures in
-    let no_id : sort_of_frame (c.args.word.now) ≡ at_fd (c.args.word.now) = rw (ap (λ (n : Number). not n.known) (sym (id_is)) ∙ (ap not c.if-not-id.false)) in
+    let no_id : sort_of_frame (c.args.word.now) ≡ at_fd (c.args.word.now) = rw (ap (λ (n : Number). not n.known) (sym (id_is)) ∙ c.if-not-id.false) in
     let text-is : (c.digits-d.result.now) ≡ data_text (c.args.word.now) = c.digits-d.ensures in
     let first-is : c.byte-first.result ≡ get_or (data_text (c.args.word.now)) 0 0 = c.byte-first.ensures ∙ ap (λ (l : List ℕ). get_or l 0 0) (text-is) in
     rw (no_id, eq-eqb _ 35 (sym (first-is) ∙ c.if-first-eq35.true))
@@ -57,7 +56,7 @@ pub returns-then-first-eq82 : goal.returns-then-first-eq82
 unfolding sort_of_frame
 returns-then-first-eq82 c =
     let id_is : c.identifier-id.result ≡ id_in (c.args.word.now) = c.identifier-id.ensures in
-    let no_id : sort_of_frame (c.args.word.now) ≡ at_fd (c.args.word.now) = rw (ap (λ (n : Number). not n.known) (sym (id_is)) ∙ (ap not c.if-not-id.false)) in
+    let no_id : sort_of_frame (c.args.word.now) ≡ at_fd (c.args.word.now) = rw (ap (λ (n : Number). not n.known) (sym (id_is)) ∙ c.if-not-id.false) in
     let text-is : (c.digits-d.result.now) ≡ data_text (c.args.word.now) = c.digits-d.ensures in
     let first-is : c.byte-first.result ≡ get_or (data_text (c.args.word.now)) 0 0 = c.byte-first.ensures ∙ ap (λ (l : List ℕ). get_or l 0 0) (text-is) in
     let no_fd : sort_of_frame (c.args.word.now) ≡ at_remote (c.args.word.now) = no_id ∙ rw (ne_eqb (get_or (data_text (c.args.word.now)) 0 0) 35 (λ e. c.if-first-eq35.false (first-is ∙ e))) in
@@ -67,7 +66,7 @@ pub returns-then-d-gt-DATA_DIGITS : goal.returns-then-d-gt-DATA_DIGITS
 unfolding sort_of_frame
 returns-then-d-gt-DATA_DIGITS c =
     let id_is : c.identifier-id.result ≡ id_in (c.args.word.now) = c.identifier-id.ensures in
-    let no_id : sort_of_frame (c.args.word.now) ≡ at_fd (c.args.word.now) = rw (ap (λ (n : Number). not n.known) (sym (id_is)) ∙ (ap not c.if-not-id.false)) in
+    let no_id : sort_of_frame (c.args.word.now) ≡ at_fd (c.args.word.now) = rw (ap (λ (n : Number). not n.known) (sym (id_is)) ∙ c.if-not-id.false) in
     let text-is : (c.digits-d.result.now) ≡ data_text (c.args.word.now) = c.digits-d.ensures in
     let first-is : c.byte-first.result ≡ get_or (data_text (c.args.word.now)) 0 0 = c.byte-first.ensures ∙ ap (λ (l : List ℕ). get_or l 0 0) (text-is) in
     let no_fd : sort_of_frame (c.args.word.now) ≡ at_remote (c.args.word.now) = no_id ∙ rw (ne_eqb (get_or (data_text (c.args.word.now)) 0 0) 35 (λ e. c.if-first-eq35.false (first-is ∙ e))) in
@@ -78,7 +77,7 @@ pub returns-then-not-hexadecimal : goal.returns-then-not-hexadecimal
 unfolding sort_of_frame
 returns-then-not-hexadecimal c =
     let id_is : c.identifier-id.result ≡ id_in (c.args.word.now) = c.identifier-id.ensures in
-    let no_id : sort_of_frame (c.args.word.now) ≡ at_fd (c.args.word.now) = rw (ap (λ (n : Number). not n.known) (sym (id_is)) ∙ (ap not c.if-not-id.false)) in
+    let no_id : sort_of_frame (c.args.word.now) ≡ at_fd (c.args.word.now) = rw (ap (λ (n : Number). not n.known) (sym (id_is)) ∙ c.if-not-id.false) in
     let text-is : (c.digits-d.result.now) ≡ data_text (c.args.word.now) = c.digits-d.ensures in
     let first-is : c.byte-first.result ≡ get_or (data_text (c.args.word.now)) 0 0 = c.byte-first.ensures ∙ ap (λ (l : List ℕ). get_or l 0 0) (text-is) in
     let no_fd : sort_of_frame (c.args.word.now) ≡ at_remote (c.args.word.now) = no_id ∙ rw (ne_eqb (get_or (data_text (c.args.word.now)) 0 0) 35 (λ e. c.if-first-eq35.false (first-is ∙ e))) in
@@ -91,7 +90,7 @@ pub returns-then-id-ge-ERROR_BIT : goal.returns-then-id-ge-ERROR_BIT
 unfolding sort_of_frame
 returns-then-id-ge-ERROR_BIT c =
     let id_is : c.identifier-id.result ≡ id_in (c.args.word.now) = c.identifier-id.ensures in
-    let no_id : sort_of_frame (c.args.word.now) ≡ at_fd (c.args.word.now) = rw (ap (λ (n : Number). not n.known) (sym (id_is)) ∙ (ap not c.if-not-id.false)) in
+    let no_id : sort_of_frame (c.args.word.now) ≡ at_fd (c.args.word.now) = rw (ap (λ (n : Number). not n.known) (sym (id_is)) ∙ c.if-not-id.false) in
     let text-is : (c.digits-d.result.now) ≡ data_text (c.args.word.now) = c.digits-d.ensures in
     let first-is : c.byte-first.result ≡ get_or (data_text (c.args.word.now)) 0 0 = c.byte-first.ensures ∙ ap (λ (l : List ℕ). get_or l 0 0) (text-is) in
     let no_fd : sort_of_frame (c.args.word.now) ≡ at_remote (c.args.word.now) = no_id ∙ rw (ne_eqb (get_or (data_text (c.args.word.now)) 0 0) 35 (λ e. c.if-first-eq35.false (first-is ∙ e))) in
@@ -105,7 +104,7 @@ pub returns-then-length-eq-SHORT_DIGITS : goal.returns-then-length-eq-SHORT_DIGI
 unfolding sort_of_frame
 returns-then-length-eq-SHORT_DIGITS c =
     let id_is : c.identifier-id.result ≡ id_in (c.args.word.now) = c.identifier-id.ensures in
-    let no_id : sort_of_frame (c.args.word.now) ≡ at_fd (c.args.word.now) = rw (ap (λ (n : Number). not n.known) (sym (id_is)) ∙ (ap not c.if-not-id.false)) in
+    let no_id : sort_of_frame (c.args.word.now) ≡ at_fd (c.args.word.now) = rw (ap (λ (n : Number). not n.known) (sym (id_is)) ∙ c.if-not-id.false) in
     let text-is : (c.digits-d.result.now) ≡ data_text (c.args.word.now) = c.digits-d.ensures in
     let first-is : c.byte-first.result ≡ get_or (data_text (c.args.word.now)) 0 0 = c.byte-first.ensures ∙ ap (λ (l : List ℕ). get_or l 0 0) (text-is) in
     let no_fd : sort_of_frame (c.args.word.now) ≡ at_remote (c.args.word.now) = no_id ∙ rw (ne_eqb (get_or (data_text (c.args.word.now)) 0 0) 35 (λ e. c.if-first-eq35.false (first-is ∙ e))) in
@@ -121,7 +120,7 @@ pub returns-then-d-eq-DATA_DIGITS : goal.returns-then-d-eq-DATA_DIGITS
 unfolding sort_of_frame
 returns-then-d-eq-DATA_DIGITS c =
     let id_is : c.identifier-id.result ≡ id_in (c.args.word.now) = c.identifier-id.ensures in
-    let no_id : sort_of_frame (c.args.word.now) ≡ at_fd (c.args.word.now) = rw (ap (λ (n : Number). not n.known) (sym (id_is)) ∙ (ap not c.if-not-id.false)) in
+    let no_id : sort_of_frame (c.args.word.now) ≡ at_fd (c.args.word.now) = rw (ap (λ (n : Number). not n.known) (sym (id_is)) ∙ c.if-not-id.false) in
     let text-is : (c.digits-d.result.now) ≡ data_text (c.args.word.now) = c.digits-d.ensures in
     let first-is : c.byte-first.result ≡ get_or (data_text (c.args.word.now)) 0 0 = c.byte-first.ensures ∙ ap (λ (l : List ℕ). get_or l 0 0) (text-is) in
     let no_fd : sort_of_frame (c.args.word.now) ≡ at_remote (c.args.word.now) = no_id ∙ rw (ne_eqb (get_or (data_text (c.args.word.now)) 0 0) 35 (λ e. c.if-first-eq35.false (first-is ∙ e))) in
@@ -138,7 +137,7 @@ pub returns : goal.returns
 unfolding sort_of_frame
 returns c =
     let id_is : c.identifier-id.result ≡ id_in (c.args.word.now) = c.identifier-id.ensures in
-    let no_id : sort_of_frame (c.args.word.now) ≡ at_fd (c.args.word.now) = rw (ap (λ (n : Number). not n.known) (sym (id_is)) ∙ (ap not c.if-not-id.false)) in
+    let no_id : sort_of_frame (c.args.word.now) ≡ at_fd (c.args.word.now) = rw (ap (λ (n : Number). not n.known) (sym (id_is)) ∙ c.if-not-id.false) in
     let text-is : (c.digits-d.result.now) ≡ data_text (c.args.word.now) = c.digits-d.ensures in
     let first-is : c.byte-first.result ≡ get_or (data_text (c.args.word.now)) 0 0 = c.byte-first.ensures ∙ ap (λ (l : List ℕ). get_or l 0 0) (text-is) in
     let no_fd : sort_of_frame (c.args.word.now) ≡ at_remote (c.args.word.now) = no_id ∙ rw (ne_eqb (get_or (data_text (c.args.word.now)) 0 0) 35 (λ e. c.if-first-eq35.false (first-is ∙ e))) in

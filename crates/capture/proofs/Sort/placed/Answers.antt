@@ -1,15 +1,10 @@
 -- `capture::Sort::placed` meets its contract: on another interface a frame that can be read is elsewhere.
 -- Assumes nothing.
-use mathlib.Core.Path.{◌≡◌, refl, sym}
-use mathlib.Core.Bool.{Bool, true, false, cond, not, ◌&&◌}
-use mathlib.Core.List.{[], ◌∷◌}
-use borrow.Author.Tests.{not-true, not-false}
-use types.Run.{miss}
+use mathlib.Core.Path.{◌≡◌, refl}
+use mathlib.Core.Bool.{true, cond, not, ◌&&◌}
 use Rattle.capture.specs.declared.Sort.{Sort}
 use Rattle.capture.specs.declared.Sort.TheVariants as sort
 use Rattle.capture.specs.Capture.{is, placed}
-use borrow.Author.Rules.{rules}
-use mathlib.Core.Path.{ap}
 use Rattle.capture.proofs.Sort.placed.Goals as goal
 
 -- Any other sort than Broken.
@@ -30,12 +25,12 @@ some sort.Broken h = absurd (h refl)
 
 pub returns-then-not-elsewhere : goal.returns-then-not-elsewhere
 unfolding placed
-returns-then-not-elsewhere c = rw (not-true c.args.elsewhere (ap not c.if-not-elsewhere.true))
+returns-then-not-elsewhere c = rw (c.if-not-elsewhere.true)
 
 pub returns-in-Broken : goal.returns-in-Broken
 unfolding placed
-returns-in-Broken c = rw (not-false c.args.elsewhere (ap not c.if-not-elsewhere.false), c.in-Broken.is)
+returns-in-Broken c = rw (c.if-not-elsewhere.false, c.in-Broken.is)
 
 pub returns-in_default : goal.returns-in_default
 unfolding placed
-returns-in_default c = rw (not-false c.args.elsewhere (ap not c.if-not-elsewhere.false)) (some c.args.self (λ e. miss (0 ∷ 1 ∷ 2 ∷ 3 ∷ 4 ∷ 5 ∷ 6 ∷ 7 ∷ 8 ∷ 9 ∷ 10 ∷ 11 ∷ []) 12 tt (rw e at c.in_default.in_default-own.keys2)))
+returns-in_default c = rw (c.if-not-elsewhere.false) (some c.args.self c.in_default.not-Broken)

@@ -3,7 +3,6 @@
 use mathlib.Core.Path.{◌∙◌}
 use Rattle.commands.specs.declared.Kind.TheVariants as kind
 use Rattle.commands.proofs.Reading.{by_first}
-use borrow.Author.Rules.{rules}
 use Rattle.commands.proofs.Command.of.Goals as goal
 
 pub returns-in-Nothing : goal.returns-in-Nothing

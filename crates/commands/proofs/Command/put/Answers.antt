@@ -11,7 +11,6 @@ use Rattle.items.specs.Run.{run_bytes}
 use Rattle.commands.specs.declared.Command.TheVariants as command
 use Rattle.commands.specs.declared.Answer.TheVariants as answer
 use Rattle.commands.proofs.Writing.{put_is}
-use borrow.Author.Rules.{rules}
 use Rattle.commands.proofs.Command.put.Goals as goal
 
 alone : (i : Item) → item_bytes i [] ≡ run_bytes (record { item = i; data_bytes = [] } ∷ [])
@@ -24,14 +23,17 @@ returns-in-Nothing c = let a = c.args in record { value = (put_is c.args.time c.
 
 pub returns-in-Item : goal.returns-in-Item
 returns-in-Item c =
-    let a = c.args in 
-    let i = c.in-Item.i in record { value = (put_is c.args.time c.args.self (command.Item i) c.args.note.now c.args.room.now c.in-Item.is (
-      ap answer.Items (c.put-size.ensures.value ∙ ap (λ (ds : List ℕ). length (item_bytes i ds)) c.front.ensures ∙ ap length (alone i)),
-      c.put-size.ensures.room_after ∙ ap (λ (ds : List ℕ). sets c.args.room.now 0 (item_bytes i ds)) c.front.ensures ∙ ap (sets c.args.room.now 0) (alone i),
-    )).0; room_after = (put_is c.args.time c.args.self (command.Item i) c.args.note.now c.args.room.now c.in-Item.is (
-      ap answer.Items (c.put-size.ensures.value ∙ ap (λ (ds : List ℕ). length (item_bytes i ds)) c.front.ensures ∙ ap length (alone i)),
-      c.put-size.ensures.room_after ∙ ap (λ (ds : List ℕ). sets c.args.room.now 0 (item_bytes i ds)) c.front.ensures ∙ ap (sets c.args.room.now 0) (alone i),
-    )).1 }
+    let a = c.args in
+    let i = c.in-Item.i in record {
+      value = (put_is c.args.time c.args.self (command.Item i) c.args.note.now c.args.room.now c.in-Item.is (
+        ap answer.Items (c.put-size.ensures.value ∙ ap (λ (ds : List ℕ). length (item_bytes i ds)) c.front.ensures ∙ ap length (alone i)),
+        c.put-size.ensures.room_after ∙ ap (λ (ds : List ℕ). sets c.args.room.now 0 (item_bytes i ds)) c.front.ensures ∙ ap (sets c.args.room.now 0) (alone i),
+      )).0;
+      room_after = (put_is c.args.time c.args.self (command.Item i) c.args.note.now c.args.room.now c.in-Item.is (
+        ap answer.Items (c.put-size.ensures.value ∙ ap (λ (ds : List ℕ). length (item_bytes i ds)) c.front.ensures ∙ ap length (alone i)),
+        c.put-size.ensures.room_after ∙ ap (λ (ds : List ℕ). sets c.args.room.now 0 (item_bytes i ds)) c.front.ensures ∙ ap (sets c.args.room.now 0) (alone i),
+      )).1;
+    }
 
 pub returns-in-Report : goal.returns-in-Report
 returns-in-Report c = let a = c.args in record { value = (put_is c.args.time c.args.self (command.Report c.in-Report.s) c.args.note.now c.args.room.now c.in-Report.is (c.put_report.ensures.value, c.put_report.ensures.room_after)).0; room_after = (put_is c.args.time c.args.self (command.Report c.in-Report.s) c.args.note.now c.args.room.now c.in-Report.is (c.put_report.ensures.value, c.put_report.ensures.room_after)).1 }

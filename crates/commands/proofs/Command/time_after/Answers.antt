@@ -1,13 +1,10 @@
 -- `commands::Command::time_after` meets its contract: the time that a command sets, or the one before it.
 -- Assumes nothing.
 use mathlib.Core.Path.{◌≡◌, refl}
-use mathlib.Core.List.{[], ◌∷◌}
-use types.Run.{miss}
 use Rattle.commands.specs.declared.Time.{Time}
 use Rattle.commands.specs.declared.Command.{Command}
 use Rattle.commands.specs.declared.Command.TheVariants as command
 use Rattle.commands.specs.Items.{time_after}
-use borrow.Author.Rules.{rules}
 use Rattle.commands.proofs.Command.time_after.Goals as goal
 
 -- A command that sets no time leaves it.
@@ -19,6 +16,4 @@ stays t (command.Time u) h = absurd (h u refl)
 stays t (command.Wrong f) h = refl
 
 pub returns-in_default : goal.returns-in_default
-returns-in_default c =
-    let k = c.in_default.in_default-own.keys2 in
-    stays c.args.time c.args.self (λ u e. miss (0 ∷ 1 ∷ 2 ∷ 4 ∷ []) 3 tt (rw e at k))
+returns-in_default c = stays c.args.time c.args.self c.in_default.not-Time

@@ -10,7 +10,6 @@ use Rattle.wire.specs.Bytes.{same}
 use Rattle.commands.specs.declared.Kind.{Kind}
 use Rattle.commands.specs.declared.Kind.TheVariants as kind
 use Rattle.commands.specs.Lines.{window_word, question_word, remove_word, show_word, report_word, noted_word, time_word, untimed_word, heated_word, heated_noted_word, kind_of}
-use borrow.Author.Rules.{rules}
 use Rattle.commands.proofs.Kind.of.Goals as goal
 
 -- What is left of the definition behind its first tests.

@@ -1,14 +1,11 @@
 -- `dump::Data::put` meets its contract: one letter, or the pairs and the mark behind them.
 -- Assumes nothing.
-use mathlib.Core.Path.{◌≡◌, refl, sym, ap, ◌∙◌}
-use mathlib.Core.List.{◌++◌}
+use mathlib.Core.Path.{◌∙◌}
 use native.Mathlib.Omega.{arith}
-use lib.ListN.{length, length-append}
-use lib.Seq.{sets}
+use lib.ListN.{length-append}
 use Rattle.wire.proofs.Stores.{sets-append}
-use Rattle.dump.specs.Dump.{pairs_in, mark_of, text_of}
+use Rattle.dump.specs.Dump.{text_of}
 use Rattle.dump.proofs.Texts.{pairs_length, mark_most}
-use borrow.Author.Rules.{rules}
 use Rattle.dump.proofs.Data.put.Goals as goal
 
 pub overflow_add-result : goal.overflow_add-result

@@ -1,8 +1,7 @@
 -- `stamps::Stamp::dated` meets its contract: the date, the time of day, and the fraction behind it.
 -- Assumes nothing.
-use mathlib.Core.Path.{◌≡◌, refl, sym, ap, ◌∙◌}
+use mathlib.Core.Path.{◌∙◌}
 use Rattle.stamps.specs.Stamps.{dated_in}
-use borrow.Author.Rules.{rules}
 use Rattle.stamps.proofs.Stamp.dated.Goals as goal
 
 pub returns : goal.returns

@@ -1,8 +1,7 @@
 -- `stamps::Stamp::seconds` meets its contract: the text in the brackets.
 -- Assumes nothing.
-use mathlib.Core.Path.{◌≡◌, ap, ◌∙◌}
+use mathlib.Core.Path.{ap, ◌∙◌}
 use Rattle.stamps.specs.Stamps.{seconds_of, seconds_in}
-use borrow.Author.Rules.{rules}
 use Rattle.stamps.proofs.Stamp.seconds.Goals as goal
 
 pub returns : goal.returns

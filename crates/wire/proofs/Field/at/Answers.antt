@@ -2,7 +2,6 @@
 -- Assumes nothing.
 use native.Mathlib.Omega.{arith}
 use Rattle.wire.proofs.Fields.{cut_short, cut_over, whole}
-use borrow.Author.Rules.{rules}
 use Rattle.wire.proofs.Field.at.Goals as goal
 
 pub returns-then-s-lt-HEAD : goal.returns-then-s-lt-HEAD

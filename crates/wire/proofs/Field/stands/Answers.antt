@@ -4,7 +4,6 @@ use mathlib.Core.Path.{sym, ◌∙◌, ap}
 use borrow.Author.Tests.{eq-eqb, ne_eqb}
 use Rattle.wire.specs.declared.Field.{Field}
 use Rattle.wire.specs.Bytes.{is_field}
-use borrow.Author.Rules.{rules}
 use Rattle.wire.proofs.Field.stands.Goals as goal
 
 pub returns-then-t-tag : goal.returns-then-t-tag

@@ -1,6 +1,6 @@
 -- `orders::extras::Extras::read` is safe and ends: the turns that are left fall.
 -- Assumes nothing.
-use Rattle.std.proofs.Common.{◌-◌, rules}
+use Rattle.std.proofs.Common.{◌-◌}
 use Rattle.orders.proofs.extras.Extras.read.Given as goal
 
 abbrev pub invariant-loop-i : goal.invariant-loop-i
