@@ -1,5 +1,5 @@
 -- What `run` was given and printed, turn by turn.
-use Rattle.std.proofs.Common.{◌≡◌, ◌+◌, ◌-◌, ◌<◌, ◌≤◌, length, take, drop, refl, sym, ap, ◌∙◌, arith, rules}
+use Rattle.std.proofs.Common.{refl, sym, ◌∙◌, arith}
 use Rattle.std.proofs.lemmas.Bool.{false≢true}
 use Rattle.cart.proofs.Handing.{none_left, none_came, took_within, read_small, read_so, read_end, running_begun, running_read, running_ended, running_took, left_of, all_handed_over}
 use Rattle.cart.proofs.run.Goals as goal
@@ -16,7 +16,7 @@ loop-turns-preserved-then-n-eq0 g c =
       within = omega arith;
       small = omega (arith, read_small c.read-got.result space c.unwrap_or-n.ensures c.read-got.ensures.bound);
       running = running_ended l.invariant.running c.loop-turns-test.true _ _ c.is_end-ended.result (none_left l.space c.if-at-n.true) got (none_came space c.if-n-eq0.true)
-        (λ f. read_end c.read-got.result space c.unwrap_or-n.ensures _ _ c.read-got.ensures.bytes c.if-n-eq0.true (sym c.is_err-failed.ensures.value ∙ c.is_end-ended.ensures f) (omega arith));
+          (λ f. read_end c.read-got.result space c.unwrap_or-n.ensures _ _ c.read-got.ensures.bytes c.if-n-eq0.true (sym c.is_err-failed.ensures.value ∙ c.is_end-ended.ensures f) (omega arith));
     }
 
 pub loop-turns-preserved-else-n-eq0 : goal.loop-turns-preserved-else-n-eq0

@@ -9,7 +9,7 @@ invariant-loop-turns g l =
       within : l.at ≤ l.n;
       small : l.n ≤ 65536;
       running : Running (g.R.Read.remaining l.initial.input) (g.R.Read.remaining l.input) (g.W.Write.contents l.initial.out) (g.W.Write.contents l.out)
-        l.log l.waiting (take (l.n - l.at) (drop l.at l.space)) l.ended l.turns;
+          l.log l.waiting (take (l.n - l.at) (drop l.at l.space)) l.ended l.turns;
     }
 
 abbrev pub decreases-loop-turns : goal.decreases-loop-turns
