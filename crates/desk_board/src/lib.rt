@@ -1,5 +1,6 @@
 // The desk's calls on the board: each is made, and what it answers is written to the front of `out`.
 #![tactic(auto)]
+
 ghost use Rattle.std.specs.Prelude.{◌<◌};
 ghost use Rattle.window.specs.Rows.{row_count};
 

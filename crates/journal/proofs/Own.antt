@@ -13,10 +13,9 @@ use lib.ListN.{length, take, length-map, length-take, get_or-replicate}
 use Rattle.values.specs.declared.Values.{Values}
 use Rattle.values.specs.Range.{in_range}
 use Rattle.ranking.specs.Cells.{weights_fit, ranges_proper, ties_known}
-use Rattle.ranking.specs.declared.Weights.{Weights}
 use Rattle.ranking.specs.declared.Rule.{Rule}
 use Rattle.laws.proofs.Tests.{Tested, passed, failed, tested, and_both, if_so, if_not, either}
-use Rattle.laws.proofs.Lists.{there, get_d_in}
+use Rattle.laws.proofs.Lists.{get_d_in}
 use Rattle.window.specs.declared.Fresh.{Fresh}
 use Rattle.window.specs.Rows.{sized, fresh_window, fit_window, added}
 use Rattle.window.specs.declared.Counts.{Counts}
@@ -62,7 +61,7 @@ use Rattle.items.specs.declared.Item.TheVariants.{Window, Set, Remove, Show, Set
 use Rattle.items.specs.declared.Item.TheVariants as item
 use Rattle.items.specs.Items.{data_of, item_in}
 use Rattle.journal.specs.declared.Log.{Log}
-use Rattle.journal.specs.Log.{Outcome, fresh_log, with_item, next_item, stations_of, with_board, with_stations, unless, early, item_refusal, window_item, weights_of, setting_rule, set_item, remove_item, show_item, s_lines, enter_item, answer_item, frame_item, by_item, item_done}
+use Rattle.journal.specs.Log.{Outcome, fresh_log, with_item, next_item, stations_of, with_board, with_stations, unless, early, item_refusal, window_item, setting_rule, set_item, remove_item, show_item, s_lines, enter_item, answer_item, frame_item, by_item, item_done}
 use Rattle.journal.specs.Reached.{framed, frame_of, entered_by}
 use Rattle.journal.proofs.Printed.{Code, Prints, nothing, refusal, search, searches, list}
 use Rattle.journal.proofs.Answers.{none_yet, answer, nothing_more, one_more, enter-refusal, enters_when}

@@ -8,7 +8,7 @@ use Prim.Native.Nat.{ℕ, min, ◌+◌, ◌-◌, ◌≤◌, ◌<◌}
 use native.Mathlib.Omega.{arith}
 use borrow.Author.Tests.{eqb-true, eq-eqb, lt-ltb, ltb-true, ltb-false}
 use lib.Dec.{ltb, eqb}
-use lib.ListN.{length, get_or, set, drop, replicate, length-set, length-replicate, get_or-replicate, length-append, length-map}
+use lib.ListN.{length, get_or, drop, replicate, length-set, length-replicate, get_or-replicate, length-append, length-map}
 use lib.Seq.{drop-append-le, drop-drop, drop-nil}
 use Rattle.laws.proofs.Tests.{Tested, passed, failed, tested, and_after, if_so, if_not}
 use Rattle.laws.proofs.Lists.{map-append}

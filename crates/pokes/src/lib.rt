@@ -1,5 +1,6 @@
 // Boards made up by hand, as the desk's pokes ask for them, the slots of a board, and a rule with what a line says in brackets.
 #![tactic(auto)]
+
 use board::Board;
 use list::Lines;
 use orders::{BoardOrder, Extras, Said};

@@ -1,5 +1,6 @@
 // An item for one slot, done over the rows that are lent: what the slot holds then, and the line that is printed.
 #![tactic(auto)]
+
 ghost use Rattle.std.specs.Prelude.{◌≡◌, cond, []};
 ghost use Rattle.std.proofs.lemmas.List.Edits.{sets};
 ghost use Rattle.text.specs.Text.{behind, r_line};

@@ -12,7 +12,6 @@ use lib.ListN.{length, take, drop}
 use lib.Seq.{drop-drop}
 use Rattle.wire.specs.Bytes.{number, part}
 use Rattle.window.specs.declared.Counts.{Counts}
-use Rattle.joining.specs.declared.Answer.{Answer}
 use Rattle.joining.specs.declared.Answer.TheVariants.{Refused}
 use Rattle.joining.specs.Frame.{Frame, sender_of}
 use Rattle.bus.specs.Room.{room_bytes}
@@ -26,7 +25,7 @@ use Rattle.stretch.specs.declared.Brought.{Brought}
 use Rattle.stretch.specs.declared.Begun.{Begun}
 use Rattle.coming.proofs.Parts.{drop-take}
 use Rattle.coming.specs.Inner.{frame_size}
-use Rattle.stretch.specs.Inner.{not_brought, frame_of, times_by, Hears, Begins, HearsAt}
+use Rattle.stretch.specs.Inner.{not_brought, frame_of, Hears, Begins, HearsAt}
 
 pub sixteen : {tag : ℕ} → tag ≡ 21 → frame_size tag ≡ 16
 unfolding frame_size

@@ -1,5 +1,5 @@
 -- What the inner functions of `stretch` answer, and what its proofs speak of; no public contract and no promise cites it.
-use Rattle.std.specs.Prelude.{ℕ, ◌+◌, Bool, true, false, not, cond, ◌||◌, ◌≡◌, ◌⊎◌, List, set, length, leb, eqb}
+use Rattle.std.specs.Prelude.{ℕ, ◌+◌, Bool, true, false, not, cond, ◌≡◌, ◌⊎◌, List, set, length, leb, eqb}
 use Rattle.std.proofs.lemmas.List.Edits.{sets}
 use Rattle.window.specs.declared.Counts.{Counts}
 use Rattle.window.specs.declared.Row.{Row}
@@ -15,7 +15,7 @@ use Rattle.joining.specs.Frame.{Frame, sender_of}
 use Rattle.joining.specs.Run.{sessions_after, answer_to}
 use Rattle.times.specs.declared.Times.{Times}
 use Rattle.times.specs.Timed.{is_kept, put_last}
-use Rattle.times.specs.Run.{Timed, Stations, timed_answer, Takes}
+use Rattle.times.specs.Run.{Timed, Stations, Takes}
 use Rattle.journal.specs.Log.{frame_in, timed_in}
 use Rattle.stretch.specs.declared.Brought.{Brought}
 use Rattle.stretch.specs.declared.Begun.{Begun}

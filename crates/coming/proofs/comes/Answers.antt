@@ -2,7 +2,6 @@
 -- Assumes nothing.
 use mathlib.Core.Path.{sym, ◌∙◌}
 use borrow.Author.Tests.{le-leb, lt-leb}
-use borrow.Author.Rules.{rules}
 use Rattle.coming.specs.Coming.{comes}
 use Rattle.coming.proofs.Coming.{none_past}
 use Rattle.coming.proofs.comes.Goals as goal

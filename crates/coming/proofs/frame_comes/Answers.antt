@@ -2,7 +2,6 @@
 -- Assumes nothing.
 use mathlib.Core.Path.{sym, ◌∙◌}
 use Rattle.coming.specs.Coming.{frame_comes}
-use borrow.Author.Rules.{rules}
 use Rattle.coming.proofs.frame_comes.Goals as goal
 
 pub returns-then-item_comes : goal.returns-then-item_comes

@@ -2,7 +2,6 @@
 -- Assumes nothing.
 use mathlib.Core.Path.{sym, ◌∙◌}
 use mathlib.Core.Bool.{and-false, and-true}
-use borrow.Author.Rules.{rules}
 use Rattle.coming.proofs.goes_on.Goals as goal
 
 pub returns-then-has_room : goal.returns-then-has_room

@@ -7,7 +7,6 @@ use borrow.Author.Tests.{eq-eqb, ne_eqb, le-leb, lt-leb}
 use lib.Dec.{eqb}
 use lib.ListN.{length, get_or}
 use Rattle.coming.specs.Coming.{item_comes}
-use borrow.Author.Rules.{rules}
 use Rattle.coming.proofs.item_comes.Goals as goal
 
 pub returns-then-bytes-i : goal.returns-then-bytes-i

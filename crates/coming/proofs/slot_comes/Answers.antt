@@ -6,11 +6,9 @@ use Prim.Native.Nat.{ℕ, ◌≤◌, ◌<◌}
 use native.Mathlib.Omega.{arith}
 use borrow.Author.Tests.{lt-ltb, le-ltb, eq-eqb, ne_eqb}
 use lib.Dec.{ltb}
-use lib.ListN.{get_or}
 use Rattle.coming.specs.Coming.{item_comes, slot_comes}
 use Rattle.coming.specs.Inner.{slot_size}
 use Rattle.coming.proofs.Coming.{slot_tag, slot_small}
-use borrow.Author.Rules.{rules}
 use Rattle.coming.proofs.slot_comes.Goals as goal
 
 no_slot : {s n : ℕ} → s ≡ n → 32 ≤ s → ltb n 32 ≡ false

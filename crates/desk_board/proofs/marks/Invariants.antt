@@ -1,6 +1,6 @@
 -- `desk_board::marks` is safe and ends: the test keeps the index in the cells, and what is left of them falls.
 -- Assumes nothing.
-use Rattle.std.proofs.Common.{◌≡◌, ◌-◌, length, rules}
+use Rattle.std.proofs.Common.{◌≡◌, ◌-◌, length}
 use Rattle.desk_board.proofs.marks.Given as goal
 
 abbrev pub invariant-loop-i : goal.invariant-loop-i

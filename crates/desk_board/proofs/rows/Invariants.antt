@@ -1,6 +1,6 @@
 -- `desk_board::rows` is safe and ends: each row is tested, and those that are left fall.
 -- Assumes nothing.
-use Rattle.std.proofs.Common.{◌≡◌, ◌-◌, length, rules}
+use Rattle.std.proofs.Common.{◌≡◌, ◌-◌, length}
 use Rattle.desk_board.proofs.rows.Given as goal
 
 abbrev pub invariant-loop-i : goal.invariant-loop-i

@@ -2,7 +2,6 @@
 -- Assumes nothing.
 use native.Mathlib.Omega.{arith}
 use Rattle.journal.specs.Log.{next_item}
-use borrow.Author.Rules.{rules}
 use Rattle.journal.proofs.next_item.Goals as goal
 
 pub returns-then-items-most : goal.returns-then-items-most

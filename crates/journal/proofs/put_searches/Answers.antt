@@ -3,11 +3,11 @@
 use mathlib.Core.Path.{◌≡◌, refl, sym, ap₂}
 use mathlib.Core.Bool.{Bool, false}
 use mathlib.Core.List.{List}
-use Prim.Native.Nat.{ℕ, ◌-◌, ◌^◌, ◌≤◌, ◌<◌}
+use Prim.Native.Nat.{ℕ, ◌^◌, ◌<◌}
 use native.Mathlib.Omega.{arith}
 use lib.ListN.{length, take}
 use lib.Seq.{take_all}
-use Rattle.text.proofs.Places.{Put, put, then, said, both, none}
+use Rattle.text.proofs.Places.{put, then, said, both, none}
 use Rattle.journal.specs.Log.{s_lines}
 use Rattle.journal.proofs.Searches.{lines_more, lines_none}
 use borrow.Author.Rules.{rules}

@@ -1,14 +1,8 @@
-use mathlib.Core.Path.{◌≡◌, refl, sym, ap₂}
-use mathlib.Core.Bool.{Bool, false}
-use mathlib.Core.List.{List}
-use Prim.Native.Nat.{ℕ, ◌-◌, ◌^◌, ◌≤◌, ◌<◌}
-use native.Mathlib.Omega.{arith}
+use mathlib.Core.Path.{◌≡◌}
+use Prim.Native.Nat.{◌-◌, ◌≤◌}
 use lib.ListN.{length, take}
-use lib.Seq.{take_all}
-use Rattle.text.proofs.Places.{Put, put, then, said, both, none}
+use Rattle.text.proofs.Places.{Put}
 use Rattle.journal.specs.Log.{s_lines}
-use Rattle.journal.proofs.Searches.{lines_more, lines_none}
-use borrow.Author.Rules.{rules}
 use Rattle.journal.proofs.put_searches.Given as goal
 
 abbrev pub invariant-loop-i : goal.invariant-loop-i

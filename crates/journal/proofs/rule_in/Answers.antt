@@ -2,7 +2,6 @@
 -- Assumes nothing.
 use mathlib.Core.Path.{ap, ◌∙◌}
 use Rattle.journal.specs.Log.{setting_rule}
-use borrow.Author.Rules.{rules}
 use Rattle.journal.proofs.rule_in.Goals as goal
 
 pub returns : goal.returns

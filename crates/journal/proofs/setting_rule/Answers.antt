@@ -2,7 +2,6 @@
 -- Assumes nothing.
 use mathlib.Core.Path.{ap, ◌∙◌}
 use Rattle.ranking.specs.Cells.{rule_of, tied_by}
-use borrow.Author.Rules.{rules}
 use Rattle.journal.proofs.setting_rule.Goals as goal
 
 pub returns : goal.returns

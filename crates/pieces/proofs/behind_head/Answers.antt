@@ -5,7 +5,6 @@ use Prim.Native.Nat.{ℕ, ◌-◌}
 use native.Mathlib.Omega.{arith}
 use lib.ListN.{length, take, drop, length-drop, drop_of_length-le}
 use lib.Seq.{take_all}
-use borrow.Author.Rules.{rules}
 use Rattle.pieces.proofs.behind_head.Goals as goal
 
 pub returns-then-s-lt-HEAD : goal.returns-then-s-lt-HEAD

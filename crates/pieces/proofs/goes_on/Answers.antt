@@ -1,7 +1,6 @@
 -- The two tests are those of the contract.
 -- Assumes nothing.
 use borrow.Author.Tests.{lt-ltb, le-ltb}
-use borrow.Author.Rules.{rules}
 use Rattle.pieces.proofs.goes_on.Goals as goal
 
 pub returns-then-i-len : goal.returns-then-i-len

@@ -1,7 +1,6 @@
 -- The two tests are those of the contract.
 -- Assumes nothing.
 use borrow.Author.Tests.{eq-eqb, ne_eqb}
-use borrow.Author.Rules.{rules}
 use Rattle.pieces.proofs.starts.Goals as goal
 
 pub returns-then-have-ne0 : goal.returns-then-have-ne0

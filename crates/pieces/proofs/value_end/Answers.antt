@@ -2,7 +2,6 @@
 -- Assumes nothing.
 use borrow.Author.Tests.{le-leb, lt-leb}
 use Rattle.pieces.specs.Machine.{value_end}
-use borrow.Author.Rules.{rules}
 use Rattle.pieces.proofs.value_end.Goals as goal
 
 pub returns-then-long-le-LONGEST : goal.returns-then-long-le-LONGEST

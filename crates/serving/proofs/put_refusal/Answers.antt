@@ -9,5 +9,5 @@ returns-then-refused c = rw c.if-refused.true (record { value = c.put_r.ensures.
 
 pub returns-else-refused : goal.returns-else-refused
 returns-else-refused c =
-    let a = c.args in 
+    let a = c.args in
     rw c.if-refused.false (record { value = (both (none c.args.out.now c.args.at (search rules))).0; out_after = (both (none c.args.out.now c.args.at (search rules))).1 })

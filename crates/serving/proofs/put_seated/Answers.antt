@@ -2,7 +2,6 @@
 -- Assumes nothing.
 use borrow.Author.Tests.{eq-eqb, ne_eqb}
 use Rattle.serving.specs.Serving.{seated_text}
-use borrow.Author.Rules.{rules}
 use Rattle.serving.proofs.put_seated.Goals as goal
 
 pub returns-then-refusal-eq0 : goal.returns-then-refusal-eq0

@@ -2,7 +2,6 @@
 -- Assumes nothing.
 use borrow.Author.Tests.{eq-eqb, ne_eqb}
 use Rattle.serving.specs.Serving.{shown_text}
-use borrow.Author.Rules.{rules}
 use Rattle.serving.proofs.put_shown.Goals as goal
 
 pub returns-then-question-eq0 : goal.returns-then-question-eq0

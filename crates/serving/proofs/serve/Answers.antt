@@ -11,7 +11,6 @@ use Rattle.window.specs.Rows.{standing}
 use Rattle.slot.specs.Asking.{set_in}
 use Rattle.serving.specs.Serving.{Served, Serves, shown_text, seated_text}
 use Rattle.serving.proofs.Serving.{served_show, served-remove, served-set}
-use borrow.Author.Rules.{rules}
 use Rattle.serving.proofs.serve.Goals as goal
 
 -- What was put, and what the slot holds, are those of the definition.

@@ -4,7 +4,6 @@ use mathlib.Core.Path.{refl, ap}
 use mathlib.Core.Bool.{not}
 use lib.Dec.{eqb}
 use Rattle.board.specs.declared.Arrival.{Arrival}
-use borrow.Author.Rules.{rules}
 use Rattle.stretch.proofs.brings.Goals as goal
 
 pub returns-in-Refused : goal.returns-in-Refused

@@ -17,7 +17,6 @@ use Rattle.journal.specs.Log.{frame_in}
 use Rattle.stretch.specs.declared.Brought.{Brought}
 use Rattle.stretch.specs.declared.Begun.{Begun}
 use Rattle.stretch.specs.Inner.{brought, times_by, HearsAt}
-use borrow.Author.Rules.{rules}
 use Rattle.stretch.proofs.hear.Goals as goal
 
 -- The value of a frame, by its ends and by its length.

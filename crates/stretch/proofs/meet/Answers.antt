@@ -7,7 +7,6 @@ use Prim.Native.Nat.{ℕ}
 use Rattle.wire.specs.Bytes.{number, part}
 use Rattle.times.specs.declared.Met.{Met}
 use Rattle.times.specs.Run.{Stations, stations_in, Meets}
-use borrow.Author.Rules.{rules}
 use Rattle.stretch.proofs.meet.Goals as goal
 
 met : (b : Stations) (v : List ℕ) {t id : ℕ} {r : Met} {room : List ℕ} {known : List Bool} {at : List ℕ} → t ≡ number (part 0 4 v) → id ≡ number (part 4 4 v)

@@ -2,7 +2,6 @@
 -- Assumes nothing.
 use mathlib.Core.Path.{refl}
 use borrow.Author.Tests.{le-leb, lt-leb}
-use borrow.Author.Rules.{rules}
 use Rattle.stretch.proofs.put_row.Goals as goal
 
 pub returns-then-rows-row : goal.returns-then-rows-row

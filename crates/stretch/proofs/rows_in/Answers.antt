@@ -1,11 +1,10 @@
 -- The invariant: no row from the bound on holds a report.
 -- Assumes nothing.
-use mathlib.Core.Path.{◌≡◌, refl, sym, ◌∙◌}
-use Prim.Native.Nat.{◌-◌, ◌≤◌}
+use mathlib.Core.Path.{refl, sym, ◌∙◌}
+use Prim.Native.Nat.{◌-◌}
 use native.Mathlib.Omega.{arith}
 use borrow.Author.Tests.{eq-eqb, ne_eqb}
 use lib.Dec.{eqb}
-use Rattle.stretch.specs.Inner.{rows_used}
 use Rattle.slot.proofs.Gauges.{none-used, used_here, used_below}
 use Rattle.stretch.proofs.rows_in.Goals as goal
 

@@ -1,10 +1,6 @@
-use mathlib.Core.Path.{◌≡◌, refl, sym, ◌∙◌}
-use Prim.Native.Nat.{◌-◌, ◌≤◌}
-use native.Mathlib.Omega.{arith}
-use borrow.Author.Tests.{eq-eqb, ne_eqb}
-use lib.Dec.{eqb}
+use mathlib.Core.Path.{◌≡◌}
+use Prim.Native.Nat.{◌≤◌}
 use Rattle.stretch.specs.Inner.{rows_used}
-use Rattle.slot.proofs.Gauges.{none-used, used_here, used_below}
 use Rattle.stretch.proofs.rows_in.Given as goal
 
 abbrev pub invariant-loop-rows : goal.invariant-loop-rows

@@ -1,16 +1,15 @@
 -- Each turn does one item where the log stands: one for a slot, or a frame, whose report gives each slot in use its turn.
 -- Assumes nothing.
 use mathlib.Core.Path.{◌≡◌, refl, sym, ap, subst, ◌∙◌}
-use Prim.Native.Nat.{ℕ, ◌+◌, ◌-◌, ◌^◌, ◌≤◌, ◌<◌}
+use Prim.Native.Nat.{ℕ, ◌+◌, ◌^◌, ◌≤◌, ◌<◌}
 use native.Mathlib.Omega.{arith}
 use borrow.Author.Tests.{not-true, not-false}
 use mathlib.Core.Bool.{true, false}
 use mathlib.Core.Logic.{inr}
 use mathlib.Core.List.{List}
-use lib.ListN.{length, get_or, length-map}
+use lib.ListN.{length, get_or}
 use Rattle.wire.proofs.Fields.{length_part}
 use Rattle.coming.specs.Coming.{size_at, is_frame}
-use Rattle.times.specs.Run.{stations_in}
 use Rattle.wire.specs.Bytes.{part}
 use Rattle.journal.specs.Log.{frame_in}
 use Rattle.stretch.proofs.Times.{Due, due_other, due-later, due-next, hears_stopped, hears_then}
@@ -19,10 +18,10 @@ use Rattle.coming.proofs.Coming.{Framed, Slot}
 use Rattle.stretch.proofs.Going.{went_none}
 use Rattle.stretch.proofs.Gauging.{gauged_of}
 use Rattle.stretch.proofs.Rowing.{rowed_of}
-use Rattle.stretch.proofs.Stands.{Stands, Turns, log_of, turns_quiet, turns_more, item_there, slot_there, frame_there, row_there, stands_slot, stands_none, turns-begin, stands_enters, stands_runs}
+use Rattle.stretch.proofs.Stands.{turns_quiet, turns_more, item_there, slot_there, frame_there, row_there, stands_slot, stands_none, turns-begin, stands_enters, stands_runs}
 use borrow.Author.Rules.{rules}
 use Rattle.coming.specs.Inner.{frame_size}
-use Rattle.stretch.specs.Inner.{window_of, frame_of, log_in}
+use Rattle.stretch.specs.Inner.{frame_of, log_in}
 use mathlib.Core.Bool.{not}
 use Rattle.stretch.proofs.run.Goals as goal
 

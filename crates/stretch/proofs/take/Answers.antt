@@ -12,7 +12,6 @@ use Rattle.bus.specs.Room.{sessions_in}
 use Rattle.journal.specs.declared.Log.{Log}
 use Rattle.stretch.specs.declared.Standing.{Standing}
 use Rattle.stretch.specs.Doing.{did_all, Does}
-use borrow.Author.Rules.{rules}
 use Rattle.stretch.specs.Inner.{log_in, Runs}
 use Rattle.stretch.proofs.take.Goals as goal
 

@@ -6,7 +6,6 @@ use Prim.Native.Nat.{ℕ, ◌+◌, ◌-◌}
 use native.Mathlib.Omega.{arith}
 use lib.ListN.{take, drop}
 use Rattle.wire.specs.Bytes.{part}
-use borrow.Author.Rules.{rules}
 use Rattle.stretch.proofs.value_at.Goals as goal
 
 ends : (l : List ℕ) (at : ℕ) {m n : ℕ} → m ≡ n → take (at + m - at) (drop at l) ≡ part at n l

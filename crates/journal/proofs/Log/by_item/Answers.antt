@@ -1,11 +1,10 @@
 -- `journal::Log::by_item` meets its contract: each item has its function.
 -- Assumes nothing.
-use mathlib.Core.Path.{◌≡◌, refl, sym, ap, ◌∙◌}
+use mathlib.Core.Path.{◌≡◌, refl, sym, ap}
 use mathlib.Core.List.{List}
 use mathlib.Core.Logic.{⊎_elim}
 use Prim.Native.Nat.{ℕ}
 use Rattle.items.specs.declared.Item.{Item}
-use Rattle.items.specs.declared.Item.TheVariants.{Set, SetHeat, SetTies}
 use Rattle.journal.specs.declared.Log.{Log}
 use Rattle.journal.specs.Log.{Stores, by_item}
 use Rattle.journal.proofs.Calls.{outcome_is, silent}

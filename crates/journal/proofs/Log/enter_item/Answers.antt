@@ -4,7 +4,6 @@ use mathlib.Core.Path.{ap}
 use Rattle.board.specs.declared.Entered.{Entered}
 use Rattle.journal.specs.Log.{with_board, s_lines, enter_item}
 use Rattle.journal.proofs.Calls.{refuses, does, stores}
-use borrow.Author.Rules.{rules}
 use Rattle.journal.proofs.Log.enter_item.Goals as goal
 
 pub returns-then-refusal-ne0 : goal.returns-then-refusal-ne0

@@ -1,7 +1,6 @@
 -- `journal::Log::fresh` meets its contract: a board of no window, fresh sessions and no times, as their makers answer them.
 -- Assumes nothing.
 use Rattle.journal.specs.Log.{fresh_log}
-use borrow.Author.Rules.{rules}
 use Rattle.journal.proofs.Log.fresh.Goals as goal
 
 pub returns : goal.returns

@@ -1,7 +1,6 @@
 -- `journal::Log::item` meets its contract: it is counted, judged, and then done by what it says.
 -- Assumes nothing.
 use Rattle.journal.proofs.Calls.{skips, passes}
-use borrow.Author.Rules.{rules}
 use Rattle.journal.proofs.Log.item.Goals as goal
 
 pub returns-then-refusal-ne0 : goal.returns-then-refusal-ne0

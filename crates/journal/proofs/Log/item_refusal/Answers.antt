@@ -1,14 +1,12 @@
 -- `journal::Log::item_refusal` meets its contract: an unknown item, the window's, and then every other, by whether there is a window.
 -- Assumes nothing.
 use mathlib.Core.Path.{◌≡◌, refl}
-use mathlib.Core.List.{[], ◌∷◌}
 use Prim.Native.Nat.{ℕ}
 use borrow.Author.Tests.{eq-eqb, ne_eqb}
 use Rattle.items.specs.declared.Item.{Item}
 use Rattle.items.specs.declared.Item.TheVariants.{Window, Set, Frame, Remove, Show, Timed, SetHeat, SetTies, Unknown}
 use Rattle.journal.specs.declared.Log.{Log}
 use Rattle.journal.specs.Log.{early, item_refusal}
-use borrow.Author.Rules.{rules}
 use Rattle.journal.proofs.Log.item_refusal.Goals as goal
 
 -- Every known item but the window's needs a window.

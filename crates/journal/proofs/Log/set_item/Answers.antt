@@ -6,7 +6,6 @@ use Rattle.board.specs.Work.{set_work}
 use Rattle.text.specs.Text.{s_line}
 use Rattle.journal.specs.Log.{with_board, set_item}
 use Rattle.journal.proofs.Calls.{refuses, does, stores}
-use borrow.Author.Rules.{rules}
 use Rattle.journal.proofs.Log.set_item.Goals as goal
 
 pub returns-then-refusal-ne0 : goal.returns-then-refusal-ne0

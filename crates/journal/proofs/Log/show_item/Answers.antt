@@ -6,7 +6,6 @@ use Rattle.slot.specs.declared.Shown.{Shown}
 use Rattle.text.specs.Text.{q_line, entries_of}
 use Rattle.journal.specs.Log.{show_item}
 use Rattle.journal.proofs.Calls.{refuses, does, stores}
-use borrow.Author.Rules.{rules}
 use Rattle.journal.proofs.Log.show_item.Goals as goal
 
 pub returns-then-refusal-ne0 : goal.returns-then-refusal-ne0

@@ -3,7 +3,6 @@
 use Rattle.times.specs.Run.{timed_at}
 use Rattle.journal.proofs.Calls.{outcome_is}
 use Rattle.journal.proofs.Frames.{unheard, heard_timed}
-use borrow.Author.Rules.{rules}
 use Rattle.journal.proofs.Log.timed_item.Goals as goal
 
 pub returns-then-k-ge-SENDERS : goal.returns-then-k-ge-SENDERS

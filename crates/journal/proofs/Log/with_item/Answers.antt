@@ -1,6 +1,5 @@
 -- `journal::Log::with_item` meets its contract: only the count changes.
 -- Assumes nothing.
-use borrow.Author.Rules.{rules}
 use Rattle.journal.proofs.Log.with_item.Goals as goal
 
 pub returns : goal.returns

@@ -1,6 +1,5 @@
 -- `journal::Log::with_station` meets its contract: the session is put back, and then the last time.
 -- Assumes nothing.
-use borrow.Author.Rules.{rules}
 use Rattle.journal.proofs.Log.with_station.Goals as goal
 
 pub returns : goal.returns

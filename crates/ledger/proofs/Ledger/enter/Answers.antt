@@ -6,7 +6,6 @@ use Rattle.board.specs.Work.{enter_work}
 use Rattle.senders.specs.declared.Noted.{Noted}
 use Rattle.ledger.specs.Calls.{not_entered, entered_with}
 use Rattle.ledger.proofs.Doors.{enter_unfit, enter-refused, enter-taken}
-use borrow.Author.Rules.{rules}
 use mathlib.Core.Bool.{not}
 use Rattle.ledger.proofs.Ledger.enter.Goals as goal
 

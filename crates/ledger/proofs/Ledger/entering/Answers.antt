@@ -1,6 +1,5 @@
 -- The board's answer, with these senders beside what it leaves.
 -- Assumes nothing.
-use borrow.Author.Rules.{rules}
 use Rattle.ledger.proofs.Ledger.entering.Goals as goal
 
 pub returns : goal.returns

@@ -1,7 +1,6 @@
 -- Senders and tallies, which stand beside a fit window, then the slots.
 -- Assumes nothing.
 use mathlib.Core.Path.{sym, ◌∙◌}
-use borrow.Author.Rules.{rules}
 use Rattle.ledger.proofs.Doors.{fit_then, fit_not}
 use Rattle.ledger.proofs.Ledger.fit.Goals as goal
 

@@ -1,7 +1,6 @@
 -- A fresh board, and fresh senders.
 -- Assumes nothing.
 use Rattle.ledger.specs.Calls.{fresh_ledger}
-use borrow.Author.Rules.{rules}
 use Rattle.ledger.proofs.Ledger.fresh.Goals as goal
 
 pub returns : goal.returns

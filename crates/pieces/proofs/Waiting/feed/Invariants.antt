@@ -1,21 +1,7 @@
-use mathlib.Core.Path.{◌≡◌, refl, sym, ap, ◌∙◌}
-use mathlib.Core.Bool.{true, false, ◌&&◌}
-use mathlib.Core.List.{List, []}
-use Prim.Native.Nat.{ℕ, ◌+◌, ◌-◌, ◌^◌, ◌≤◌, ◌<◌}
-use native.Mathlib.Omega.{arith}
-use borrow.Author.Tests.{ltb-true, lt-ltb, not-true, not-false}
-use lib.Dec.{ltb}
-use lib.ListN.{length, get_or, take, drop, length-drop}
-use lib.Seq.{length-sets, take_all}
-use Rattle.laws.proofs.Tests.{and_both}
-use Rattle.text.proofs.Places.{none}
-use Rattle.journal.specs.Log.{item_done}
-use Rattle.coming.specs.Coming.{has_room}
-use Rattle.pieces.specs.Machine.{nothing, value_in}
-use Rattle.pieces.specs.declared.Waiting.{Waiting}
-use Rattle.pieces.proofs.Feeding.{Ran, ran_none, ran_more, ran_feeds, place_fits, came-whole, came_not}
-use Rattle.pieces.proofs.Stretches.{stretch_fed}
-use borrow.Author.Rules.{rules}
+use mathlib.Core.Path.{◌≡◌}
+use Prim.Native.Nat.{◌-◌, ◌≤◌}
+use lib.ListN.{length}
+use Rattle.pieces.proofs.Feeding.{Ran}
 use Rattle.pieces.proofs.Waiting.feed.Given as goal
 
 abbrev pub invariant-loop-next : goal.invariant-loop-next

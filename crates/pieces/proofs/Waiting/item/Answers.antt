@@ -6,7 +6,6 @@ use lib.ListN.{take, drop}
 use Rattle.journal.specs.Log.{item_done}
 use Rattle.pieces.specs.Machine.{value_end, value_in}
 use Rattle.journal.proofs.Calls.{outcome_is}
-use borrow.Author.Rules.{rules}
 use Rattle.pieces.proofs.Waiting.item.Goals as goal
 
 pub returns : goal.returns

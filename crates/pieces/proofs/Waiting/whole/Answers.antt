@@ -4,7 +4,6 @@ use mathlib.Core.Path.{ap}
 use Prim.Native.Nat.{ℕ, ◌+◌}
 use lib.Dec.{leb}
 use Rattle.pieces.specs.Machine.{is_whole}
-use borrow.Author.Rules.{rules}
 use Rattle.pieces.proofs.Waiting.whole.Goals as goal
 
 pub returns : goal.returns

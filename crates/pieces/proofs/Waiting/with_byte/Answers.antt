@@ -1,7 +1,6 @@
 -- `pieces::Waiting::with_byte` meets its contract: the byte is stored in its place, and counted.
 -- Assumes nothing.
 use Rattle.pieces.specs.Machine.{with_byte}
-use borrow.Author.Rules.{rules}
 use Rattle.pieces.proofs.Waiting.with_byte.Goals as goal
 
 pub returns : goal.returns
