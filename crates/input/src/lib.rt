@@ -1,7 +1,8 @@
 // What a reader gives, such as standard input, a line at a time. The line, and what was read of the lines behind it, stand in bytes that the caller lends.
 #![tactic(auto)]
 
-ghost use Rattle.std.specs.Prelude.{◌≡◌, ◌+◌, ◌-◌, ◌<◌, ◌≤◌, min, false, length, drop, nat_le};
+ghost use Rattle.std.specs.Prelude.{◌≡◌, ◌+◌, ◌-◌, ◌<◌, ◌≤◌, min, false, length, take, drop, nat_le};
+ghost use Rattle.std.specs.Io.KnownBytes.{Consumes};
 ghost use Rattle.std.proofs.lemmas.List.Edits.{sets};
 ghost use Rattle.input.specs.Lines.{longest, fresh_input, first_line, unread, line_taken};
 ghost use Rattle.input.specs.Reading.{TakesAndReads, Comes, is_cut};
@@ -227,7 +228,8 @@ fn sum_at_most(size: usize, n: usize, most: usize) -> usize
 
 // Reads until the lent bytes are full, the text ends or a read fails; how many bytes were put at their start.
 pub fn read_full<R: Read>(reader: &mut R, space: &mut [u8]) -> usize
-    ensures { result ≤ length space.new }
+    ensures within { result ≤ length space.new }
+    ensures bytes { Consumes (R.remaining reader.old) (R.remaining reader.new) (take result space.new) }
 {
     let mut done = 0;
     while done < space.len() {

@@ -1,9 +1,14 @@
--- `read_full` ends: what is left of the bytes falls.
-use Rattle.std.proofs.Common.{◌-◌, ◌≤◌, length}
+-- `read_full` ends: what is left of the bytes falls. What was read stands at their front.
+use Rattle.std.proofs.Common.{◌-◌, ◌≤◌, length, take}
+use Rattle.std.specs.Io.KnownBytes.{Consumes}
 use Rattle.input.proofs.read_full.Given as goal
 
 abbrev pub invariant-loop-done : goal.invariant-loop-done
-invariant-loop-done g l = l.done ≤ length l.space
+invariant-loop-done g l =
+    record {
+      within : l.done ≤ length l.space;
+      bytes : Consumes (g.R.Read.remaining l.initial.reader) (g.R.Read.remaining l.reader) (take l.done l.space);
+    }
 
 abbrev pub decreases-loop-done : goal.decreases-loop-done
 decreases-loop-done g l = length l.space - l.done
