@@ -1,18 +1,15 @@
 # What the scripts of tests/ and bench/ share; they read it in from the top of the repository.
 
-. tests/loader.sh
+# Prints where the toolchain builds a crate's program, which runs as it is.
+program_of() { # NAME
+    printf '%s\n' "crates/$1/out/$1"
+}
 
-# Sets `run` to the words that run a program as rt does, what kit_find sets, and `emulated` to yes or no.
-kit_run() {
-    local word
-    kit_find
-    run=("$loader" --library-path "$tools/lib")
-    emulated=no
-    if [ -n "$emulator" ]; then
-        run=("$emulator" "${run[@]}")
-        emulated=yes
-        for word in $(env | sed -n 's/^\(QEMU_[A-Za-z0-9_]*\)=.*/\1/p'); do unset "$word"; done
-    fi
+# Asks for a crate's program, which a command builds.
+built() { # NAME COMMAND
+    if [ -x "$(program_of "$1")" ]; then return; fi
+    echo "$(program_of "$1") is not here: $2 builds it" >&2
+    return 2
 }
 
 # Asks for a program of a Debian package, and installs the package where that can be done.
@@ -38,9 +35,12 @@ build_rust() { # FOLDER PROGRAM WORDS...
 }
 
 # Proves a program and compiles it to ROOM/NAME.o, as rt does, with the shell script on standard input in the compiler's place: that finds the
-# LLVM module as module.bc where it runs, and the kit's own compiler as $clang. It needs target/rlib, which `rt check NAME` builds.
+# LLVM module as module.bc where it runs, and the kit's own compiler as $clang. It needs what `rt run` made in the program's crate and below.
 compile_by() { # NAME ROOM
-    local name words=(--crate-name "$1" "crates/$1/src/main.rt" --extern "std=$own/rlib/std.rlib")
+    local home tools name words=(--crate-name "$1" src/main.rt)
+    home=$(rt doc)
+    home=${home%/*}
+    tools=$home/toolchain
     rm -rf "$2"
     mkdir -p "$2/bin"
     ln -s "$tools"/bin/* "$2/bin"
@@ -48,11 +48,12 @@ compile_by() { # NAME ROOM
     rm "$2/bin/clang"
     { printf '#!/bin/sh\nclang=%s\n' "'$tools/bin/clang'" && cat; } >"$2/bin/clang"
     chmod +x "$2/bin/clang"
-    for name in $(sed -n "s/^$1: *//p" crates.txt); do
-        if [ -d "crates/$name" ]; then words+=(--extern "$name=target/rlib/$name.rlib"); else words+=(--extern "$name=$own/rlib/$name.rlib"); fi
+    for name in std $(sed -n "s/^$1: *//p" crates.txt); do
+        if [ -d "crates/$name" ]; then words+=(--extern "$name=../$name/out/rlib/$name.rlib"); else words+=(--extern "$name=$home/rlibs/$name.rlib"); fi
     done
-    words+=(-L dependency=target/rlib -L "dependency=$own/rlib" --antt-project "$home/logic/antt-project.json" --logic-built "$own/logic-built")
-    if ! "$own/bin/rattle" build "${words[@]}" --toolchain "$2" -o "$2/$1.o" >"$2/said" 2>&1; then
+    for name in crates/*/out/rlib; do words+=(-L "dependency=../../$name"); done
+    words+=(-L "dependency=$home/rlibs" --antt-project "$home/rattle/logic/antt-project.json" --logic-built "$home/logic_built" --incremental out/incremental)
+    if ! (cd "crates/$1" && exec "$home/bin/rattle" build "${words[@]}" --backend llvm --toolchain "$2" -o "$2/$1.o") >"$2/said" 2>&1; then
         cat "$2/said" >&2
         return 1
     fi

@@ -255,8 +255,7 @@ fn two_builds(bench: &Bench) {
 }
 
 /// bench ROOM MODE CART-COMMAND... [-- COMMAND...]
-/// The second command runs the program that the first one has to print the same as, where that is too slow to be measured; in the mode
-/// `beside` it is another build of `cart`, and the two are compared.
+/// In the mode `beside` the second command is another build of `cart`, and the two are compared.
 fn main() {
     let words: Vec<String> = std::env::args().skip(1).collect();
     let room = words[0].clone();
@@ -276,13 +275,6 @@ fn main() {
     if words[1] == "beside" {
         bench.programs[1] = Program { name: "the other cart", words: commands.next().expect("the command of the other cart") };
         return two_builds(&bench);
-    }
-    if let Some(words) = commands.next() {
-        let proved = Program { name: "target/bin/cart", words };
-        for w in workloads::counted() {
-            bench.agree(&w.name, std::iter::once(&proved), &bench.files("short", &w));
-        }
-        println!("It prints what target/bin/cart prints under the emulator for {} workloads.", workloads::counted().len());
     }
     if words[1] != "counts" {
         println!(
