@@ -201,11 +201,15 @@ module _ {given₀ given held₀ held : Option (List ℕ)} {log : Log} {w : Wait
         all_printed = λ f. absurd (no f);
       }
 
--- At the end all that was handed over is the text of the log that was read, and what the writer holds more.
-pub all_handed_over : {given₀ given held₀ held : Option (List ℕ)} (held' : Option (List ℕ)) {log : Log} {w : Waiting} {left room : List ℕ} {last : Bool} {turns : ℕ} {p : Printed}
-    → Running given₀ given held₀ held log w left last turns → last ≡ true → Ends log w p room → Appends held held' (take p.count room)
+-- At the end, whatever the reader and the writer are, all that was handed over is the text of all that was read.
+pub handed_over : {given₀ given held₀ held : Option (List ℕ)} {log : Log} {w : Waiting} {left room : List ℕ} {last : Bool} {turns : ℕ} {p : Printed}
+    → (r : Running given₀ given held₀ held log w left last turns) → last ≡ true → Ends log w p room → r.so_far.said ++ take p.count room ≡ log_text r.so_far.all
+handed_over r f h = whole h (r.none_left f) r.so_far
+
+-- And so, of a reader whose bytes are known, the text of its bytes is what the writer holds more.
+pub all_handed_over : {given₀ given held₀ held : Option (List ℕ)} (held' : Option (List ℕ)) {log : Log} {w : Waiting} {left : List ℕ} (room : List ℕ) {last : Bool} {turns : ℕ} (count : ℕ)
+    → (r : Running given₀ given held₀ held log w left last turns) → last ≡ true → r.so_far.said ++ take count room ≡ log_text r.so_far.all → Appends held held' (take count room)
     → IfSome given₀ (λ bytes. Appends held₀ held' (log_text bytes))
-all_handed_over {given₀} {given} {held₀} {held} held' {room = room} {p = p} r f h q =
-    let all = whole h (r.none_left f) r.so_far in
-    let said = Appends-trans held₀ held held' r.so_far.said (take p.count room) (r.all_printed f) q in
+all_handed_over {given₀} {given} {held₀} {held} held' room count r f all q =
+    let said = Appends-trans held₀ held held' r.so_far.said (take count room) (r.all_printed f) q in
     Consumes-whole given₀ given r.so_far.all (λ bytes. Appends held₀ held' (log_text bytes)) r.read (r.at_end f) (subst (Appends held₀ held') all said)

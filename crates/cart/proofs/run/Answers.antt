@@ -1,7 +1,7 @@
 -- What `run` was given and printed, turn by turn.
 use Rattle.std.proofs.Common.{refl, sym, ◌∙◌, arith}
 use Rattle.std.proofs.lemmas.Bool.{false≢true}
-use Rattle.cart.proofs.Handing.{none_left, none_came, took_within, read_small, read_so, read_end, running_begun, running_read, running_ended, running_took, left_of, all_handed_over}
+use Rattle.cart.proofs.Handing.{none_left, none_came, took_within, read_small, read_so, read_end, running_begun, running_read, running_ended, running_took, left_of, all_handed_over, handed_over}
 use Rattle.cart.proofs.run.Goals as goal
 
 pub loop-turns-init : goal.loop-turns-init
@@ -43,7 +43,9 @@ loop-turns-preserved g c =
 
 -- The claim: where all was read and printed, what the writer holds more is the text of all that the reader gave.
 pub returns-then-ended : goal.returns-then-ended
-returns-then-ended g c = λ f. all_handed_over _ c.loop-turns.invariant.running c.if-ended.true c.end.ensures.ends (c.end.ensures.printed f)
+returns-then-ended g c =
+    let all = handed_over c.loop-turns.invariant.running c.if-ended.true c.end.ensures.ends in
+    λ f. all_handed_over _ _ _ c.loop-turns.invariant.running c.if-ended.true all (c.end.ensures.printed f)
 
 pub returns : goal.returns
 returns g c = λ f. absurd (false≢true f)
