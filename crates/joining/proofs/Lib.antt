@@ -11,4 +11,5 @@ pub mod Driving
 pub mod Examples
 pub mod Outcomes
 pub mod LentOutcomes
+pub mod Machine
 pub mod HeldPayload
