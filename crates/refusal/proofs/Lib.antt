@@ -1,0 +1,2 @@
+-- What is proved of `refusal` beside its functions.
+pub mod Outcomes

@@ -1,0 +1,2 @@
+-- What the functions of `refusal` are held to.
+pub mod Numbers
