@@ -20,7 +20,7 @@ use Rattle.window.specs.declared.Window.{Window}
 use Rattle.window.specs.declared.Row.{Row}
 use Rattle.window.specs.Rows.{values_at, report_at, added, standing}
 use Rattle.question.specs.declared.Question.{Question}
-use Rattle.list.specs.Rows.{rows_of}
+use Rattle.list.specs.Rows.{rows_in}
 use Rattle.question.specs.Lines.{in_rows}
 use Rattle.slot.specs.declared.Turned.{Turned}
 use Rattle.slot.specs.Turn.{turn}
@@ -78,7 +78,7 @@ new_name entered e room = if_so _ _ (le-leb (entered + 1) 1048319 (omega arith))
 -- When all turns are taken, the answer is there.
 pub turns-all : (b : Board) (v : Values) {row : Row} {leaves i : ℕ} {window : Window} {slots : List Question} {searched : List Bool} {steps : List ℕ} → enter_refusal b.window.counts v ≡ 0
     → row ≡ as_row (b.window.counts.entered + 1) v → leaves ≡ outgoing b.window → window ≡ added b.window v → length b.slots ≤ i
-    → Turns (report_at row) b.slots leaves (standing (rows_of window.losses window.shakes window.names) 1024) i slots searched steps
+    → Turns (report_at row) b.slots leaves (standing (rows_in window.rows) 1024) i slots searched steps
     → ◌≡◌ {A = Entered} (record { refusal = 0; number = b.window.counts.entered + 1; searched = searched; steps = steps; board = record { window = window; slots = slots } }) (enter_work b v)
 unfolding enter_work in_rows
 turns-all b v {row} {leaves} {i} {window} {slots} {searched} {steps} taken r o w h t =

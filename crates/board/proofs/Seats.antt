@@ -10,7 +10,7 @@ use Rattle.ranking.specs.declared.Rule.{Rule}
 use Rattle.laws.proofs.Tests.{Tested, passed, failed, tested}
 use Rattle.window.specs.Rows.{standing}
 use Rattle.question.specs.declared.Question.{Question}
-use Rattle.list.specs.Rows.{rows_of}
+use Rattle.list.specs.Rows.{rows_in}
 use Rattle.question.specs.Lines.{in_rows}
 use Rattle.laws.proofs.Tests.{if_so, if_not}
 use Rattle.slot.specs.declared.Seated.{Seated}
@@ -49,7 +49,7 @@ module _ (b : Board) (slot : ℕ) where
     set_there h = if_so _ _ (lt-ltb slot 32 h)
 
     -- The same, of a slot that was handed the window's rows.
-    pub set_seated : slot < 32 → {s : Seated} → s ≡ set_in (slot_at b slot) k rule (standing (rows_of b.window.losses b.window.shakes b.window.names) 1024)
+    pub set_seated : slot < 32 → {s : Seated} → s ≡ set_in (slot_at b slot) k rule (standing (rows_in b.window.rows) 1024)
         → set_work b slot k rule ≡ record { refusal = s.refusal; steps = s.steps; board = with_slot b slot s.question }
     unfolding in_rows
     set_seated h e =

@@ -163,14 +163,7 @@ impl Board {
         let window = self.window;
         let slots = self.slots;
         let question = slots[at];
-        let seated = slot::set_in(
-            question,
-            k,
-            rule,
-            &window.losses,
-            &window.shakes,
-            &window.names,
-        );
+        let seated = slot::set_in(question, k, rule, &window.rows);
         let left = seated.question;
         Placed {
             refusal: seated.refusal,
@@ -245,15 +238,7 @@ impl Board {
         let mut steps = [0u16; Gauge::SLOTS];
         let mut i: usize = 0;
         while i < Gauge::SLOTS {
-            let turned = slot::turn(
-                old[i],
-                row,
-                gone,
-                &window.losses,
-                &window.shakes,
-                &window.names,
-                Window::ROWS,
-            );
+            let turned = slot::turn(old[i], row, gone, &window.rows, Window::ROWS);
             let left = turned.question;
             slots[i] = left;
             searched[i] = turned.searched;

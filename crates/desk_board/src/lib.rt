@@ -11,7 +11,7 @@ use ranking::{Rule, Weights};
 use replies::{put, put_counted, put_heat, put_mark, put_number, put_scored, refused};
 use slot::{Gauge, Shown};
 use values::{Edition, Name, Values};
-use window::{Counts, Window};
+use window::{Counts, Rows, Window};
 
 // The board as a call leaves it, and where its answer ends.
 #[derive(Clone, Copy)]
@@ -214,31 +214,23 @@ fn held(window: Window, out: &mut [u8]) -> usize {
     }
     let counts = window.counts;
     let end = put_counted(out, 0, b"held", counts.held as u64);
-    rows(
-        counts,
-        &window.losses,
-        &window.shakes,
-        &window.names,
-        end,
-        out,
-    )
+    rows(counts, &window.rows, end, out)
 }
 
 // The held rows, oldest first.
-fn rows<'a>(
-    counts: Counts,
-    losses: &'a [u16; Window::ROWS],
-    shakes: &'a [u16; Window::ROWS],
-    names: &'a [u32; Window::ROWS],
-    at: usize,
-    out: &mut [u8],
-) -> usize {
+fn rows<'a>(counts: Counts, rows: &'a Rows, at: usize, out: &mut [u8]) -> usize {
     let held = counts.held;
     let mut end = at;
     let mut i: u16 = 0;
     while i < held {
         let place = row_of(counts, i);
-        end = row(names[place], losses[place], shakes[place], end, out);
+        end = row(
+            rows.names[place],
+            rows.losses[place],
+            rows.shakes[place],
+            end,
+            out,
+        );
         i += 1;
     }
     end

@@ -214,14 +214,14 @@ module _ {rule : Rule} {k : ℕ} {hs : List Held} {ns : List ℕ} {ss : List ℤ
     module _ {own : ℤ} (scored : sc ≡ Some own) (fits : mag own < 2147483648) where
       -- the report's entry as the code has it
       abbrev read : Entry
-      read = record { name = get_or w.names r 0; score = to_z w32 (of_z w32 own) }
+      read = record { name = get_or w.rows.names r 0; score = to_z w32 (of_z w32 own) }
 
       score-is : score rule (report_in w r).values ≡ Some own
       score-is = from_is least (score rule (report_in w r).values) own (sym is ∙ scored)
 
       read_is : read ≡ own_entry
       read_is =
-          ap₂ (λ n s. record { name = n; score = s }) (sym (name_back (get_or w.names r 0))) (kept w32 own fits ∙ sym (ap points score-is))
+          ap₂ (λ n s. record { name = n; score = s }) (sym (name_back (get_or w.rows.names r 0))) (kept w32 own fits ∙ sym (ap points score-is))
 
       test_is : admits (above rule) (bar_of (columns_of (top rule k hs)) k) own_entry ≡ admits (above rule) bar read
       test_is = sym (ap₂ (admits (above rule)) same_bar read_is)

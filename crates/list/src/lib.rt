@@ -8,12 +8,12 @@ ghost use Rattle.ranking.specs.Standing.{above, top};
 ghost use Rattle.window.specs.Rows.{row_count, standing};
 ghost use Rattle.list.specs.Lines.{most_lines, lines_of, lines_in, columns_of, all_of, falls, blank, numbers_in, editions_in};
 ghost use Rattle.list.specs.Bars.{bar_at, bar_of};
-ghost use Rattle.list.specs.Rows.{rows_of};
+ghost use Rattle.list.specs.Rows.{rows_in};
 ghost use Rattle.list.specs.Inner.{Roomy, rank_in, new_in, slid, Placing, least_at, turns, admits, wiped, Gathered};
 
 use ranking::Rule;
 use values::Name;
-use window::Window;
+use window::{Rows, Window};
 
 // The first `len` places are its lines. In a list that is well stored the others are 0.
 #[derive(Clone, Copy)]
@@ -189,28 +189,19 @@ impl Bar {
     }
 }
 
-// The best k of the reports in the first `rows` rows of a window. A report that doesn't count, or doesn't pass the bar,
+// The best k of the reports in the first `n` rows of a window. A report that doesn't count, or doesn't pass the bar,
 // changes nothing.
-pub fn gathered<'a>(
-    rule: Rule,
-    k: u8,
-    losses: &'a [u16; Window::ROWS],
-    shakes: &'a [u16; Window::ROWS],
-    names: &'a [u32; Window::ROWS],
-    rows: usize,
-) -> Lines
-    ensures { result ≡ columns_of (top rule (min k most_lines) (standing (rows_of losses.now shakes.now names.now) (min rows row_count))) }
+pub fn gathered<'a>(rule: Rule, k: u8, rows: &'a Rows, n: usize) -> Lines
+    ensures { result ≡ columns_of (top rule (min k most_lines) (standing (rows_in rows.now) (min n row_count))) }
 {
     let most = smaller(k as usize, Lines::MOST);
-    let end = smaller(rows, Window::ROWS);
+    let end = smaller(n, Window::ROWS);
     let mut found = [0u32; Lines::MOST];
     let mut by = [0i32; Lines::MOST];
-    let up = upward(rule, most, losses, shakes, names, end, &mut found, &mut by);
+    let up = upward(rule, most, rows, end, &mut found, &mut by);
     let mut len = up.len;
     if up.rows < end {
-        len = downward(
-            rule, most, losses, shakes, names, up.rows, end, &mut found, &mut by, len,
-        );
+        len = downward(rule, most, rows, up.rows, end, &mut found, &mut by, len);
     }
     let count = len as u8;
     Lines {
@@ -226,16 +217,14 @@ pub fn gathered<'a>(
 fn upward<'a, 'b>(
     rule: Rule,
     most: usize,
-    losses: &'a [u16; Window::ROWS],
-    shakes: &'a [u16; Window::ROWS],
-    names: &'a [u32; Window::ROWS],
+    rows: &'a Rows,
     end: usize,
     found: &'b mut [u32; Lines::MOST],
     by: &'b mut [i32; Lines::MOST],
 ) -> Passed
     requires { (most ≤ most_lines) × (end ≤ row_count) × Gathered rule most [] found.old by.old 0 }
     ensures { (result.rows ≤ end)
-        × Gathered rule most (standing (rows_of losses.now shakes.now names.now) result.rows) found.new by.new result.len }
+        × Gathered rule most (standing (rows_in rows.now) result.rows) found.new by.new result.len }
 {
     let mut len: usize = 0;
     let mut bar = bar_in(found, by, len, len == most);
@@ -245,9 +234,9 @@ fn upward<'a, 'b>(
     while row < stop {
         let here = row;
         row += 1;
-        let loss = losses[here];
-        let shake = shakes[here];
-        let name = names[here];
+        let loss = rows.losses[here];
+        let shake = rows.shakes[here];
+        let name = rows.names[here];
         let Some(score) = rule.score_from(loss, shake, name, least) else {
             continue;
         };
@@ -270,9 +259,7 @@ fn upward<'a, 'b>(
 fn downward<'a, 'b>(
     rule: Rule,
     most: usize,
-    losses: &'a [u16; Window::ROWS],
-    shakes: &'a [u16; Window::ROWS],
-    names: &'a [u32; Window::ROWS],
+    rows: &'a Rows,
     low: usize,
     high: usize,
     found: &'b mut [u32; Lines::MOST],
@@ -280,8 +267,8 @@ fn downward<'a, 'b>(
     had: usize,
 ) -> usize
     requires { (most ≤ most_lines) × (low ≤ high) × (high ≤ row_count)
-        × Gathered rule most (standing (rows_of losses.now shakes.now names.now) low) found.old by.old had }
-    ensures { Gathered rule most (standing (rows_of losses.now shakes.now names.now) high) found.new by.new result }
+        × Gathered rule most (standing (rows_in rows.now) low) found.old by.old had }
+    ensures { Gathered rule most (standing (rows_in rows.now) high) found.new by.new result }
 {
     let mut len = had;
     let mut bar = bar_in(found, by, len, len == most);
@@ -289,9 +276,9 @@ fn downward<'a, 'b>(
     let mut row = high;
     while low < row {
         row -= 1;
-        let loss = losses[row];
-        let shake = shakes[row];
-        let name = names[row];
+        let loss = rows.losses[row];
+        let shake = rows.shakes[row];
+        let name = rows.names[row];
         let Some(score) = rule.score_from(loss, shake, name, least) else {
             continue;
         };

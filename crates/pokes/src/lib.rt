@@ -117,9 +117,9 @@ fn with_row(board: Board, row: usize, number: u32, loss: u16, shake: u16, extras
     let mut window = board.window;
     let slots = board.slots;
     if row < Window::ROWS {
-        window.names[row] = renamed(window.names[row], number, extras);
-        window.losses[row] = loss;
-        window.shakes[row] = shake;
+        window.rows.names[row] = renamed(window.rows.names[row], number, extras);
+        window.rows.losses[row] = loss;
+        window.rows.shakes[row] = shake;
     }
     Board { window, slots }
 }

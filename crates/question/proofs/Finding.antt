@@ -26,7 +26,7 @@ use Rattle.window.specs.declared.Window.{Window}
 use Rattle.window.specs.Rows.{number_in, values_in, report_at, report_in, standing}
 use Rattle.list.specs.declared.Bar.{Bar}
 use Rattle.list.specs.Lines.{columns_of}
-use Rattle.list.specs.Rows.{rows_of}
+use Rattle.list.specs.Rows.{rows_in}
 use Rattle.list.proofs.Stored.{roomy_stored, length_shown}
 use Rattle.list.proofs.Placing.{best_back}
 use Rattle.list.proofs.Bars.{bar_full, bar_open}
@@ -133,14 +133,14 @@ module _ (q : Question) (w : Window) where
   searched_rows n e = ap (λ hs. cond (leb q.k 16) (searched_in q hs) (record { steps = 0; question = q })) e
 
 -- the arrays are all that a search reads of a window
-standing-same : (w v : Window) → w.losses ≡ v.losses → w.shakes ≡ v.shakes → w.names ≡ v.names → (n : ℕ) → standing w n ≡ standing v n
+standing-same : (w v : Window) → w.rows.losses ≡ v.rows.losses → w.rows.shakes ≡ v.rows.shakes → w.rows.names ≡ v.rows.names → (n : ℕ) → standing w n ≡ standing v n
 standing-same w v a b c zero = refl
 standing-same w v a b c (suc n) =
     ap₂ (λ (h : Held) l. cond (eqb h.number 0) l (h ∷ l)) (λ i. report_at (record { loss = get_or (a i) n 0; shake = get_or (b i) n 0; name = get_or (c i) n 0 }))
     (standing-same w v a b c n)
 
-pub searched_arrays : (q : Question) (w : Window) → searched_on q (rows_of w.losses w.shakes w.names) ≡ searched_on q w
+pub searched_arrays : (q : Question) (w : Window) → searched_on q (rows_in w.rows) ≡ searched_on q w
 unfolding searched_on in_rows
 searched_arrays q w =
     ap (λ hs. cond (leb q.k 16) (searched_in q hs) (record { steps = 0; question = q }))
-    (standing-same (rows_of w.losses w.shakes w.names) w refl refl refl 1024)
+    (standing-same (rows_in w.rows) w refl refl refl 1024)

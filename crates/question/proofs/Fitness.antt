@@ -67,13 +67,13 @@ module _ (w : Window) (rule : Rule) (e : Entry) (m : ℕ) (is : m ≡ e.name / 4
   unfolding held_as
   by_row = ap (λ n. holds_number w.counts n && is_line_of rule e (report_in w (row_of w.counts.size n))) (sym is)
 
-  row_name : (entry rule row).name ≡ get_or w.names (row_of w.counts.size m) 0
-  row_name = name_back (get_or w.names (row_of w.counts.size m) 0)
+  row_name : (entry rule row).name ≡ get_or w.rows.names (row_of w.counts.size m) 0
+  row_name = name_back (get_or w.rows.names (row_of w.counts.size m) 0)
 
   pub line_none : holds_number w.counts m ≡ false → held_as w rule e ≡ false
   line_none h = by_row ∙ and_stops (is_line_of rule e row) h
 
-  pub line_other : (e.name ≡ get_or w.names (row_of w.counts.size m) 0 → ⊥) → held_as w rule e ≡ false
+  pub line_other : (e.name ≡ get_or w.rows.names (row_of w.counts.size m) 0 → ⊥) → held_as w rule e ≡ false
   line_other other =
       by_row
       ∙ and_no (holds_number w.counts m)
@@ -85,7 +85,7 @@ module _ (w : Window) (rule : Rule) (e : Entry) (m : ℕ) (is : m ≡ e.name / 4
       ∙ and_no (holds_number w.counts m)
       (and_stops (equal e.score (entry rule row).score) (and_stops (eqb e.name (entry rule row).name) out))
 
-  pub line_score : holds_number w.counts m ≡ true → e.name ≡ get_or w.names (row_of w.counts.size m) 0 → is_counted rule row ≡ true → held_as w rule e ≡ equal e.score (entry rule row).score
+  pub line_score : holds_number w.counts m ≡ true → e.name ≡ get_or w.rows.names (row_of w.counts.size m) 0 → is_counted rule row ≡ true → held_as w rule e ≡ equal e.score (entry rule row).score
   line_score h name counted =
       by_row
       ∙ and_after (is_line_of rule e row) h

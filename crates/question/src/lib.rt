@@ -6,7 +6,7 @@ ghost use Rattle.search.specs.Best.{best, placed};
 ghost use Rattle.ranking.specs.Standing.{above};
 ghost use Rattle.window.specs.Rows.{row_count, report_at};
 ghost use Rattle.list.specs.Lines.{most_lines, lines_of, all_of, blank};
-ghost use Rattle.list.specs.Rows.{rows_of};
+ghost use Rattle.list.specs.Rows.{rows_in};
 ghost use Rattle.question.specs.Lines.{asked, list_of, holding, with_list, lines, empty_slot, with_entry, cut_to_k, finished, begun, step_on, searched_on, searched_first, steps_taken, is_marked, is_past, marks_of, ended_of, with_next, cut_with};
 ghost use Rattle.question.specs.Calls.{holds_number, held_as, next_fits, ranges_fit, fit_question, step_call, begin_call};
 ghost use Rattle.question.specs.Inner.{taking, list_taken, step_refusal};
@@ -14,7 +14,7 @@ ghost use Rattle.question.specs.Inner.{taking, list_taken, step_refusal};
 use list::{Lines, gathered};
 use ranking::{Grid, Rule};
 use values::Name;
-use window::{Counts, Row, Window};
+use window::{Counts, Row, Rows, Window};
 
 // `next` is the cell that the search takes next, 256 where none is left: the cells before it in the visiting order are the
 // marked ones. An empty slot has k 0 and everything else 0, and so has every line past the first `len`. The fields' order is
@@ -194,9 +194,9 @@ impl Question {
         let mut list = self.ranked();
         let mut row: usize = 0;
         while row < Window::ROWS {
-            let loss = window.losses[row];
-            let shake = window.shakes[row];
-            let name = window.names[row];
+            let loss = window.rows.losses[row];
+            let shake = window.rows.shakes[row];
+            let name = window.rows.names[row];
             list = list.taking(Row { loss, shake, name });
             row += 1;
         }
@@ -231,18 +231,12 @@ impl Question {
     pub fn searched(self, window: Window) -> Searched
         ensures { result ≡ searched_on self window }
     {
-        self.searched_in(&window.losses, &window.shakes, &window.names, Window::ROWS)
+        self.searched_in(&window.rows, Window::ROWS)
     }
 
-    // The same over the reports in the first `rows` rows alone, for a caller that lends them.
-    pub fn searched_in<'a>(
-        self,
-        losses: &'a [u16; Window::ROWS],
-        shakes: &'a [u16; Window::ROWS],
-        names: &'a [u32; Window::ROWS],
-        rows: usize,
-    ) -> Searched
-        ensures { result ≡ searched_first self (rows_of losses.now shakes.now names.now) (min rows row_count) }
+    // The same over the reports in the first `n` rows alone, for a caller that lends them.
+    pub fn searched_in<'a>(self, rows: &'a Rows, n: usize) -> Searched
+        ensures { result ≡ searched_first self (rows_in rows.now) (min n row_count) }
     {
         if Question::LINES < self.k {
             return Searched {
@@ -250,7 +244,7 @@ impl Question {
                 question: self,
             };
         }
-        let list = gathered(self.rule, self.k, losses, shakes, names, rows);
+        let list = gathered(self.rule, self.k, rows, n);
         self.holding(list).ended()
     }
 
@@ -451,9 +445,9 @@ fn held_as(window: Window, rule: Rule, name: u32, score: i32) -> bool
         return false;
     }
     let row = ((number - 1) % (counts.size as u32)) as usize;
-    let loss = window.losses[row];
-    let shake = window.shakes[row];
-    let own_name = window.names[row];
+    let loss = window.rows.losses[row];
+    let shake = window.rows.shakes[row];
+    let own_name = window.rows.names[row];
     if name != own_name {
         return false;
     }

@@ -15,7 +15,7 @@ serve_once κs a x y s t p q =
     let at = p.place ∙ sym q.place in
     λ i. record { question = question i; at = at i }
 
-serve_leaves_once : OneLeft 3 serve-kinds.ps serve-kinds.r serve-reads.Post (List ℕ) (λ κs s. s.1.1.1.1.1.1.1.0.now)
+serve_leaves_once : OneLeft 3 serve-kinds.ps serve-kinds.r serve-reads.Post (List ℕ) (λ κs s. s.1.1.1.1.1.0.now)
 serve_leaves_once κs a x y s t p q = p.stored ∙ sym q.stored
 
 put_refusal_once : OneAnswer 1 put-refusal-kinds.ps put-refusal-kinds.r put-refusal-reads.Post

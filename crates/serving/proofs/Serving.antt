@@ -15,7 +15,7 @@ use Rattle.laws.proofs.Tests.{Tested, passed, failed, tested, if_so, if_not}
 use Rattle.window.specs.Rows.{sized, standing}
 use Rattle.window.proofs.Fitness.{size_range}
 use Rattle.question.specs.declared.Question.{Question}
-use Rattle.question.specs.Lines.{rows_of}
+use Rattle.list.specs.Rows.{rows_in}
 use Rattle.board.specs.declared.Board.{Board}
 use Rattle.board.specs.declared.Placed.{Placed}
 use Rattle.items.specs.Items.{setting_in}
@@ -64,7 +64,7 @@ module _ (log : Log) (window : sized log.board.window.counts.size ≡ true) wher
   b = log.board
 
   abbrev rows : List Held
-  rows = standing (rows_of b.window.losses b.window.shakes b.window.names) 1024
+  rows = standing (rows_in b.window.rows) 1024
 
   abbrev n : ℕ
   n = next_item log.items

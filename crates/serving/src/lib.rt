@@ -5,13 +5,13 @@ ghost use Rattle.std.specs.Prelude.{◌≡◌, cond, []};
 ghost use Rattle.std.proofs.lemmas.List.Edits.{sets};
 ghost use Rattle.text.specs.Text.{behind, r_line};
 ghost use Rattle.window.specs.Rows.{row_count, standing};
-ghost use Rattle.question.specs.Lines.{rows_of};
+ghost use Rattle.list.specs.Rows.{rows_in};
 ghost use Rattle.serving.specs.Serving.{shown_text, seated_text, served, Serves};
 
 use items::Item;
 use question::Question;
 use slot::Shown;
-use window::Window;
+use window::Rows;
 
 // What a slot holds behind an item for it, and the place behind what that printed.
 #[derive(Clone, Copy)]
@@ -26,13 +26,11 @@ pub fn serve<'a>(
     item: u64,
     value: &[u8],
     held: Question,
-    losses: &'a [u16; Window::ROWS],
-    shakes: &'a [u16; Window::ROWS],
-    names: &'a [u32; Window::ROWS],
+    rows: &'a Rows,
     out: &mut [u8],
     at: usize,
 ) -> Slot
-    ensures { Serves (served tag item value.now held (standing (rows_of losses.now shakes.now names.now) row_count)) out.old at result.question result.at out.new }
+    ensures { Serves (served tag item value.now held (standing (rows_in rows.now) row_count)) out.old at result.question result.at out.new }
 {
     if tag == Item::SHOW {
         return Slot {
@@ -47,7 +45,7 @@ pub fn serve<'a>(
         };
     }
     let rule = journal::rule_in(value);
-    let seated = slot::set_in(held, wire::byte(value, 1), rule, losses, shakes, names);
+    let seated = slot::set_in(held, wire::byte(value, 1), rule, rows);
     let question = seated.question;
     Slot {
         question,

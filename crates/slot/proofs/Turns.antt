@@ -26,7 +26,7 @@ use Rattle.window.specs.declared.Window.{Window}
 use Rattle.window.specs.Rows.{number_in, held_reports, fit_window, report_in, standing}
 use Rattle.question.specs.declared.Question.{Question}
 use Rattle.question.specs.declared.Searched.{Searched}
-use Rattle.list.specs.Rows.{rows_of}
+use Rattle.list.specs.Rows.{rows_in}
 use Rattle.question.specs.Lines.{asked, lines, marked, is_marked, empty_slot, searched_in, in_rows, searched_on, searched_first}
 use Rattle.list.specs.Lines.{all_of}
 use Rattle.question.proofs.Stored.{lines-asked}
@@ -46,7 +46,7 @@ unfolding searched_first
 first_among q w n = refl
 
 -- The arrays are all that a search reads of a window.
-pub rows_alone : (w : Window) (n : ℕ) → standing (rows_of w.losses w.shakes w.names) n ≡ standing w n
+pub rows_alone : (w : Window) (n : ℕ) → standing (rows_in w.rows) n ≡ standing w n
 rows_alone w zero = refl
 rows_alone w (suc n) = ap (λ l. cond (eqb (number_in w n) 0) l (report_in w n ∷ l)) (rows_alone w n)
 

@@ -5,7 +5,7 @@ ghost use Rattle.std.specs.Prelude.{◌≡◌, ◌&&◌, min};
 ghost use Rattle.window.specs.Rows.{row_count, report_at, standing};
 ghost use Rattle.list.specs.Lines.{most_lines};
 ghost use Rattle.question.specs.Lines.{is_past};
-ghost use Rattle.list.specs.Rows.{rows_of};
+ghost use Rattle.list.specs.Rows.{rows_in};
 ghost use Rattle.slot.specs.Asking.{ask_refusal, set_in, empty_refusal, emptied, not_shown, read_in};
 ghost use Rattle.slot.specs.Turn.{place_on, listed, lists, turn};
 ghost use Rattle.slot.specs.Gauges.{least_of, last_name};
@@ -18,7 +18,7 @@ use list::{Lines, editions_in, numbers_in};
 use question::Question;
 use ranking::{Grid, Rule};
 use values::Name;
-use window::{Row, Window};
+use window::{Row, Rows, Window};
 
 // What setting a question answers: the steps of its search, and what the slot holds then.
 #[derive(Clone, Copy)]
@@ -80,15 +80,8 @@ impl Shown {
 }
 
 // Sets a question in a slot that holds this one, and searches it over the rows that are lent. Refused 14, 15, 30, 33, 16.
-pub fn set_in<'a>(
-    question: Question,
-    k: u8,
-    rule: Rule,
-    losses: &'a [u16; Window::ROWS],
-    shakes: &'a [u16; Window::ROWS],
-    names: &'a [u32; Window::ROWS],
-) -> Seated
-    ensures { result ≡ set_in question k rule (standing (rows_of losses.now shakes.now names.now) row_count) }
+pub fn set_in<'a>(question: Question, k: u8, rule: Rule, rows: &'a Rows) -> Seated
+    ensures { result ≡ set_in question k rule (standing (rows_in rows.now) row_count) }
 {
     let refusal = ask_refusal(question.k, k, rule);
     if refusal != 0 {
@@ -101,7 +94,7 @@ pub fn set_in<'a>(
     let mut fresh = Question::fresh();
     fresh.k = k;
     fresh.rule = rule;
-    let found = fresh.searched_in(losses, shakes, names, Window::ROWS);
+    let found = fresh.searched_in(rows, Window::ROWS);
     let placed = found.question;
     Seated {
         refusal: 0,
@@ -170,19 +163,11 @@ pub fn read_in(question: Question) -> Shown
 }
 
 // A report enters: the question lists it if its list takes it, and is searched afresh if it lists one that has gone, over the
-// first `rows` of the rows that are lent. The numbers up to `gone` have gone. Of the loss and the shake the low 12 bits
+// first `n` of the rows that are lent. The numbers up to `gone` have gone. Of the loss and the shake the low 12 bits
 // are looked at.
-pub fn turn<'a>(
-    question: Question,
-    row: Row,
-    gone: u32,
-    losses: &'a [u16; Window::ROWS],
-    shakes: &'a [u16; Window::ROWS],
-    names: &'a [u32; Window::ROWS],
-    rows: usize,
-) -> Turned
+pub fn turn<'a>(question: Question, row: Row, gone: u32, rows: &'a Rows, n: usize) -> Turned
     ensures { result ≡ turn question (report_at row) gone
-        (standing (rows_of losses.now shakes.now names.now) (min rows row_count)) }
+        (standing (rows_in rows.now) (min n row_count)) }
 {
     let with = listed(question, row);
     if !lists(with, gone) {
@@ -192,7 +177,7 @@ pub fn turn<'a>(
             question: with,
         };
     }
-    let found = with.searched_in(losses, shakes, names, rows);
+    let found = with.searched_in(rows, n);
     let left = found.question;
     Turned {
         searched: true,

@@ -22,7 +22,8 @@ use Rattle.window.specs.declared.Place.{Place}
 use Rattle.window.specs.Rows.{sized, values_at, report_at, standing, added, place_for}
 use Rattle.window.proofs.Fitness.{size_range, added-taken}
 use Rattle.question.specs.declared.Question.{Question}
-use Rattle.question.specs.Lines.{in_rows, rows_of}
+use Rattle.question.specs.Lines.{in_rows}
+use Rattle.list.specs.Rows.{rows_in}
 use Rattle.slot.specs.declared.Turned.{Turned}
 use Rattle.slot.specs.Turn.{takes, lists}
 use Rattle.slot.specs.Turn as one
@@ -61,8 +62,8 @@ turn b w q = one.turn q (report b) b.gone (in_rows w)
 
 module _ (b : Brought) (w : Window) (q : Question) where
   -- A turn over the rows in use is one over all rows.
-  pub turned-is : (rows : ℕ) → standing (rows_of w.losses w.shakes w.names) rows ≡ standing (rows_of w.losses w.shakes w.names) 1024
-      → one.turn q (report b) b.gone (standing (rows_of w.losses w.shakes w.names) rows) ≡ turn b w q
+  pub turned-is : (rows : ℕ) → standing (rows_in w.rows) rows ≡ standing (rows_in w.rows) 1024
+      → one.turn q (report b) b.gone (standing (rows_in w.rows) rows) ≡ turn b w q
   unfolding in_rows
   turned-is rows all = ap (one.turn q (report b) b.gone) (all ∙ rows_alone w 1024)
 
@@ -205,7 +206,7 @@ module _ (log : Log) (window : sized log.board.window.counts.size ≡ true) (tag
 
     -- The report's row takes it.
     pub row_takes : {p : Place} → p ≡ place_for log.board.window.counts
-        → record { losses = set log.board.window.losses p.row b.row.loss; shakes = set log.board.window.shakes p.row b.row.shake; names = set log.board.window.names p.row b.row.name; counts = record { size = log.board.window.counts.size; entered = b.number; held = p.held } } ≡ added log.board.window (values b)
+        → record { rows = record { losses = set log.board.window.rows.losses p.row b.row.loss; shakes = set log.board.window.rows.shakes p.row b.row.shake; names = set log.board.window.rows.names p.row b.row.name }; counts = record { size = log.board.window.counts.size; entered = b.number; held = p.held } } ≡ added log.board.window (values b)
     unfolding place_for
     row_takes placed =
         let w = log.board.window in
@@ -213,7 +214,7 @@ module _ (log : Log) (window : sized log.board.window.counts.size ≡ true) (tag
         let number = ap (λ (h : Brought). h.number) e ∙ enters.next in
         let row = subst (λ (h : Brought). h.row ≡ as_row (w.counts.entered + 1) (values h)) (sym e) enters.so in
         let place = placed ∙ if_so _ _ window in
-        (λ j. record { losses = set w.losses (place j).row b.row.loss; shakes = set w.shakes (place j).row b.row.shake; names = set w.names (place j).row (row j).name; counts = record { size = w.counts.size; entered = number j; held = (place j).held } })
+        (λ j. record { rows = record { losses = set w.rows.losses (place j).row b.row.loss; shakes = set w.rows.shakes (place j).row b.row.shake; names = set w.rows.names (place j).row (row j).name }; counts = record { size = w.counts.size; entered = number j; held = (place j).held } })
         ∙ sym (added-taken w (values b) window may.room)
 
     pub frame_enters : {new : Window} {slots : List Question} {n at₀ at : ℕ} {out₀ out : List ℕ} → new ≡ added log.board.window (values b)

@@ -49,7 +49,7 @@ rowed_with {names} {rows} r row v fits {n} e = go (tested (leb rows row))
 
 -- ---- what a search reads
 
-pub rowed_all : (w : Window) {rows : ℕ} → Rowed w.names rows → standing w (min rows 1024) ≡ standing w 1024
+pub rowed_all : (w : Window) {rows : ℕ} → Rowed w.rows.names rows → standing w (min rows 1024) ≡ standing w 1024
 rowed_all w {rows} r =
     let there : min rows 1024 ≡ rows = omega (arith, r.few) in
     let whole : rows + (1024 - rows) ≡ 1024 = omega (arith, r.few) in

@@ -12,11 +12,12 @@ use Rattle.wire.proofs.Fields.{length_part}
 use Rattle.laws.proofs.Tests.{and_both}
 use Rattle.values.specs.declared.Values.{Values}
 use Rattle.values.specs.Range.{low}
+use Rattle.window.specs.declared.Rows.{Rows}
 use Rattle.window.specs.declared.Window.{Window}
 use Rattle.window.specs.declared.Place.{Place}
 use Rattle.window.specs.Rows.{sized, standing, added, place_for}
 use Rattle.question.specs.declared.Question.{Question}
-use Rattle.question.specs.Lines.{rows_of}
+use Rattle.list.specs.Rows.{rows_in}
 use Rattle.slot.specs.declared.gauge.Gauge.{Gauge}
 use Rattle.slot.specs.Gauges.{no_question, gauge_of, is_quiet, is_idle, in_use}
 use Rattle.slot.specs.Turn as one
@@ -67,10 +68,10 @@ pub record Turns (b : Brought) (w : Window) (items rows : ℕ) (slots₀ : List 
   pub same : length out ≡ length out₀
   pub turning : Turning (turn b w) items slots₀ out₀ at₀ n slots at out
   pub each : gauges ≡ map gauge_of slots
-  pub rowed : Rowed w.names rows
+  pub rowed : Rowed w.rows.names rows
 
 module _ {b : Brought} {w : Window} {items rows : ℕ} {slots₀ : List Question} {used : ℕ} {out₀ : List ℕ} {at₀ : ℕ} where
-  pub turns-none : {gauges₀ : List Gauge} → Gauged slots₀ gauges₀ used → length slots₀ ≡ 32 → length out₀ < 2 ^ 64 → at₀ < 2 ^ 64 → Rowed w.names rows → Turns b w items rows slots₀ used out₀ at₀ 0 slots₀ gauges₀ at₀ out₀
+  pub turns-none : {gauges₀ : List Gauge} → Gauged slots₀ gauges₀ used → length slots₀ ≡ 32 → length out₀ < 2 ^ 64 → at₀ < 2 ^ 64 → Rowed w.rows.names rows → Turns b w items rows slots₀ used out₀ at₀ 0 slots₀ gauges₀ at₀ out₀
   turns-none g many small fits rowed =
       record { within = omega arith; few = g.few; small = small; all_slots = many; same = refl; turning = turning_none (turn b w) items slots₀ out₀ at₀ fits; each = g.each; rowed = rowed }
 
@@ -95,11 +96,11 @@ module _ {b : Brought} {w : Window} {items rows : ℕ} {slots₀ : List Question
         }
 
     -- A slot that has its turn.
-    pub turns_more : {r : Turned} {g : Gauge} {at₁ : ℕ} {out₁ : List ℕ} → r ≡ one.turn (get_or slots n no_question) (report b) b.gone (standing (rows_of w.losses w.shakes w.names) (min rows 1024))
+    pub turns_more : {r : Turned} {g : Gauge} {at₁ : ℕ} {out₁ : List ℕ} → r ≡ one.turn (get_or slots n no_question) (report b) b.gone (standing (rows_in w.rows) (min rows 1024))
         → (at₁ ≡ behind at (cond r.searched (s_line items n r.steps) [])) × (out₁ ≡ sets out at (cond r.searched (s_line items n r.steps) [])) → g ≡ gauge_of r.question
         → Turns b w items rows slots₀ used out₀ at₀ (n + 1) (set slots n r.question) (set gauges n g) at₁ out₁
     turns_more {r} e p f =
-        let is = e ∙ turned-is b w (get_or slots n no_question) (min rows 1024) (rowed_all (rows_of w.losses w.shakes w.names) t.rowed) in
+        let is = e ∙ turned-is b w (get_or slots n no_question) (min rows 1024) (rowed_all (rows_in w.rows) t.rowed) in
         record {
           within = omega arith;
           few = t.few;
@@ -122,7 +123,7 @@ module _ (log₀ : Log) (bytes out₀ : List ℕ) (at₀ : ℕ) where
     pub all_slots : length slots ≡ 32
     pub went : Went log₀ bytes out₀ at₀ i (log_of items w slots (stations_in bus known lasts)) at out
     pub gauged : Gauged slots gauges used
-    pub rowed : Rowed w.names rows
+    pub rowed : Rowed w.rows.names rows
 
   module _ (small : length out₀ < 2 ^ 64) {items : ℕ} {w : Window} {rows : ℕ} {slots : List Question} {gauges : List Gauge} {used : ℕ} {bus : List ℕ} {known : List Bool} {lasts : List ℕ} {i at : ℕ} {out : List ℕ}
       (l : Stands items w rows slots gauges used bus known lasts i at out) {go : Bool} (e-go : go ≡ (comes w.counts.size bytes i && has_room (length out) at)) (goes : go ≡ true)
@@ -144,7 +145,7 @@ module _ (log₀ : Log) (bytes out₀ : List ℕ) (at₀ : ℕ) where
 
     -- An item for a slot.
     pub stands_slot : is_frame tag ≡ false → {v : List ℕ} {s : ℕ} {q : Question} {g : Gauge} {used₁ at₁ i₁ : ℕ} {out₁ : List ℕ} → v ≡ part (i + 3) (size_at bytes i) bytes → s ≡ get_or v 0 0
-        → Serves (served tag items₁ v (get_or slots s no_question) (standing (rows_of w.losses w.shakes w.names) 1024)) out at q at₁ out₁ → g ≡ gauge_of q → used₁ ≡ in_use 32 (set slots s q) → i₁ ≡ i + (3 + length v)
+        → Serves (served tag items₁ v (get_or slots s no_question) (standing (rows_in w.rows) 1024)) out at q at₁ out₁ → g ≡ gauge_of q → used₁ ≡ in_use 32 (set slots s q) → i₁ ≡ i + (3 + length v)
         → Stands items₁ w rows (set slots s q) (set gauges s g) used₁ bus known lasts i₁ at₁ out₁
     stands_slot other {v} {s} {q} {g} {used₁} {at₁} {i₁} e-v e-s d e-g e-used e-i =
         let c = slot_there other in
@@ -203,9 +204,9 @@ module _ (log₀ : Log) (bytes out₀ : List ℕ) (at₀ : ℕ) where
       row_there e = row_fits w window e
 
       -- A report enters: the slots have their turns.
-      pub turns-begin : {r : Place} → r ≡ place_for w.counts → {losses shakes names : List ℕ} {rows₁ : ℕ} → Stored w.losses w.shakes w.names rows r.row b.row rows₁ losses shakes names
+      pub turns-begin : {r : Place} → r ≡ place_for w.counts → {new : Rows} {rows₁ : ℕ} → Stored w.rows rows r.row b.row rows₁ new
           → {at₁ : ℕ} {out₁ : List ℕ} → (at₁ ≡ behind at (cond b.refused (r_line items₁ b.code) [])) × (out₁ ≡ sets out at (cond b.refused (r_line items₁ b.code) []))
-          → Turns b (window_of (record { size = w.counts.size; entered = b.number; held = r.held }) losses shakes names) items₁ rows₁ slots used out₁ at₁ 0 slots gauges at₁ out₁
+          → Turns b (window_of (record { size = w.counts.size; entered = b.number; held = r.held }) new) items₁ rows₁ slots used out₁ at₁ 0 slots gauges at₁ out₁
       turns-begin {r} e-r {rows₁ = rows₁} st p =
           turns-none l.gauged l.all_slots (omega (arith, kept (put p), l.same, small)) (place_fits (put p))
           (subst (λ (ns : List ℕ). Rowed ns rows₁) (sym st.names) (rowed_with l.rowed r.row b.row.name (row_there e-r) st.used))
@@ -225,18 +226,18 @@ module _ (log₀ : Log) (bytes out₀ : List ℕ) (at₀ : ℕ) where
           }
 
       -- A report enters, and the slots in use have had their turns.
-      pub stands_enters : (b.number ≡ 0 → ⊥) → {r : Place} → r ≡ place_for w.counts → {losses shakes names : List ℕ} {rows₁ : ℕ} → Stored w.losses w.shakes w.names rows r.row b.row rows₁ losses shakes names
+      pub stands_enters : (b.number ≡ 0 → ⊥) → {r : Place} → r ≡ place_for w.counts → {new : Rows} {rows₁ : ℕ} → Stored w.rows rows r.row b.row rows₁ new
           → {at₁ i₁ : ℕ} {out₁ : List ℕ} → (at₁ ≡ behind at (cond b.refused (r_line items₁ b.code) [])) × (out₁ ≡ sets out at (cond b.refused (r_line items₁ b.code) [])) → i₁ ≡ i + (3 + frame_size tag)
-          → {n at₂ : ℕ} {slots₂ : List Question} {gauges₂ : List Gauge} {out₂ : List ℕ} → Turns b (window_of (record { size = w.counts.size; entered = b.number; held = r.held }) losses shakes names) items₁ rows₁ slots used out₁ at₁ n slots₂ gauges₂ at₂ out₂ → used ≤ n
-          → Stands items₁ (window_of (record { size = w.counts.size; entered = b.number; held = r.held }) losses shakes names) rows₁ slots₂ gauges₂ used bus₁ known₁ lasts₁ i₁ at₂ out₂
-      stands_enters positive {r} e-r {losses} {shakes} {names} {rows₁} st {at₁} {i₁} {out₁} p e-i {n} {at₂} {slots₂} {gauges₂} {out₂} m end_of_lem =
-          let new : Window = window_of (record { size = w.counts.size; entered = b.number; held = r.held }) losses shakes names in
-          let grown : new ≡ added w (values b) =
-          (λ j. record { losses = st.losses j; shakes = st.shakes j; names = st.names j; counts = record { size = w.counts.size; entered = b.number; held = r.held } })
+          → {n at₂ : ℕ} {slots₂ : List Question} {gauges₂ : List Gauge} {out₂ : List ℕ} → Turns b (window_of (record { size = w.counts.size; entered = b.number; held = r.held }) new) items₁ rows₁ slots used out₁ at₁ n slots₂ gauges₂ at₂ out₂ → used ≤ n
+          → Stands items₁ (window_of (record { size = w.counts.size; entered = b.number; held = r.held }) new) rows₁ slots₂ gauges₂ used bus₁ known₁ lasts₁ i₁ at₂ out₂
+      stands_enters positive {r} e-r {new} {rows₁} st {at₁} {i₁} {out₁} p e-i {n} {at₂} {slots₂} {gauges₂} {out₂} m end_of_lem =
+          let fuller : Window = window_of (record { size = w.counts.size; entered = b.number; held = r.held }) new in
+          let grown : fuller ≡ added w (values b) =
+          (λ j. record { rows = record { losses = st.losses j; shakes = st.shakes j; names = st.names j }; counts = record { size = w.counts.size; entered = b.number; held = r.held } })
           ∙ row_takes log window tag v (frame_of tag v) done e-items left brings positive e-r in
-          let idle : (k : ℕ) → n ≤ k → k < length slots → record { searched = false; steps = 0; question = get_or slots k no_question } ≡ turn b new (get_or slots k no_question) =
-          λ k h f. turn_idle b new (get_or slots k no_question) (l.gauged.idle k (omega (arith, m.within)) (omega (arith, l.all_slots))) in
-          let all = turning_rest (turn b new) items₁ slots out₁ at₁ (32 - n) n (omega (arith, m.within, m.few, l.all_slots)) m.turning idle m.small (place_fits m.turning.printed) in
+          let idle : (k : ℕ) → n ≤ k → k < length slots → record { searched = false; steps = 0; question = get_or slots k no_question } ≡ turn b fuller (get_or slots k no_question) =
+          λ k h f. turn_idle b fuller (get_or slots k no_question) (l.gauged.idle k (omega (arith, m.within)) (omega (arith, l.all_slots))) in
+          let all = turning_rest (turn b fuller) items₁ slots out₁ at₁ (32 - n) n (omega (arith, m.within, m.few, l.all_slots)) m.turning idle m.small (place_fits m.turning.printed) in
           let whole : length slots ≤ length slots = omega arith in
           let e = is-frame ∙ frame_enters log window tag v (frame_of tag v) done e-items left brings positive grown whole all in
           record {
@@ -245,7 +246,7 @@ module _ (log₀ : Log) (bytes out₀ : List ℕ) (at₀ : ℕ) where
             room = left_room;
             all_slots = m.turning.first.whole ∙ l.all_slots;
             went = went_more log₀ bytes out₀ at₀ l.went _ small (omega (arith, there)) here e (then (omega (arith, l.same, small)) (put p) all.printed) (end e-i);
-            gauged = record { each = m.each; few = m.few; idle = λ k h f. ap is_idle (still_old (turn b new) items₁ slots out₁ at₁ m.turning k (omega (arith, m.within))) ∙ l.gauged.idle k h f };
+            gauged = record { each = m.each; few = m.few; idle = λ k h f. ap is_idle (still_old (turn b fuller) items₁ slots out₁ at₁ m.turning k (omega (arith, m.within))) ∙ l.gauged.idle k h f };
             rowed = m.rowed;
           }
 

@@ -3,6 +3,7 @@ use Rattle.std.specs.Prelude.{ℕ, ◌+◌, Bool, true, false, not, cond, ◌≡
 use Rattle.std.proofs.lemmas.List.Edits.{sets}
 use Rattle.window.specs.declared.Counts.{Counts}
 use Rattle.window.specs.declared.Row.{Row}
+use Rattle.window.specs.declared.Rows.{Rows}
 use Rattle.window.specs.declared.Window.{Window}
 use Rattle.slot.specs.Gauges.{up_to_last}
 use Rattle.board.specs.Work.{arrival}
@@ -31,11 +32,11 @@ abbrev pub with_row : (rows row : ℕ) → ℕ
 with_row rows row = cond (leb rows row) (row + 1) rows
 
 -- A report is stored in its row, and so many rows are in use then.
-pub record Stored (losses₀ shakes₀ names₀ : List ℕ) (rows row : ℕ) (report : Row) (n : ℕ) (losses₁ shakes₁ names₁ : List ℕ) : Type 0 where
-  pub used : n ≡ with_row rows row
-  pub losses : losses₁ ≡ set losses₀ row report.loss
-  pub shakes : shakes₁ ≡ set shakes₀ row report.shake
-  pub names : names₁ ≡ set names₀ row report.name
+pub record Stored (rows₀ : Rows) (filled row : ℕ) (report : Row) (n : ℕ) (rows₁ : Rows) : Type 0 where
+  pub used : n ≡ with_row filled row
+  pub losses : rows₁.losses ≡ set rows₀.losses row report.loss
+  pub shakes : rows₁.shakes ≡ set rows₀.shakes row report.shake
+  pub names : rows₁.names ≡ set rows₀.names row report.name
 
 -- No report, and the line of a refusal or none.
 abbrev pub not_brought : Bool → ℕ → Brought
@@ -56,8 +57,8 @@ brought (Complete r) c =
     }
 
 -- The window of these counts and rows.
-abbrev pub window_of : Counts → (losses shakes names : List ℕ) → Window
-window_of c losses shakes names = record { losses = losses; shakes = shakes; names = names; counts = c }
+abbrev pub window_of : Counts → Rows → Window
+window_of c rows = record { rows = rows; counts = c }
 
 -- The frame in the value of such an item.
 unfoldable pub frame_of : ℕ → List ℕ → Timed

@@ -23,7 +23,7 @@ use journal::Log;
 use question::Question;
 use slot::Gauge;
 use times::{Last, Met, Times};
-use window::{Counts, Place, Row, Window};
+use window::{Counts, Place, Row, Rows, Window};
 use wire::Field;
 
 // The log that the items leave, how many bytes they have, and the place behind their text.
@@ -116,10 +116,8 @@ fn run(
     let board = from.board;
     let window = board.window;
     let mut counts = window.counts;
-    let mut losses = window.losses;
-    let mut shakes = window.shakes;
-    let mut names = window.names;
-    let mut rows = rows_in(&names);
+    let mut rows = window.rows;
+    let mut filled = rows_in(&rows.names);
     let mut slots = board.slots;
     let mut gauges = Gauge::of_slots(slots);
     let mut used = Gauge::in_use(slots);
@@ -138,7 +136,7 @@ fn run(
             let value = value_at(bytes, i);
             let s = wire::byte(value, 0) as usize;
             let held = slots[s];
-            let slot = serving::serve(tag, items, value, held, &losses, &shakes, &names, out, at);
+            let slot = serving::serve(tag, items, value, held, &rows, out, at);
             let left = slot.question;
             slots[s] = left;
             gauges[s] = Gauge::of(left);
@@ -163,14 +161,7 @@ fn run(
         let place = Window::place(counts);
         counts.entered = brought.number;
         counts.held = place.held;
-        rows = put_row(
-            &mut losses,
-            &mut shakes,
-            &mut names,
-            rows,
-            place,
-            brought.row,
-        );
+        filled = put_row(&mut rows, filled, place, brought.row);
         let values = brought.row.values();
         for slot in 0..used {
             let gauge = gauges[slot];
@@ -178,46 +169,31 @@ fn run(
                 continue;
             }
             let held = slots[slot];
-            let turned = slot::turn(
-                held,
-                brought.row,
-                brought.gone,
-                &losses,
-                &shakes,
-                &names,
-                rows,
-            );
+            let turned = slot::turn(held, brought.row, brought.gone, &rows, filled);
             at = journal::put_search(out, at, items, slot as u8, turned.searched, turned.steps);
             let left = turned.question;
             slots[slot] = left;
             gauges[slot] = Gauge::of(left);
         }
     }
-    end_of_run(items, counts, losses, shakes, names, slots, i, at)
+    end_of_run(items, counts, rows, slots, i, at)
 }
 
 // Where the items end: the window with these counts and rows, and the slots.
 fn end_of_run(
     items: u64,
     counts: Counts,
-    losses: [u16; Window::ROWS],
-    shakes: [u16; Window::ROWS],
-    names: [u32; Window::ROWS],
+    rows: Rows,
     slots: [Question; Gauge::SLOTS],
     taken: usize,
     at: usize,
 ) -> Standing
-    ensures { result ≡ record { items = items; board = record { window = window_of counts losses shakes names; slots = slots }; taken = taken; at = at } }
+    ensures { result ≡ record { items = items; board = record { window = window_of counts rows; slots = slots }; taken = taken; at = at } }
 {
     Standing {
         items,
         board: Board {
-            window: Window {
-                losses,
-                shakes,
-                names,
-                counts,
-            },
+            window: Window { rows, counts },
             slots,
         },
         taken,
@@ -251,22 +227,15 @@ fn rows_in<'a>(names: &'a [u32; Window::ROWS]) -> usize
 }
 
 // Stores a report in its row: how many rows there are then up to the last one with a name.
-fn put_row(
-    losses: &mut [u16; Window::ROWS],
-    shakes: &mut [u16; Window::ROWS],
-    names: &mut [u32; Window::ROWS],
-    rows: usize,
-    place: Place,
-    report: Row,
-) -> usize
+fn put_row(rows: &mut Rows, filled: usize, place: Place, report: Row) -> usize
     requires { place.row < row_count }
-    ensures { Stored losses.old shakes.old names.old rows place.row report result losses.new shakes.new names.new }
+    ensures { Stored rows.old filled place.row report result rows.new }
 {
     let row = place.row as usize;
-    losses[row] = report.loss;
-    shakes[row] = report.shake;
-    names[row] = report.name;
-    if rows <= row { row + 1 } else { rows }
+    rows.losses[row] = report.loss;
+    rows.shakes[row] = report.shake;
+    rows.names[row] = report.name;
+    if filled <= row { row + 1 } else { filled }
 }
 
 // Begins with the frame at a place: a time in it is met.

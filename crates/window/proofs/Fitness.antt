@@ -118,9 +118,9 @@ module _ (w : Window) where
 
   -- The arrays have their 1,024 places, as those of every stored window do.
   pub record Whole : Type 0 where
-    pub losses-whole : length w.losses ≡ 1024
-    pub shakes-whole : length w.shakes ≡ 1024
-    pub names-whole : length w.names ≡ 1024
+    pub losses-whole : length w.rows.losses ≡ 1024
+    pub shakes-whole : length w.rows.shakes ≡ 1024
+    pub names-whole : length w.rows.names ≡ 1024
 
 -- ---- a fresh window
 
@@ -161,9 +161,9 @@ module _ (w : Window) (v : Values) where
   grown-whole : Whole w → Whole (grown w v)
   grown-whole k =
       record {
-        losses-whole = length-set w.losses _ v.loss ∙ k.losses-whole;
-        shakes-whole = length-set w.shakes _ v.shake ∙ k.shakes-whole;
-        names-whole = length-set w.names _ (named (w.counts.entered + 1) v.edition) ∙ k.names-whole;
+        losses-whole = length-set w.rows.losses _ v.loss ∙ k.losses-whole;
+        shakes-whole = length-set w.rows.shakes _ v.shake ∙ k.shakes-whole;
+        names-whole = length-set w.rows.names _ (named (w.counts.entered + 1) v.edition) ∙ k.names-whole;
       }
 
   pub added-whole : Whole w → Whole (added w v)
@@ -182,14 +182,14 @@ module _ (w : Window) (v : Values) where
     pub placed : place < 1024
     placed = omega (arith, mod-lt (w.counts.entered + 1 - 1) ranges.ring.positive)
 
-    pub loss_there : get_or (set w.losses place v.loss) place 0 ≡ v.loss
-    loss_there = get_or-set_same w.losses place v.loss 0 (rw whole.losses-whole placed)
+    pub loss_there : get_or (set w.rows.losses place v.loss) place 0 ≡ v.loss
+    loss_there = get_or-set_same w.rows.losses place v.loss 0 (rw whole.losses-whole placed)
 
-    pub shake_there : get_or (set w.shakes place v.shake) place 0 ≡ v.shake
-    shake_there = get_or-set_same w.shakes place v.shake 0 (rw whole.shakes-whole placed)
+    pub shake_there : get_or (set w.rows.shakes place v.shake) place 0 ≡ v.shake
+    shake_there = get_or-set_same w.rows.shakes place v.shake 0 (rw whole.shakes-whole placed)
 
-    pub name_there : get_or (set w.names place (named (w.counts.entered + 1) v.edition)) place 0 ≡ named (w.counts.entered + 1) v.edition
-    name_there = get_or-set_same w.names place (named (w.counts.entered + 1) v.edition) 0 (rw whole.names-whole placed)
+    pub name_there : get_or (set w.rows.names place (named (w.counts.entered + 1) v.edition)) place 0 ≡ named (w.counts.entered + 1) v.edition
+    name_there = get_or-set_same w.rows.names place (named (w.counts.entered + 1) v.edition) 0 (rw whole.names-whole placed)
 
     -- the new report's row has its number and, of a heat in its range, its edition
     pub number_there : number_in (grown w v) place ≡ w.counts.entered + 1
@@ -212,9 +212,9 @@ module _ (w : Window) (v : Values) where
         let still = due-later ranges.ring r other in
         rw (
           still,
-          get_or-set_other w.names place r (named (w.counts.entered + 1) v.edition) 0 other,
-          get_or-set_other w.losses place r v.loss 0 other,
-          get_or-set_other w.shakes place r v.shake 0 other,
+          get_or-set_other w.rows.names place r (named (w.counts.entered + 1) v.edition) 0 other,
+          get_or-set_other w.rows.losses place r v.loss 0 other,
+          get_or-set_other w.rows.shakes place r v.shake 0 other,
         )
 
   -- A fit window stays fit with a report of permitted values more.

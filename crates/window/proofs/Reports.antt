@@ -159,9 +159,9 @@ module _ (w : Window) (v : Values) (ranges : Ranges w.counts) (whole : Whole w) 
   old_report m first entered near =
       let other = rows_differ w.counts.size ranges.ring.positive m (w.counts.entered + 1) first (omega arith) near in
       rw (
-        get_or-set_other w.losses (place w v ranges whole) (row_of w.counts.size m) v.loss 0 other,
-        get_or-set_other w.shakes (place w v ranges whole) (row_of w.counts.size m) v.shake 0 other,
-        get_or-set_other w.names (place w v ranges whole) (row_of w.counts.size m) (named (w.counts.entered + 1) v.edition) 0 other,
+        get_or-set_other w.rows.losses (place w v ranges whole) (row_of w.counts.size m) v.loss 0 other,
+        get_or-set_other w.rows.shakes (place w v ranges whole) (row_of w.counts.size m) v.shake 0 other,
+        get_or-set_other w.rows.names (place w v ranges whole) (row_of w.counts.size m) (named (w.counts.entered + 1) v.edition) 0 other,
       )
 
   -- The held reports of a window with one report more: those that were held, without the oldest where N were, and then the new one.

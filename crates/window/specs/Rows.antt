@@ -29,9 +29,7 @@ sized size = leb 1 size && leb size row_count
 abbrev pub empty : ℕ → Window
 empty size =
     record {
-      losses = replicate row_count 0;
-      shakes = replicate row_count 0;
-      names = replicate row_count 0;
+      rows = record { losses = replicate row_count 0; shakes = replicate row_count 0; names = replicate row_count 0 };
       counts = record { size = size; entered = 0; held = 0 };
     }
 
@@ -47,7 +45,7 @@ row_of size m = (m - 1) % size
 
 -- A row as it stands, the number in it, and the values: a row keeps a report's number and edition in one (rule 17.6).
 abbrev pub row_at : Window → ℕ → Row
-row_at w row = record { loss = get_or w.losses row 0; shake = get_or w.shakes row 0; name = get_or w.names row 0 }
+row_at w row = record { loss = get_or w.rows.losses row 0; shake = get_or w.rows.shakes row 0; name = get_or w.rows.names row 0 }
 
 abbrev pub number_at : Row → ℕ
 number_at row = row.name / editions
@@ -131,9 +129,11 @@ place_for c = cond (sized c.size) (record { row = row_of c.size (c.entered + 1);
 abbrev pub grown : Window → Values → Window
 grown w v =
     record {
-      losses = set w.losses (row_of w.counts.size (w.counts.entered + 1)) v.loss;
-      shakes = set w.shakes (row_of w.counts.size (w.counts.entered + 1)) v.shake;
-      names = set w.names (row_of w.counts.size (w.counts.entered + 1)) (named (w.counts.entered + 1) v.edition);
+      rows = record {
+        losses = set w.rows.losses (row_of w.counts.size (w.counts.entered + 1)) v.loss;
+        shakes = set w.rows.shakes (row_of w.counts.size (w.counts.entered + 1)) v.shake;
+        names = set w.rows.names (row_of w.counts.size (w.counts.entered + 1)) (named (w.counts.entered + 1) v.edition);
+      };
       counts = grown_counts w.counts;
     }
 

@@ -15,12 +15,18 @@ pub struct Counts {
     pub held: u16,
 }
 
-// Report m lies in row (m - 1) mod N, by its loss, its shake, and its name. A row that holds nothing is 0.
+// The rows in three columns: the losses, the shakes and the names of the reports. A row that holds nothing is 0.
 #[derive(Clone, Copy)]
-pub struct Window {
+pub struct Rows {
     pub losses: [u16; Window::ROWS],
     pub shakes: [u16; Window::ROWS],
     pub names: [u32; Window::ROWS],
+}
+
+// Report m lies in row (m - 1) mod N.
+#[derive(Clone, Copy)]
+pub struct Window {
+    pub rows: Rows,
     pub counts: Counts,
 }
 
@@ -147,9 +153,11 @@ fn empty(size: u16) -> Window
         held: 0,
     };
     Window {
-        losses,
-        shakes,
-        names,
+        rows: Rows {
+            losses,
+            shakes,
+            names,
+        },
         counts,
     }
 }
@@ -165,9 +173,9 @@ fn grown(w: Window, values: Values) -> Window
     let row = row_of(size, number) as usize;
     let edition = values.edition;
     let mut next = w;
-    next.losses[row] = values.loss;
-    next.shakes[row] = values.shake;
-    next.names[row] = Name::of(number, edition);
+    next.rows.losses[row] = values.loss;
+    next.rows.shakes[row] = values.shake;
+    next.rows.names[row] = Name::of(number, edition);
     let later = Counts {
         size,
         entered: number,
@@ -214,18 +222,16 @@ fn rows_fit(w: Window) -> bool
     requires { counts_fit w.counts ≡ true }
     ensures { result ≡ rows_fit w row_count }
 {
-    let losses = w.losses;
-    let shakes = w.shakes;
-    let names = w.names;
+    let rows = w.rows;
     let counts = w.counts;
     let last = row_of(counts.size, counts.entered + (counts.size as u32));
     let mut row: usize = 0;
     while row < Window::ROWS {
         let n = due(counts, last, row as u16);
         let held = Row {
-            loss: losses[row],
-            shake: shakes[row],
-            name: names[row],
+            loss: rows.losses[row],
+            shake: rows.shakes[row],
+            name: rows.names[row],
         };
         if !holds(n, held) {
             return false;

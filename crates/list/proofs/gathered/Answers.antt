@@ -10,7 +10,7 @@ use Rattle.ranking.specs.Standing.{Held, top}
 use Rattle.window.specs.Rows.{standing}
 use Rattle.list.specs.declared.Lines.{Lines}
 use Rattle.list.specs.Lines.{columns_of}
-use Rattle.list.specs.Rows.{rows_of}
+use Rattle.list.specs.Rows.{rows_in}
 use Rattle.list.specs.Inner.{Gathered}
 use Rattle.list.proofs.Gathering.{gathered_none, gathered_few}
 use Rattle.list.proofs.gathered.Goals as goal
@@ -26,7 +26,7 @@ upward-up-requires c =
 
 pub overflow_cast-count : goal.overflow_cast-count
 overflow_cast-count c =
-    let reports : ℕ → List Held = λ n. standing (rows_of c.args.losses.now c.args.shakes.now c.args.names.now) n in
+    let reports : ℕ → List Held = λ n. standing (rows_in c.args.rows.now) n in
     let all-taken : Gathered c.args.rule (c.smaller-most.result) ((reports) (c.smaller-end.result)) c.if-up-end.found c.if-up-end.by c.if-up-end.len = elim c.if-up-end.branch [
       | then-up-end w ↦ same_lines w.found-is w.by-is w.len-is ∙ w.downward-len.ensures
       | else-up-end w ↦
@@ -38,7 +38,7 @@ overflow_cast-count c =
 
 pub returns : goal.returns
 returns c =
-    let reports : ℕ → List Held = λ n. standing (rows_of c.args.losses.now c.args.shakes.now c.args.names.now) n in
+    let reports : ℕ → List Held = λ n. standing (rows_in c.args.rows.now) n in
     let all-taken : Gathered c.args.rule (c.smaller-most.result) ((reports) (c.smaller-end.result)) c.if-up-end.found c.if-up-end.by c.if-up-end.len = elim c.if-up-end.branch [
       | then-up-end w ↦ same_lines w.found-is w.by-is w.len-is ∙ w.downward-len.ensures
       | else-up-end w ↦

@@ -6,7 +6,7 @@ use Prim.Native.Nat.{ℕ}
 use lib.Seq.{sets}
 use Rattle.text.specs.Text.{behind}
 use Rattle.question.specs.declared.Question.{Question}
-use Rattle.question.specs.Lines.{rows_of}
+use Rattle.list.specs.Rows.{rows_in}
 use Rattle.window.specs.Rows.{standing}
 use Rattle.slot.specs.Asking.{set_in}
 use Rattle.serving.specs.Serving.{Served, Serves, shown_text, seated_text}
@@ -22,19 +22,19 @@ serves {room} {left} {at} {next} i t f p =
 pub returns-then-tag-eq-SHOW : goal.returns-then-tag-eq-SHOW
 returns-then-tag-eq-SHOW c =
     let a = c.args in
-    serves (served_show c.args.tag c.args.item c.args.value.now c.args.held (standing (rows_of c.args.losses.now c.args.shakes.now c.args.names.now) 1024) c.if-tag-eq-SHOW.true)
+    serves (served_show c.args.tag c.args.item c.args.value.now c.args.held (standing (rows_in c.args.rows.now) 1024) c.if-tag-eq-SHOW.true)
     (ap (λ (n : ℕ). shown_text c.args.item n c.args.held) c.byte.ensures) refl (c.put_shown.ensures.value, c.put_shown.ensures.out_after)
 
 pub returns-then-tag-eq-REMOVE : goal.returns-then-tag-eq-REMOVE
 returns-then-tag-eq-REMOVE c =
     let a = c.args in
-    serves (served-remove c.args.tag c.args.item c.args.value.now c.args.held (standing (rows_of c.args.losses.now c.args.shakes.now c.args.names.now) 1024) c.if-tag-eq-SHOW.false c.if-tag-eq-REMOVE.true)
+    serves (served-remove c.args.tag c.args.item c.args.value.now c.args.held (standing (rows_in c.args.rows.now) 1024) c.if-tag-eq-SHOW.false c.if-tag-eq-REMOVE.true)
     refl c.emptied.ensures (c.put_refusal.ensures.value, c.put_refusal.ensures.out_after)
 
 pub returns : goal.returns
 returns c =
     let a = c.args in
-    let rows = standing (rows_of c.args.losses.now c.args.shakes.now c.args.names.now) 1024 in
+    let rows = standing (rows_in c.args.rows.now) 1024 in
     let k = c.byte-2.ensures in
     let rule = c.rule_in-rule.ensures in
     let set = c.set_in-seated in

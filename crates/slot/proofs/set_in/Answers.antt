@@ -1,7 +1,7 @@
 -- The question searched from its beginning, or the refusal.
 -- Assumes nothing.
 use mathlib.Core.Path.{sym, ap, ◌∙◌}
-use Rattle.list.specs.Rows.{rows_of}
+use Rattle.list.specs.Rows.{rows_in}
 use Rattle.question.specs.Lines.{searched_first}
 use Rattle.question.specs.declared.Searched.{Searched}
 use Rattle.slot.specs.Asking.{set_in}
@@ -17,7 +17,7 @@ pub returns : goal.returns
 unfolding set_in
 returns c =
     let a = c.args in
-    let rows = rows_of c.args.losses.now c.args.shakes.now c.args.names.now in
+    let rows = rows_in c.args.rows.now in
     let made = c.fresh-fresh.ensures in
     let found =
     c.searched_in-found.ensures

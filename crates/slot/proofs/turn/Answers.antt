@@ -7,7 +7,7 @@ use borrow.Author.Tests.{not-true, not-false}
 use Rattle.window.specs.Rows.{report_at, standing}
 use Rattle.question.specs.declared.Question.{Question}
 use Rattle.question.specs.declared.Searched.{Searched}
-use Rattle.list.specs.Rows.{rows_of}
+use Rattle.list.specs.Rows.{rows_in}
 use Rattle.slot.specs.Asking.{searched_among}
 use Rattle.slot.specs.Turn.{lists}
 use Rattle.slot.proofs.Turns.{turn-searched, turn_kept, first_among}
@@ -25,7 +25,7 @@ pub returns : goal.returns
 returns c =
     let a = c.args in
     let with = c.listed-with.ensures in
-    let rows = rows_of c.args.losses.now c.args.shakes.now c.args.names.now in
-    let found = c.searched_in-found.ensures ∙ first_among c.listed-with.result rows (min c.args.rows 1024) ∙ ap (λ q. searched_among q (standing rows (min c.args.rows 1024))) with in
+    let rows = rows_in c.args.rows.now in
+    let found = c.searched_in-found.ensures ∙ first_among c.listed-with.result rows (min c.args.n 1024) ∙ ap (λ q. searched_among q (standing rows (min c.args.n 1024))) with in
     ap (λ (f : Searched). record { searched = true; steps = f.steps; question = f.question }) found
-    ∙ sym (turn-searched c.args.question (report_at c.args.row) c.args.gone (standing rows (min c.args.rows 1024)) (ap (λ q. lists q c.args.gone) (sym with) ∙ sym c.lists.ensures ∙ not-false _ (ap not c.if-not-lists.false)))
+    ∙ sym (turn-searched c.args.question (report_at c.args.row) c.args.gone (standing rows (min c.args.n 1024)) (ap (λ q. lists q c.args.gone) (sym with) ∙ sym c.lists.ensures ∙ not-false _ (ap not c.if-not-lists.false)))

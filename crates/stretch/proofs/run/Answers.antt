@@ -35,7 +35,7 @@ loop-gauges-init c =
         all_slots = c.well_formed.0.1.1.1.0.1.1.1.0.1.0.1;
         went = went_none (log_in c.args.from c.args.bus.now c.args.known.now c.args.lasts.now) c.args.bytes.now c.args.out.now c.args.from.at (search rules);
         gauged = gauged_of c.args.from.board.slots c.of_slots-gauges.ensures c.in_use-used.ensures;
-        rowed = rowed_of c.args.from.board.window.names c.rows_in-rows.ensures;
+        rowed = rowed_of c.args.from.board.window.rows.names c.rows_in-filled.ensures;
       },
       inr (omega arith),
     )
@@ -194,8 +194,8 @@ loop-gauges-preserved-then-brought-eq0 c =
       due,
     )
 
-pub put_row-rows-requires : goal.put_row-rows-requires
-put_row-rows-requires c =
+pub put_row-filled-requires : goal.put_row-filled-requires
+put_row-filled-requires c =
     let small : length c.args.out.now < 2 ^ 64 = search rules in
     let a_frame : is_frame ((get_or c.args.bytes.now c.loop-gauges.i 0)) ≡ true = sym c.is_frame.ensures ∙ not-false _ (ap not c.if-not-is_frame.false) in
     let frame-comes : Framed c.args.bytes.now c.loop-gauges.i ((get_or c.args.bytes.now c.loop-gauges.i 0)) = frame_there _ _ _ _ (small) c.loop-gauges.invariant.0 c.goes_on.ensures c.loop-gauges-test.true refl c.next_item-items.ensures (a_frame) in
@@ -212,7 +212,7 @@ loop-slot-init c =
     let frame_is : (frame_in (part (c.begin-begun.result.place + 3) 12 c.args.bytes.now)).frame
     ≡ (frame_of ((get_or c.args.bytes.now c.loop-gauges.i 0)) (part (c.loop-gauges.i + 3) (frame_size ((get_or c.args.bytes.now c.loop-gauges.i 0))) c.args.bytes.now)).frame = times.frame_there (frame-comes).which _ _ _ c.begin-begun.ensures.ends in
     turns-begin _ _ _ _ (small) c.loop-gauges.invariant.0 c.goes_on.ensures c.loop-gauges-test.true refl c.next_item-items.ensures (a_frame)
-    refl (hears_then c.begin-begun.ensures c.if-begun-ne0.false (frame_is) c.hear-brought.ensures) c.place-place.ensures c.put_row-rows.ensures (c.put_refusal-at-in-loop-gauges.ensures.value, c.put_refusal-at-in-loop-gauges.ensures.out_after)
+    refl (hears_then c.begin-begun.ensures c.if-begun-ne0.false (frame_is) c.hear-brought.ensures) c.place-place.ensures c.put_row-filled.ensures (c.put_refusal-at-in-loop-gauges.ensures.value, c.put_refusal-at-in-loop-gauges.ensures.out_after)
 
 pub loop-gauges-smaller : goal.loop-gauges-smaller
 loop-gauges-smaller c =
@@ -232,7 +232,7 @@ loop-gauges-preserved c =
     ≡ (frame_of ((get_or c.args.bytes.now c.loop-gauges.i 0)) (part (c.loop-gauges.i + 3) (frame_size ((get_or c.args.bytes.now c.loop-gauges.i 0))) c.args.bytes.now)).frame = times.frame_there (frame-comes).which _ _ _ c.begin-begun.ensures.ends in
     let due : Due (length c.args.bytes.now) (c.begin-begun.result.place + 15) c.begin-begun.result.timed = due-next _ _ _ c.begin-begun.ensures c.loop-gauges.invariant.1 in (
       stands_enters _ _ _ _ (small) c.loop-gauges.invariant.0 c.goes_on.ensures c.loop-gauges-test.true refl c.next_item-items.ensures (a_frame)
-          refl (hears_then c.begin-begun.ensures c.if-begun-ne0.false (frame_is) c.hear-brought.ensures) c.if-brought-eq0.false c.place-place.ensures c.put_row-rows.ensures (c.put_refusal-at-in-loop-gauges.ensures.value, c.put_refusal-at-in-loop-gauges.ensures.out_after) c.begin-begun.ensures.ends c.loop-slot.invariant (omega arith),
+          refl (hears_then c.begin-begun.ensures c.if-begun-ne0.false (frame_is) c.hear-brought.ensures) c.if-brought-eq0.false c.place-place.ensures c.put_row-filled.ensures (c.put_refusal-at-in-loop-gauges.ensures.value, c.put_refusal-at-in-loop-gauges.ensures.out_after) c.begin-begun.ensures.ends c.loop-slot.invariant (omega arith),
       due,
     )
 

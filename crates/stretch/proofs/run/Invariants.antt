@@ -8,14 +8,14 @@ use Rattle.stretch.proofs.run.Given as goal
 
 abbrev pub invariant-loop-slot : goal.invariant-loop-slot
 invariant-loop-slot l =
-    Turns l.brought (window_of l.counts l.losses l.shakes l.names) l.items l.rows l.initial.slots l.used l.initial.out l.initial.at l.slot l.slots l.gauges l.at l.out
+    Turns l.brought (window_of l.counts l.rows) l.items l.filled l.initial.slots l.used l.initial.out l.initial.at l.slot l.slots l.gauges l.at l.out
 
 abbrev pub decreases-loop-slot : goal.decreases-loop-slot
 decreases-loop-slot l = l.used - l.slot
 
 abbrev pub invariant-loop-gauges : goal.invariant-loop-gauges
 invariant-loop-gauges l =
-    Stands (log_of l.initial.items (window_of l.initial.counts l.initial.losses l.initial.shakes l.initial.names) l.initial.slots (stations_in l.initial.bus l.initial.known l.initial.lasts)) l.bytes l.initial.out l.initial.at l.items (window_of l.counts l.losses l.shakes l.names) l.rows l.slots l.gauges l.used l.bus l.known l.lasts l.i l.at l.out × Due (length l.bytes) l.i l.begun.timed
+    Stands (log_of l.initial.items (window_of l.initial.counts l.initial.rows) l.initial.slots (stations_in l.initial.bus l.initial.known l.initial.lasts)) l.bytes l.initial.out l.initial.at l.items (window_of l.counts l.rows) l.filled l.slots l.gauges l.used l.bus l.known l.lasts l.i l.at l.out × Due (length l.bytes) l.i l.begun.timed
 
 abbrev pub decreases-loop-gauges : goal.decreases-loop-gauges
 decreases-loop-gauges l = length l.bytes - l.i

@@ -30,46 +30,16 @@ pub loop-row-init : goal.loop-row-init
 unfolding rows_fit
 loop-row-init c = (omega arith, refl)
 
-pub overflow_cast-row : goal.overflow_cast-row
-overflow_cast-row c = omega arith
-
 pub due-n-requires : goal.due-n-requires
 due-n-requires c =
     let k = ranges_of c.args.w.counts c.requires in
     (k.ring.positive, k.within, k.ring.were_entered, c.row_of-last.ensures)
-
-pub offset_bounds-losses-row : goal.offset_bounds-losses-row
-offset_bounds-losses-row c = omega arith
-
-pub bounds-losses-row : goal.bounds-losses-row
-bounds-losses-row c = omega arith
-
-pub offset_bounds-shakes-row : goal.offset_bounds-shakes-row
-offset_bounds-shakes-row c = omega arith
-
-pub bounds-shakes-row : goal.bounds-shakes-row
-bounds-shakes-row c = omega arith
-
-pub offset_bounds-names-row : goal.offset_bounds-names-row
-offset_bounds-names-row c = omega arith
-
-pub bounds-names-row : goal.bounds-names-row
-bounds-names-row c = omega arith
-
-pub holds-requires : goal.holds-requires
-holds-requires c = tt
 
 pub returns-then-not-holds : goal.returns-then-not-holds
 returns-then-not-holds c =
     let w = c.args.w in
     let row : c.loop-row.row < 1024 = omega arith in
     sym (unfit_row w 1024 c.loop-row.row row (judged w c.loop-row.row c.due-n.result c.holds.ensures c.due-n.ensures ∙ not-true _ (ap not c.if-not-holds.true)))
-
-pub overflow_add-row : goal.overflow_add-row
-overflow_add-row c = omega arith
-
-pub loop-row-smaller : goal.loop-row-smaller
-loop-row-smaller c = omega arith
 
 pub loop-row-preserved : goal.loop-row-preserved
 unfolding rows_fit

@@ -7,7 +7,7 @@ use Rattle.window.proofs.rows_fit.Given as goal
 abbrev pub invariant-loop-row : goal.invariant-loop-row
 invariant-loop-row l =
     (l.row ≤ 1024)
-    × (rows_fit (record { losses = l.losses; shakes = l.shakes; names = l.names; counts = l.counts }) l.row ≡ true)
+    × (rows_fit (record { rows = l.rows; counts = l.counts }) l.row ≡ true)
 
 abbrev pub decreases-loop-row : goal.decreases-loop-row
 decreases-loop-row l = 1024 - l.row
