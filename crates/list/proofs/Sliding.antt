@@ -4,12 +4,17 @@ use mathlib.Core.Path.{◌≡◌, refl, sym, ap, ap₂, ◌∙◌, subst}
 use mathlib.Core.Bool.{Bool, true, false}
 use mathlib.Core.List.{List, [], ◌∷◌, ◌++◌, map}
 use Prim.Native.Nat.{ℕ, zero, suc, min, ◌+◌, ◌-◌, ◌≤◌, ◌<◌}
-use native.Mathlib.Nat.{le_of_suc-le-suc, not-suc-le-zero, suc_inj}
+use native.Mathlib.Nat.{le_of_suc-le-suc, not-suc-le-zero, suc_inj, suc-ne-zero}
 use native.Mathlib.Numerals.{add-one}
 use native.Mathlib.Omega.{arith}
 use lib.IntN.{ℤ, pos}
-use lib.ListN.{length, take, drop, get_or, set, replicate, length-append, length-take, length-drop, take-append-drop}
-use lib.Seq.{take_all, take-take, take_at, drop_at, length-take-le}
+use lib.ListN.{length, take, drop, set, replicate, length-append, length-take, length-drop, length-replicate, drop_of_length-le, take-append-drop}
+use lib.Seq.{take-take, take_at, drop_at, length-take-le}
+use borrow.Rule.Slice.PartMut.{put_mid}
+use Rattle.std.specs.List.{copy_within}
+use Rattle.std.proofs.lemmas.List.{drop-take, append_assoc, append-nil}
+use Rattle.std.proofs.lemmas.List.Edits.{paste_all}
+use Rattle.std.proofs.lemmas.Slice.{put_mid-paste}
 use Rattle.search.specs.Best.{placed}
 use Rattle.ranking.specs.Standing.{Entry}
 use Rattle.laws.proofs.Orders.{StrictTotal}
@@ -27,22 +32,14 @@ module _ {A : Type 0} where
   abbrev pub opened : (i last : ℕ) → List A → List A
   opened i last l = take (suc i) l ++ (drop i (take last l) ++ drop (suc last) l)
 
-  pub opened-none : (m : ℕ) (l : List A) → m < length l → opened m m l ≡ l
-  opened-none m [] h = absurd (not-suc-le-zero h)
-  opened-none zero (y ∷ l) h = refl
-  opened-none (suc m) (y ∷ l) h = ap (λ r. y ∷ r) (opened-none m l (le_of_suc-le-suc h))
-
-  step : (d : A) (i m : ℕ) (l : List A) → i < m → m < length l → set (opened (suc i) m l) (suc i) (get_or (opened (suc i) m l) i d) ≡ opened i m l
-  step d i zero l h g = absurd (not-suc-le-zero h)
-  step d i (suc m) [] h g = absurd (not-suc-le-zero g)
-  step d zero (suc m) (y ∷ []) h g = absurd (not-suc-le-zero (le_of_suc-le-suc g))
-  step d zero (suc m) (y ∷ z ∷ l) h g = refl
-  step d (suc i) (suc m) (y ∷ l) h g = ap (λ r. y ∷ r) (step d i m l (le_of_suc-le-suc h) (le_of_suc-le-suc g))
-
-  -- one place further to the front
-  pub opened_more : (d : A) (i j m : ℕ) (l now : List A) → i ≡ suc j → i ≤ m → m < length l → now ≡ opened i m l → set now i (get_or now j d) ≡ opened j m l
-  opened_more d i j m l now e h g is =
-      ap₂ (λ n s. set s n (get_or s j d)) e (is ∙ ap (λ n. opened n m l) e) ∙ step d j m l (omega arith) g
+  -- as a copy within the list leaves it
+  pub opened-copied : (at last : ℕ) (l : List A) → at ≤ last → copy_within l at last (at + 1) ≡ opened at last l
+  opened-copied at last l h =
+      let whole : at + (last - at) ≡ last = omega arith in
+      let past : at + 1 + (last - at) ≡ suc last = omega arith in
+      append_assoc (take (at + 1) l) (take (last - at) (drop at l)) (drop (at + 1 + (last - at)) l)
+      ∙ ap₂ (λ a b. a ++ b) (ap (λ n. take n l) (add-one at))
+      (ap₂ (λ a b. a ++ b) (sym (drop-take at (last - at) l) ∙ ap (λ n. drop at (take n l)) whole) (ap (λ n. drop n l) past))
 
   -- and x at that place
   pub closed : (x : A) (at m : ℕ) (l : List A) → at ≤ m → m < length l → set (opened at m l) at x ≡ slid at m x l
@@ -74,23 +71,22 @@ module _ {A : Type 0} where
 -- ---- one column, 0 past a place
 
 module _ {A : Type 0} (d : A) where
-  pub wiped-none : (l : List A) → length l ≡ 16 → wiped 16 d l ≡ l
-  wiped-none l h =
-      ap (λ r. take 16 (r ++ replicate 16 d)) (take_all 16 l (omega arith)) ∙ take_at l (replicate 16 d) 16 h
+  filled : (n p a : ℕ) (l : List A) → a ≤ n → n ≤ p → length l ≡ n → take a l ++ replicate (n - a) d ≡ take n (take a l ++ replicate p d)
+  filled n p zero l a b h = let whole : n - 0 ≡ n = omega arith in ap (λ m. replicate m d) whole ∙ sym (take-replicate d n p b)
+  filled zero p (suc m) l a b h = absurd (not-suc-le-zero a)
+  filled (suc n) p (suc m) [] a b h = absurd (suc-ne-zero n (sym h))
+  filled (suc n) p (suc m) (y ∷ l) a b h =
+      let less : suc n - suc m ≡ n - m = omega arith in
+      ap (λ r. y ∷ (take m l ++ replicate r d)) less ∙ ap (λ r. y ∷ r) (filled n p m l (le_of_suc-le-suc a) (omega arith) (suc_inj h))
 
-  wipe_step : (n p j : ℕ) (l : List A) → j < n → n ≤ p → j < length l → set (take n (take (suc j) l ++ replicate p d)) j d ≡ take n (take j l ++ replicate p d)
-  wipe_step zero p j l a b h = absurd (not-suc-le-zero a)
-  wipe_step (suc n) p j [] a b h = absurd (not-suc-le-zero h)
-  wipe_step (suc n) zero j (y ∷ l) a b h = absurd (not-suc-le-zero b)
-  wipe_step (suc n) (suc p) zero (y ∷ l) a b h =
-      ap (λ r. d ∷ r) (take-replicate d n (suc p) (omega arith) ∙ sym (take-replicate d n p (le_of_suc-le-suc b)))
-  wipe_step (suc n) (suc p) (suc j) (y ∷ l) a b h =
-      ap (λ r. y ∷ r) (wipe_step n (suc p) j l (le_of_suc-le-suc a) (omega arith) (le_of_suc-le-suc h))
-
-  -- one place further to the front
-  pub wiped_more : (i j : ℕ) (l now : List A) → i ≡ suc j → i ≤ 16 → length l ≡ 16 → now ≡ wiped i d l → set now j d ≡ wiped j d l
-  wiped_more i j l now e h g is =
-      ap (λ s. set s j d) (is ∙ ap (λ n. wiped n d l) e) ∙ wipe_step 16 16 j l (omega arith) (omega arith) (omega arith)
+  -- as a fill of the rest leaves it
+  pub wiped_filled : (n : ℕ) (l rest : List A) → n ≤ 16 → length l ≡ 16 → rest ≡ replicate (16 - n) d → put_mid n (16 - n) l rest ≡ wiped n d l
+  wiped_filled n l rest h g is =
+      put_mid-paste n (16 - n) l rest (replicate (16 - n) d) (16 - n) is refl (sym (length-replicate (16 - n) d))
+      ∙ paste_all l n (replicate (16 - n) d) (16 - n) (sym (length-replicate (16 - n) d))
+      ∙ ap (λ r. take n l ++ (replicate (16 - n) d ++ r)) (drop_of_length-le l {i = n + (16 - n)} (omega arith))
+      ∙ ap (λ r. take n l ++ r) (append-nil (replicate (16 - n) d))
+      ∙ filled 16 16 n l h (omega arith) g
 
 -- ---- both columns
 

@@ -84,37 +84,40 @@ pub record Descent (above : Entry → Entry → Bool) (whole : Bool) (ns : List 
   pub room : Roomy ns ss
   pub decides : falls above (drop i (take n (lines_of ns ss))) ≡ whole
 
-module _ {above : Entry → Entry → Bool} {whole : Bool} {ns : List ℕ} {ss : List ℤ} {n i : ℕ} (w : Descent above whole ns ss n i) where
-  pub descent_ends : n ≤ i + 1 → true ≡ whole
+module _ {above : Entry → Entry → Bool} {whole : Bool} {ns : List ℕ} {ss : List ℤ} {n i : ℕ} (w : Descent above whole ns ss n i) (j : ℕ) (follows : i + 1 ≡ j) where
+  pub descent_ends : n ≤ j → true ≡ whole
   descent_ends h =
       sym (falls_short above (drop i (take n (lines_of ns ss))) (rw (length-drop i (take n (lines_of ns ss)), length_front ns ss w.room n w.within) (omega arith)))
       ∙ w.decides
 
-  module _ (h : i + 1 < n) (fits : mag (get_or ss i (pos 0)) < 2147483648) (fits' : mag (get_or ss (i + 1) (pos 0)) < 2147483648) (t : Bool) (is : t ≡ above (read_line ns ss i) (read_line ns ss (i + 1))) where
-    falling : above (line_at ns ss i) (line_at ns ss (i + 1)) ≡ t
+  module _ (h : j < n) (fits : mag (get_or ss i (pos 0)) < 2147483648) (fits' : mag (get_or ss j (pos 0)) < 2147483648) (t : Bool) (is : t ≡ above (read_line ns ss i) (read_line ns ss j)) where
+    falling : above (line_at ns ss i) (line_at ns ss j) ≡ t
     falling =
         sym
         (is
-        ∙ ap₂ (λ a b. above (record { name = get_or ns i 0; score = a }) (record { name = get_or ns (i + 1) 0; score = b }))
-        (kept w32 (get_or ss i (pos 0)) fits) (kept w32 (get_or ss (i + 1) (pos 0)) fits'))
+        ∙ ap₂ (λ a b. above (record { name = get_or ns i 0; score = a }) (record { name = get_or ns j 0; score = b }))
+        (kept w32 (get_or ss i (pos 0)) fits) (kept w32 (get_or ss j (pos 0)) fits'))
 
-    after : drop (i + 1) (take n (lines_of ns ss)) ≡ line_at ns ss (i + 1) ∷ drop (i + 1 + 1) (take n (lines_of ns ss))
-    after = drop_line ns ss w.room n w.within (i + 1) h
+    after : drop j (take n (lines_of ns ss)) ≡ line_at ns ss j ∷ drop (j + 1) (take n (lines_of ns ss))
+    after = drop_line ns ss w.room n w.within j h
 
-    split : falls above (drop i (take n (lines_of ns ss))) ≡ t && falls above (drop (i + 1) (take n (lines_of ns ss)))
+    split : falls above (drop i (take n (lines_of ns ss))) ≡ t && falls above (drop j (take n (lines_of ns ss)))
     split =
-        ap (falls above) (drop_line ns ss w.room n w.within i (omega arith) ∙ ap (λ l. line_at ns ss i ∷ l) after)
-        ∙ ap (λ b. b && falls above (line_at ns ss (i + 1) ∷ drop (i + 1 + 1) (take n (lines_of ns ss)))) falling
+        ap (falls above)
+        (drop_line ns ss w.room n w.within i (omega arith)
+        ∙ ap (λ m. line_at ns ss i ∷ drop m (take n (lines_of ns ss))) follows
+        ∙ ap (λ l. line_at ns ss i ∷ l) after)
+        ∙ ap (λ b. b && falls above (line_at ns ss j ∷ drop (j + 1) (take n (lines_of ns ss)))) falling
         ∙ ap (λ l. t && falls above l) (sym after)
 
     pub descent_fails : t ≡ false → false ≡ whole
-    descent_fails f = sym (split ∙ ap (λ b. b && falls above (drop (i + 1) (take n (lines_of ns ss)))) f) ∙ w.decides
+    descent_fails f = sym (split ∙ ap (λ b. b && falls above (drop j (take n (lines_of ns ss)))) f) ∙ w.decides
 
-    pub descent_on : t ≡ true → Descent above whole ns ss n (i + 1)
-    descent_on e =
+    pub descent_on : t ≡ true → (k : ℕ) → k ≡ j → Descent above whole ns ss n k
+    descent_on e k same =
         record {
           up_to = omega arith;
           within = w.within;
           room = w.room;
-          decides = sym (split ∙ ap (λ b. b && falls above (drop (i + 1) (take n (lines_of ns ss)))) e) ∙ w.decides;
+          decides = ap (λ m. falls above (drop m (take n (lines_of ns ss)))) same ∙ sym (split ∙ ap (λ b. b && falls above (drop j (take n (lines_of ns ss)))) e) ∙ w.decides;
         }

@@ -59,14 +59,14 @@ impl Lines {
     pub fn line_count(self) -> usize
         ensures { result ≡ min self.len most_lines }
     {
-        smaller(self.len as usize, Lines::MOST)
+        (self.len as usize).min(Lines::MOST)
     }
 
     // The first m lines.
     pub fn first_lines(self, m: usize) -> Lines
         ensures { result ≡ columns_of (take m (lines_in self)) }
     {
-        let n = smaller(m, self.line_count());
+        let n = m.min(self.line_count());
         let mut names = self.names;
         let mut scores = self.scores;
         wipe(&mut names, &mut scores, n);
@@ -81,7 +81,7 @@ impl Lines {
         let n = self.line_count();
         let mut names = self.names;
         let mut scores = self.scores;
-        let k = smaller(most, Lines::MOST);
+        let k = most.min(Lines::MOST);
         let m = put_in(rule, &mut names, &mut scores, n, k, name, score);
         wipe(&mut names, &mut scores, m);
         let len = m as u8;
@@ -92,14 +92,9 @@ impl Lines {
     pub fn best(self, rule: Rule, k: usize) -> Lines
         ensures { result ≡ columns_of (best (above rule) (min k most_lines) (lines_in self)) }
     {
-        let n = self.line_count();
-        let names = self.names;
-        let scores = self.scores;
         let mut list = Lines::none();
-        let mut i: usize = 0;
-        while i < n {
-            list = list.placed(rule, k, names[i], scores[i]);
-            i += 1;
+        for i in 0..self.line_count() {
+            list = list.placed(rule, k, self.names[i], self.scores[i]);
         }
         list
     }
@@ -108,10 +103,8 @@ impl Lines {
     pub fn falls(self, rule: Rule) -> bool
         ensures { result ≡ falls (above rule) (lines_in self) }
     {
-        let n = self.line_count();
-        let mut i: usize = 0;
-        while i + 1 < n {
-            let next = i + 1;
+        for next in 1..self.line_count() {
+            let i = next - 1;
             if !rule.above(
                 self.names[i],
                 self.scores[i],
@@ -120,7 +113,6 @@ impl Lines {
             ) {
                 return false;
             }
-            i = next;
         }
         true
     }
@@ -129,15 +121,10 @@ impl Lines {
     pub fn rest_blank(self) -> bool
         ensures { result ≡ all_of blank (drop self.len (lines_of self.names self.scores)) }
     {
-        let mut i = self.line_count();
-        while i < Lines::MOST {
-            if self.names[i] != 0 {
+        for i in self.line_count()..Lines::MOST {
+            if self.names[i] != 0 || self.scores[i] != 0 {
                 return false;
             }
-            if self.scores[i] != 0 {
-                return false;
-            }
-            i += 1;
         }
         true
     }
@@ -154,38 +141,27 @@ impl Lines {
 
 impl Bar {
     // No report with a lower score passes; most fail by that alone.
+    #[tactic(auto, unfolding(crate::specs::Inner::least_at))]
     fn least(self) -> i32
         ensures { result ≡ least_at self }
     {
-        if self.full {
-            return self.score;
-        }
-        -2147483648
+        if self.full { self.score } else { i32::MIN }
     }
 
     // A full list's last line has that score, and of equal ones the newer goes first.
+    #[tactic(auto, unfolding(crate::specs::Inner::turns))]
     fn turns(self, rule: Rule, score: i32) -> bool
         ensures { result ≡ turns rule self score }
     {
-        if score == self.score {
-            if self.full {
-                return rule.later_first();
-            }
-        }
-        false
+        score == self.score && self.full && rule.later_first()
     }
 
     // A report passes: the number in its name isn't 0, and the list isn't full or it ranks above the last line.
+    #[tactic(auto, unfolding(crate::specs::Inner::admits))]
     fn admits(self, rule: Rule, name: u32, score: i32) -> bool
         ensures { result ≡ admits (above rule) self (record { name = name; score = score }) }
     {
-        if Name::number(name) == 0 {
-            return false;
-        }
-        if self.full {
-            return rule.above(name, score, self.name, self.score);
-        }
-        true
+        Name::number(name) != 0 && (!self.full || rule.above(name, score, self.name, self.score))
     }
 }
 
@@ -194,8 +170,8 @@ impl Bar {
 pub fn gathered<'a>(rule: Rule, k: u8, rows: &'a Rows, n: usize) -> Lines
     ensures { result ≡ columns_of (top rule (min k most_lines) (standing (rows_in rows.now) (min n row_count))) }
 {
-    let most = smaller(k as usize, Lines::MOST);
-    let end = smaller(n, Window::ROWS);
+    let most = (k as usize).min(Lines::MOST);
+    let end = n.min(Window::ROWS);
     let mut found = [0u32; Lines::MOST];
     let mut by = [0i32; Lines::MOST];
     let up = upward(rule, most, rows, end, &mut found, &mut by);
@@ -296,26 +272,14 @@ fn downward<'a, 'b>(
 pub fn numbers_in(names: [u32; Lines::MOST]) -> [u32; Lines::MOST]
     ensures { result ≡ numbers_in names }
 {
-    let mut numbers = [0u32; Lines::MOST];
-    let mut i: usize = 0;
-    while i < Lines::MOST {
-        numbers[i] = Name::number(names[i]);
-        i += 1;
-    }
-    numbers
+    names.map(|name| Name::number(name))
 }
 
 // And their editions, as numbers: 0 for the first, one more than the heat for the second.
 pub fn editions_in(names: [u32; Lines::MOST]) -> [u16; Lines::MOST]
     ensures { result ≡ editions_in names }
 {
-    let mut editions = [0u16; Lines::MOST];
-    let mut i: usize = 0;
-    while i < Lines::MOST {
-        editions[i] = (names[i] % Name::EDITIONS) as u16;
-        i += 1;
-    }
-    editions
+    names.map(|name| (name % Name::EDITIONS) as u16)
 }
 
 // The bar of the first `len` lines of two arrays, where it is told whether they are a full list.
@@ -348,19 +312,8 @@ fn wipe<'a>(names: &'a mut [u32; Lines::MOST], scores: &'a mut [i32; Lines::MOST
     requires { (from ≤ most_lines) × Roomy names.old scores.old }
     ensures { (names.new ≡ wiped from 0 names.old) × (scores.new ≡ wiped from (pos 0) scores.old) }
 {
-    let mut i: usize = Lines::MOST;
-    while from < i {
-        i -= 1;
-        names[i] = 0;
-        scores[i] = 0;
-    }
-}
-
-// The smaller of two counts.
-fn smaller(a: usize, b: usize) -> usize
-    ensures { result ≡ min a b }
-{
-    if a < b { a } else { b }
+    names[from..].fill(0);
+    scores[from..].fill(0);
 }
 
 // One entry put in its rank among the first `len` lines of two arrays, once, of which at most `most` are kept: their
@@ -383,9 +336,9 @@ fn put_in<'a>(
         return most;
     }
     if !new_in(rule, names, scores, len, at, name, score) {
-        return smaller(len, most);
+        return len.min(most);
     }
-    let last = smaller(len, most - 1);
+    let last = len.min(most - 1);
     slide(names, scores, at, last, name, score);
     last + 1
 }
@@ -402,12 +355,10 @@ fn rank_in<'a>(
     requires { (len ≤ most_lines) × Roomy names.now scores.now }
     ensures { result ≡ rank_in (above rule) (record { name = name; score = score }) (take len (lines_of names.now scores.now)) }
 {
-    let mut i: usize = 0;
-    while i < len {
+    for i in 0..len {
         if !rule.above(names[i], scores[i], name, score) {
             return i;
         }
-        i += 1;
     }
     len
 }
@@ -426,10 +377,7 @@ fn new_in<'a>(
         × (at ≡ rank_in (above rule) (record { name = name; score = score }) (take len (lines_of names.now scores.now))) }
     ensures { result ≡ new_in (above rule) (record { name = name; score = score }) (take len (lines_of names.now scores.now)) }
 {
-    if at < len {
-        return rule.above(name, score, names[at], scores[at]);
-    }
-    true
+    len <= at || rule.above(name, score, names[at], scores[at])
 }
 
 // An entry put at a place, and the lines from there to the last one moved one place back; the last one goes.
@@ -445,13 +393,8 @@ fn slide<'a>(
     ensures { (names.new ≡ slid at last name names.old)
         × (scores.new ≡ slid at last score scores.old) }
 {
-    let mut i = last;
-    while at < i {
-        let before = i - 1;
-        names[i] = names[before];
-        scores[i] = scores[before];
-        i = before;
-    }
+    names.copy_within(at..last, at + 1);
+    scores.copy_within(at..last, at + 1);
     names[at] = name;
     scores[at] = score;
 }

@@ -21,28 +21,28 @@ same_lines p q r = λ i. record { names = p i; scores = q i; len = r i }
 
 pub upward-up-requires : goal.upward-up-requires
 upward-up-requires c =
-    let most = c.smaller-most in
-    (omega (arith, c.smaller-most.ensures), omega (arith, c.smaller-end.ensures), gathered_none c.args.rule c.smaller-most.result)
+    let most = c.min-most in
+    (omega (arith, c.min-most.ensures), omega (arith, c.min-end.ensures), gathered_none c.args.rule c.min-most.result)
 
 pub overflow_cast-count : goal.overflow_cast-count
 overflow_cast-count c =
     let reports : ℕ → List Held = λ n. standing (rows_in c.args.rows.now) n in
-    let all-taken : Gathered c.args.rule (c.smaller-most.result) ((reports) (c.smaller-end.result)) c.if-up-end.found c.if-up-end.by c.if-up-end.len = elim c.if-up-end.branch [
+    let all-taken : Gathered c.args.rule (c.min-most.result) ((reports) (c.min-end.result)) c.if-up-end.found c.if-up-end.by c.if-up-end.len = elim c.if-up-end.branch [
       | then-up-end w ↦ same_lines w.found-is w.by-is w.len-is ∙ w.downward-len.ensures
       | else-up-end w ↦
-          let all : c.upward-up.result.rows ≡ (c.smaller-end.result) = omega (arith, w.if-up-end.false, c.upward-up.ensures.0) in
-          same_lines w.found-is w.by-is w.len-is ∙ c.upward-up.ensures.1 ∙ ap (λ n. columns_of (top c.args.rule (c.smaller-most.result) ((reports) n))) all
+          let all : c.upward-up.result.rows ≡ (c.min-end.result) = omega (arith, w.if-up-end.false, c.upward-up.ensures.0) in
+          same_lines w.found-is w.by-is w.len-is ∙ c.upward-up.ensures.1 ∙ ap (λ n. columns_of (top c.args.rule (c.min-most.result) ((reports) n))) all
     ] in
-    let few = gathered_few c.args.rule (c.smaller-most.result) (omega (arith, c.smaller-most.ensures)) (reports (c.smaller-end.result)) (all-taken) in
+    let few = gathered_few c.args.rule (c.min-most.result) (omega (arith, c.min-most.ensures)) (reports (c.min-end.result)) (all-taken) in
     search rules
 
 pub returns : goal.returns
 returns c =
     let reports : ℕ → List Held = λ n. standing (rows_in c.args.rows.now) n in
-    let all-taken : Gathered c.args.rule (c.smaller-most.result) ((reports) (c.smaller-end.result)) c.if-up-end.found c.if-up-end.by c.if-up-end.len = elim c.if-up-end.branch [
+    let all-taken : Gathered c.args.rule (c.min-most.result) ((reports) (c.min-end.result)) c.if-up-end.found c.if-up-end.by c.if-up-end.len = elim c.if-up-end.branch [
       | then-up-end w ↦ same_lines w.found-is w.by-is w.len-is ∙ w.downward-len.ensures
       | else-up-end w ↦
-          let all : c.upward-up.result.rows ≡ (c.smaller-end.result) = omega (arith, w.if-up-end.false, c.upward-up.ensures.0) in
-          same_lines w.found-is w.by-is w.len-is ∙ c.upward-up.ensures.1 ∙ ap (λ n. columns_of (top c.args.rule (c.smaller-most.result) ((reports) n))) all
+          let all : c.upward-up.result.rows ≡ (c.min-end.result) = omega (arith, w.if-up-end.false, c.upward-up.ensures.0) in
+          same_lines w.found-is w.by-is w.len-is ∙ c.upward-up.ensures.1 ∙ ap (λ n. columns_of (top c.args.rule (c.min-most.result) ((reports) n))) all
     ] in
-    all-taken ∙ ap₂ (λ k n. columns_of (top c.args.rule k (reports n))) c.smaller-most.ensures c.smaller-end.ensures
+    all-taken ∙ ap₂ (λ k n. columns_of (top c.args.rule k (reports n))) c.min-most.ensures c.min-end.ensures

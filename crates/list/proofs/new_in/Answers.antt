@@ -2,6 +2,7 @@
 -- Assumes nothing.
 use mathlib.Core.Path.{sym, ap, ap₂, ◌∙◌}
 use native.Mathlib.Omega.{arith}
+use borrow.Author.Tests.{le-leb}
 use lib.IntN.{pos}
 use lib.ListN.{take, get_or}
 use mir.Facts.{to_z-of_z}
@@ -17,8 +18,8 @@ use Rattle.list.proofs.new_in.Goals as goal
 abbrev none : Entry
 none = record { name = 0; score = pos 0 }
 
-pub returns-then-at-len : goal.returns-then-at-len
-returns-then-at-len c =
+pub returns-else-len-at : goal.returns-else-len-at
+returns-else-len-at c =
     let a = c.args in
     let ns = c.args.names.now in
     let ss = c.args.scores.now in
@@ -28,17 +29,17 @@ returns-then-at-len c =
     let l = take c.args.len (lines_of ns ss) in
     let line = line_at ns ss c.args.at in
     c.above.ensures
-    ∙ ap₂ (λ s t. above c.args.rule (record { name = c.args.name; score = s }) (record { name = line.name; score = t })) (to_z-of_z c.ranges.score) (kept w32 line.score c.above-arg-then-at-len-1.given)
+    ∙ ap₂ (λ s t. above c.args.rule (record { name = c.args.name; score = s }) (record { name = line.name; score = t })) (to_z-of_z c.ranges.score) (kept w32 line.score c.above-arg-else-len-at-1.given)
     ∙ sym
-    (new_there (above c.args.rule) (above_strict c.args.rule) x l none (omega (arith, length_front ns ss room c.args.len few, c.if-at-len.true, c.requires.2))
-    ∙ ap (above c.args.rule x) (ap (λ i. get_or l i none) (sym c.requires.2) ∙ line_at_lem ns ss room c.args.len few c.args.at c.if-at-len.true))
+    (new_there (above c.args.rule) (above_strict c.args.rule) x l none (omega (arith, length_front ns ss room c.args.len few, c.if-len-at.false, c.requires.2))
+    ∙ ap (above c.args.rule x) (ap (λ i. get_or l i none) (sym c.requires.2) ∙ line_at_lem ns ss room c.args.len few c.args.at c.if-len-at.false))
 
-pub returns : goal.returns
-returns c =
+pub returns-then-len-at : goal.returns-then-len-at
+returns-then-len-at c =
     let a = c.args in
     let ns = c.args.names.now in
     let ss = c.args.scores.now in
     let room = c.requires.1 in
-    sym
+    le-leb c.args.len c.args.at c.if-len-at.true ∙ sym
     (new_last (above c.args.rule) (above_strict c.args.rule) (record { name = c.args.name; score = c.args.score }) (take c.args.len (lines_of ns ss))
-    (omega (arith, length_front ns ss room c.args.len c.requires.0, c.if-at-len.false, c.requires.2)))
+    (omega (arith, length_front ns ss room c.args.len c.requires.0, c.if-len-at.true, c.requires.2)))

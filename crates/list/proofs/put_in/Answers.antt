@@ -28,7 +28,7 @@ returns-then-not-new_in c =
     let is_new : c.new_in.result ≡ new_in (above c.args.rule) ((record { name = c.args.name; score = c.args.score })) (take c.args.len ((lines_of c.args.names.now c.args.scores.now))) = c.new_in.ensures
     ∙ ap (λ s. new_in (above c.args.rule) (record { name = c.args.name; score = s }) (take c.args.len ((lines_of c.args.names.now c.args.scores.now)))) (to_z-of_z c.ranges.score) in
     let a = c.args in
-    (placing_old (above a.rule) (above_strict a.rule) ((record { name = c.args.name; score = c.args.score })) a.len a.most ((lines_of c.args.names.now c.args.scores.now)) (long) c.requires.0 (sym (is_new) ∙ not-true _ (ap not c.if-not-new_in.true)) c.smaller.result c.smaller.ensures, c.requires.2)
+    (placing_old (above a.rule) (above_strict a.rule) ((record { name = c.args.name; score = c.args.score })) a.len a.most ((lines_of c.args.names.now c.args.scores.now)) (long) c.requires.0 (sym (is_new) ∙ not-true _ (ap not c.if-not-new_in.true)) c.min.result c.min.ensures, c.requires.2)
 
 pub slide-requires : goal.slide-requires
 slide-requires c =
@@ -37,8 +37,8 @@ slide-requires c =
     ∙ ap (λ s. rank_in (above c.args.rule) (record { name = c.args.name; score = s }) (take c.args.len ((lines_of c.args.names.now c.args.scores.now)))) (to_z-of_z c.ranges.score) in
     let a = c.args in
     let under = c.if-most-at.false in (
-      at_last (above a.rule) (above_strict a.rule) ((record { name = c.args.name; score = c.args.score })) a.len a.most ((lines_of c.args.names.now c.args.scores.now)) (long) c.requires.0 c.requires.1 c.rank_in-at.result (found) under c.smaller-last.result c.smaller-last.ensures,
-      last_low (above a.rule) (above_strict a.rule) ((record { name = c.args.name; score = c.args.score })) a.len a.most ((lines_of c.args.names.now c.args.scores.now)) (long) c.requires.0 c.requires.1 c.rank_in-at.result (found) under c.smaller-last.result c.smaller-last.ensures,
+      at_last (above a.rule) (above_strict a.rule) ((record { name = c.args.name; score = c.args.score })) a.len a.most ((lines_of c.args.names.now c.args.scores.now)) (long) c.requires.0 c.requires.1 c.rank_in-at.result (found) under c.min-last.result c.min-last.ensures,
+      last_low (above a.rule) (above_strict a.rule) ((record { name = c.args.name; score = c.args.score })) a.len a.most ((lines_of c.args.names.now c.args.scores.now)) (long) c.requires.0 c.requires.1 c.rank_in-at.result (found) under c.min-last.result c.min-last.ensures,
       c.requires.2,
     )
 
@@ -52,12 +52,12 @@ returns c =
     let a = c.args in
     let under = c.if-most-at.false in
     let at = c.rank_in-at.result in
-    let last = c.smaller-last.result in
-    let order = at_last (above a.rule) (above_strict a.rule) ((record { name = c.args.name; score = c.args.score })) a.len a.most ((lines_of c.args.names.now c.args.scores.now)) (long) c.requires.0 c.requires.1 at (found) under last c.smaller-last.ensures in
-    let low = last_low (above a.rule) (above_strict a.rule) ((record { name = c.args.name; score = c.args.score })) a.len a.most ((lines_of c.args.names.now c.args.scores.now)) (long) c.requires.0 c.requires.1 at (found) under last c.smaller-last.ensures in
+    let last = c.min-last.result in
+    let order = at_last (above a.rule) (above_strict a.rule) ((record { name = c.args.name; score = c.args.score })) a.len a.most ((lines_of c.args.names.now c.args.scores.now)) (long) c.requires.0 c.requires.1 at (found) under last c.min-last.ensures in
+    let low = last_low (above a.rule) (above_strict a.rule) ((record { name = c.args.name; score = c.args.score })) a.len a.most ((lines_of c.args.names.now c.args.scores.now)) (long) c.requires.0 c.requires.1 at (found) under last c.min-last.ensures in
     let right = c.slide.ensures.1 ∙ ap (λ s. slid at last s a.scores.now) (to_z-of_z c.ranges.score) in (
       subst (λ l. Placing (above a.rule) ((record { name = c.args.name; score = c.args.score })) a.len a.most ((lines_of c.args.names.now c.args.scores.now)) l (last + 1)) (sym (slid-lines c.requires.2 at last a.name a.score order low c.slide.ensures.0 right))
-          (placing_new (above a.rule) (above_strict a.rule) ((record { name = c.args.name; score = c.args.score })) a.len a.most ((lines_of c.args.names.now c.args.scores.now)) (long) c.requires.0 c.requires.1 at (found) under last c.smaller-last.ensures
+          (placing_new (above a.rule) (above_strict a.rule) ((record { name = c.args.name; score = c.args.score })) a.len a.most ((lines_of c.args.names.now c.args.scores.now)) (long) c.requires.0 c.requires.1 at (found) under last c.min-last.ensures
           (sym (is_new) ∙ not-false _ (ap not c.if-not-new_in.false))),
       slid-roomy c.requires.2 at last a.name a.score order low c.slide.ensures.0 right,
     )

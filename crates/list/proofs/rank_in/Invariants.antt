@@ -1,4 +1,4 @@
-use Prim.Native.Nat.{◌≤◌, ◌-◌}
+use Prim.Native.Nat.{◌≤◌}
 use lib.ListN.{take}
 use Rattle.ranking.specs.Standing.{above}
 use Rattle.list.specs.Lines.{lines_of}
@@ -8,10 +8,6 @@ use Rattle.list.proofs.rank_in.Given as goal
 
 abbrev pub invariant-loop-i : goal.invariant-loop-i
 invariant-loop-i l =
-    (l.i ≤ l.len)
-    × (l.len ≤ 16)
+    (l.len ≤ 16)
     × Roomy l.names l.scores
     × Ranked (above l.rule) (record { name = l.name; score = l.score }) (take l.len (lines_of l.names l.scores)) l.i
-
-abbrev pub decreases-loop-i : goal.decreases-loop-i
-decreases-loop-i l = l.len - l.i

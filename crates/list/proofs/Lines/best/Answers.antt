@@ -21,7 +21,6 @@ loop-i-init c =
     let l = c.args.self in
     let good = c.well_formed.0.1.1 in (
       search rules,
-      search rules,
       roomy_known c.args.self.names c.args.self.scores c.well_formed.0.1.1.0.1.0.1 c.well_formed.0.1.1.1.0.1.0.1,
       c.none-list.ensures ∙ best_none (above c.args.rule) (min c.args.k 16),
     )
@@ -30,24 +29,23 @@ pub loop-i-preserved : goal.loop-i-preserved
 loop-i-preserved c =
     let a = c.args in
     let l = c.args.self in
-    let n = c.line_count-n.result in
+    let n = c.line_count-i-end.result in
     let i = c.loop-i.i in
     let inv = c.loop-i.invariant in
-    let back = kept w32 (get_or c.args.self.scores i (pos 0)) c.placed-arg-1.given in (
-      search rules,
+    let back = kept w32 (get_or c.args.self.scores i (pos 0)) (search rules) in (
+      c.loop-i.invariant.0,
       c.loop-i.invariant.1,
-      c.loop-i.invariant.2,
       c.placed-list.ensures
           ∙ ap (λ s. columns_of (take (min c.args.k 16) (placed (above c.args.rule) (record { name = get_or c.args.self.names i 0; score = s }) (lines_in c.loop-i.list)))) back
-          ∙ best_more (above c.args.rule) (above_strict c.args.rule) c.args.self.names c.args.self.scores c.loop-i.invariant.2 n c.loop-i.invariant.1 i (search rules) (min c.args.k 16) (omega arith) c.loop-i.list c.loop-i.invariant.3,
+          ∙ best_more (above c.args.rule) (above_strict c.args.rule) c.args.self.names c.args.self.scores c.loop-i.invariant.1 n c.loop-i.invariant.0 i (search rules) (min c.args.k 16) (omega arith) c.loop-i.list c.loop-i.invariant.2,
     )
 
 pub returns : goal.returns
 returns c =
     let a = c.args in
-    let n = c.line_count-n.result in
+    let n = c.line_count-i-end.result in
     let inv = c.loop-i.invariant in
     let all : c.loop-i.i ≡ n = omega arith in
-    c.loop-i.invariant.3
+    c.loop-i.invariant.2
     ∙ ap (λ l. columns_of (best (above c.args.rule) (min c.args.k 16) l))
-    (all_lines c.args.self c.loop-i.invariant.2 n c.line_count-n.ensures c.loop-i.i all)
+    (all_lines c.args.self c.loop-i.invariant.1 n c.line_count-i-end.ensures c.loop-i.i all)

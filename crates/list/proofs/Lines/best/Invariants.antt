@@ -1,5 +1,5 @@
 use mathlib.Core.Path.{◌≡◌}
-use Prim.Native.Nat.{min, ◌≤◌, ◌-◌}
+use Prim.Native.Nat.{min, ◌≤◌}
 use lib.ListN.{take}
 use Rattle.search.specs.Best.{best}
 use Rattle.ranking.specs.Standing.{above}
@@ -9,10 +9,6 @@ use Rattle.list.proofs.Lines.best.Given as goal
 
 abbrev pub invariant-loop-i : goal.invariant-loop-i
 invariant-loop-i l =
-    (l.i ≤ l.n)
-    × (l.n ≤ 16)
-    × Roomy l.names l.scores
-    × (l.list ≡ columns_of (best (above l.rule) (min l.k 16) (take l.i (take l.n (lines_of l.names l.scores)))))
-
-abbrev pub decreases-loop-i : goal.decreases-loop-i
-decreases-loop-i l = l.n - l.i
+    (l.i-end ≤ 16)
+    × Roomy l.self.names l.self.scores
+    × (l.list ≡ columns_of (best (above l.rule) (min l.k 16) (take l.i (take l.i-end (lines_of l.self.names l.self.scores)))))

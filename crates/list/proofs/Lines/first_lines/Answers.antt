@@ -13,5 +13,5 @@ returns c =
     let l = c.args.self in
     let good = c.well_formed.0.1.1 in
     let room = roomy_known c.args.self.names c.args.self.scores c.well_formed.0.1.1.0.1.0.1 c.well_formed.0.1.1.1.0.1.0.1 in
-    wiped-stored c.args.self.names c.args.self.scores room c.smaller-n.result (search rules) c.wipe.ensures.0 c.wipe.ensures.1
-    ∙ ap columns_of (cut_lines l room c.smaller-n.result c.args.m (c.smaller-n.ensures ∙ ap (min c.args.m) c.line_count.ensures))
+    wiped-stored c.args.self.names c.args.self.scores room c.min-n.result (search rules) c.wipe.ensures.0 c.wipe.ensures.1
+    ∙ ap columns_of (cut_lines l room c.min-n.result c.args.m (c.min-n.ensures ∙ ap (min c.args.m) c.line_count.ensures))

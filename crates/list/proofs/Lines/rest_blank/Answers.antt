@@ -6,6 +6,7 @@ use borrow.Author.Rules.{rules}
 use Rattle.list.specs.Lines.{all_of, blank}
 use Rattle.list.proofs.Stored.{line_at, roomy_known, drop_shown}
 use Rattle.list.proofs.Walking.{walk_on, walk_fails, walk_ends, blank-name, blank-score}
+use Rattle.list.proofs.Lines.rest_blank.Goals.{then-self-i-ne0-via-then-self-i-ne0, then-self-i-ne0-via-else-self-i-ne0+then-self-i-ne0-2}
 use Rattle.list.proofs.Lines.rest_blank.Goals as goal
 
 pub loop-i-init : goal.loop-i-init
@@ -22,21 +23,19 @@ loop-i-init c =
 
 pub returns-then-self-i-ne0 : goal.returns-then-self-i-ne0
 returns-then-self-i-ne0 c =
-    let l = c.args.self in
-    walk_fails c.loop-i.invariant c.loop-i-test.true (blank-name (line_at c.args.self.names c.args.self.scores c.loop-i.i) c.if-self-i-ne0.true) refl
-
-pub returns-then-self-i-ne0-2 : goal.returns-then-self-i-ne0-2
-returns-then-self-i-ne0-2 c =
-    let l = c.args.self in
-    walk_fails c.loop-i.invariant c.loop-i-test.true
-    (blank-score (line_at c.args.self.names c.args.self.scores c.loop-i.i) c.if-self-i-ne0.false c.t12-1.given (ne_eqb _ 0 c.if-self-i-ne0-2.true))
-    refl
+    elim c.then-self-i-ne0.branch [
+      | then-self-i-ne0-via-then-self-i-ne0 w ↦
+          walk_fails c.loop-i.invariant c.loop-i-test.true (blank-name (line_at c.args.self.names c.args.self.scores c.loop-i.i) w.if-self-i-ne0.true) refl
+      | then-self-i-ne0-via-else-self-i-ne0+then-self-i-ne0-2 w ↦
+          walk_fails c.loop-i.invariant c.loop-i-test.true
+          (blank-score (line_at c.args.self.names c.args.self.scores c.loop-i.i) w.if-self-i-ne0.false (search rules) (ne_eqb _ 0 w.if-self-i-ne0-2.true))
+          refl
+    ]
 
 pub loop-i-preserved : goal.loop-i-preserved
 loop-i-preserved c =
-    let l = c.args.self in
     walk_on c.loop-i.invariant c.loop-i-test.true
-    (blank-score (line_at c.args.self.names c.args.self.scores c.loop-i.i) c.if-self-i-ne0.false c.t12-1.given (eq-eqb _ 0 c.if-self-i-ne0-2.false))
+    (blank-score (line_at c.args.self.names c.args.self.scores c.loop-i.i) c.if-self-i-ne0.false (search rules) (eq-eqb _ 0 c.if-self-i-ne0-2.false))
     refl
 
 pub returns : goal.returns
