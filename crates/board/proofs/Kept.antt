@@ -15,8 +15,7 @@ use Rattle.values.specs.declared.Values.{Values}
 use Rattle.ranking.specs.declared.Rule.{Rule}
 use Rattle.laws.proofs.Tests.{Tested, passed, failed, tested, and_both, if_so, if_not}
 use Rattle.laws.proofs.Lists.{there, get_d_in}
-use Rattle.window.specs.declared.Fresh.{Fresh}
-use Rattle.window.specs.Rows.{sized, fresh_window, fit_window, added}
+use Rattle.window.specs.Rows.{sized, empty, fresh_window, refusal_in, window_in, fit_window, added}
 use Rattle.window.proofs.History.{Since, since-fresh, since-added}
 use Rattle.question.specs.declared.Question.{Question}
 use Rattle.question.specs.Lines.{empty_slot, in_rows}
@@ -169,9 +168,9 @@ kept_fresh n e = go (tested (sized n))
   where
     go : Tested (sized n) → Kept n [] (fresh_board n).board
     go (passed t) =
-        subst (λ w. Kept n [] (record { window = w; slots = replicate 32 empty_slot })) (sym (ap (λ (r : Fresh). r.window) (if_so _ _ t)))
+        subst (λ w. Kept n [] (record { window = w; slots = replicate 32 empty_slot })) (sym (ap window_in (if_so _ _ t)))
         (record { since = since-fresh n t; many = length-replicate 32 empty_slot; each = λ q m. state.empty (replicate_of 32 empty_slot m) })
-    go (failed t) = absurd (no (sym (ap (λ (r : Fresh). r.refusal) (if_not _ _ t)) ∙ e))
+    go (failed t) = absurd (no (sym (ap refusal_in (if_not _ _ t)) ∙ e))
       where
         no : ◌≡◌ {A = ℕ} 18 0 → ⊥
         no z = omega arith

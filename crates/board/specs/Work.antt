@@ -7,7 +7,7 @@ use Rattle.ranking.specs.declared.Rule.{Rule}
 use Rattle.ranking.specs.Standing.{Held}
 use Rattle.window.specs.declared.Counts.{Counts}
 use Rattle.window.specs.declared.Window.{Window}
-use Rattle.window.specs.Rows.{report_limit, fresh_window, added}
+use Rattle.window.specs.Rows.{report_limit, fresh_window, refusal_in, window_in, added}
 use Rattle.question.specs.declared.Question.{Question}
 use Rattle.question.specs.Lines.{empty_slot, in_rows}
 use Rattle.slot.specs.declared.Shown.{Shown}
@@ -32,7 +32,7 @@ with_slot b slot q = record { window = b.window; slots = set b.slots slot q }
 
 -- A fresh window with 32 empty slots; refusal 18, where no window has that size.
 unfoldable pub fresh_board : ℕ → NewBoard
-fresh_board n = record { refusal = (fresh_window n).refusal; board = record { window = (fresh_window n).window; slots = replicate slot_count empty_slot } }
+fresh_board n = record { refusal = refusal_in (fresh_window n); board = record { window = window_in (fresh_window n); slots = replicate slot_count empty_slot } }
 
 -- Refusal 13, where there is no such slot; then what setting answers in that slot.
 unfoldable pub set_work : Board → ℕ → ℕ → Rule → Placed

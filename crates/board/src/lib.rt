@@ -78,13 +78,19 @@ impl Board {
     pub fn fresh(n: u16) -> NewBoard
         ensures { result ≡ fresh_board n }
     {
-        let made = Window::fresh(n);
-        let window = made.window;
-        let slot = Question::fresh();
-        let slots = [slot; Gauge::SLOTS];
-        NewBoard {
-            refusal: made.refusal,
-            board: Board { window, slots },
+        let slots = [Question::fresh(); Gauge::SLOTS];
+        match Window::fresh(n) {
+            Ok(window) => NewBoard {
+                refusal: 0,
+                board: Board { window, slots },
+            },
+            Err(refusal) => NewBoard {
+                refusal: refusal.number(),
+                board: Board {
+                    window: Window::none(),
+                    slots,
+                },
+            },
         }
     }
 

@@ -16,8 +16,7 @@ use Rattle.ranking.specs.Cells.{weights_fit, ranges_proper, ties_known}
 use Rattle.ranking.specs.declared.Rule.{Rule}
 use Rattle.laws.proofs.Tests.{Tested, passed, failed, tested, and_both, if_so, if_not, either}
 use Rattle.laws.proofs.Lists.{get_d_in}
-use Rattle.window.specs.declared.Fresh.{Fresh}
-use Rattle.window.specs.Rows.{sized, fresh_window, fit_window, added}
+use Rattle.window.specs.Rows.{sized, fresh_window, refusal_in, fit_window, added}
 use Rattle.window.specs.declared.Counts.{Counts}
 use Rattle.window.proofs.Fitness.{fit_facts}
 use Rattle.question.specs.declared.Question.{Question}
@@ -108,7 +107,7 @@ code t n k h = either (λ (m : ℕ). m ≤ 23) t (λ e. h) (λ e. k)
 
 fresh_code : (n : ℕ) → (fresh_board n).refusal ≤ 23
 unfolding fresh_board fresh_window
-fresh_code n = either (λ (r : Fresh). r.refusal ≤ 23) (sized n) (λ t. omega arith) (λ t. omega arith)
+fresh_code n = either (λ r. refusal_in r ≤ 23) (sized n) (λ t. omega arith) (λ t. omega arith)
 
 pub fresh-empty : (n slot : ℕ) → slot < 32 → slot_at (fresh_board n).board slot ≡ empty_slot
 unfolding fresh_board

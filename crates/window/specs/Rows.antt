@@ -1,5 +1,8 @@
 -- A window of the latest reports, stored as a ring of rows (docs/RULES.md, section 5).
-use Rattle.std.specs.Prelude.{ℕ, zero, suc, ◌+◌, ◌-◌, ◌/◌, ◌%◌, min, Bool, true, false, cond, ◌&&◌, List, [], ◌∷◌, get_or, set, replicate, leb, ltb, eqb}
+use Rattle.std.specs.Prelude.{ℕ, zero, suc, ◌+◌, ◌-◌, ◌/◌, ◌%◌, min, Bool, true, false, cond, ◌&&◌, List, [], ◌∷◌, get_or, set, replicate, leb, ltb, eqb, Result, Ok, Err}
+use Rattle.refusal.specs.declared.Refusal.{Refusal}
+use Rattle.refusal.specs.declared.Refusal.TheVariants.{WindowOutOfRange}
+use Rattle.refusal.specs.Numbers.{number_of}
 use Rattle.values.specs.declared.Values.{Values}
 use Rattle.values.specs.declared.Edition.{Edition}
 use Rattle.values.specs.declared.Edition.TheVariants.{First, Second}
@@ -10,7 +13,7 @@ use Rattle.ranking.specs.Standing.{Held}
 use Rattle.window.specs.declared.Counts.{Counts}
 use Rattle.window.specs.declared.Window.{Window}
 use Rattle.window.specs.declared.Row.{Row}
-use Rattle.window.specs.declared.Fresh.{Fresh}
+use Rattle.window.specs.declared.Rows.{Rows}
 use Rattle.window.specs.declared.Place.{Place}
 
 -- The rows of each array: the largest N.
@@ -25,17 +28,26 @@ report_limit = 1000000
 abbrev pub sized : ℕ → Bool
 sized size = leb 1 size && leb size row_count
 
--- A window of that size with nothing entered: every row is 0.
-abbrev pub empty : ℕ → Window
-empty size =
-    record {
-      rows = record { losses = replicate row_count 0; shakes = replicate row_count 0; names = replicate row_count 0 };
-      counts = record { size = size; entered = 0; held = 0 };
-    }
+-- Rows that hold nothing: every one is 0.
+abbrev pub no_rows : Rows
+no_rows = record { losses = replicate row_count 0; shakes = replicate row_count 0; names = replicate row_count 0 }
 
--- Refusal 18, where N is no such size: no window, and the answer's other fields are 0 (rule 9.1).
-unfoldable pub fresh_window : ℕ → Fresh
-fresh_window size = cond (sized size) (record { refusal = 0; window = empty size }) (record { refusal = 18; window = empty 0 })
+-- A window of that size with nothing entered.
+abbrev pub empty : ℕ → Window
+empty size = record { rows = no_rows; counts = record { size = size; entered = 0; held = 0 } }
+
+-- Refusal 18, where N is no such size.
+unfoldable pub fresh_window : ℕ → Result Window Refusal
+fresh_window size = cond (sized size) (Ok (empty size)) (Err WindowOutOfRange)
+
+-- What that comes to in numbers: the refusal's, 0 for none (rule 9.1), and the window, which is one of no rows where it is refused.
+abbrev pub refusal_in : Result Window Refusal → ℕ
+refusal_in (Ok w) = 0
+refusal_in (Err e) = number_of e
+
+abbrev pub window_in : Result Window Refusal → Window
+window_in (Ok w) = w
+window_in (Err e) = empty 0
 
 -- ---- what a window holds
 
@@ -44,8 +56,15 @@ abbrev pub row_of : ℕ → ℕ → ℕ
 row_of size m = (m - 1) % size
 
 -- A row as it stands, the number in it, and the values: a row keeps a report's number and edition in one (rule 17.6).
+abbrev pub row_in : Rows → ℕ → Row
+row_in rows row = record { loss = get_or rows.losses row 0; shake = get_or rows.shakes row 0; name = get_or rows.names row 0 }
+
+-- The rows with another in its place.
+abbrev pub rows_with : Rows → ℕ → Row → Rows
+rows_with rows at row = record { losses = set rows.losses at row.loss; shakes = set rows.shakes at row.shake; names = set rows.names at row.name }
+
 abbrev pub row_at : Window → ℕ → Row
-row_at w row = record { loss = get_or w.rows.losses row 0; shake = get_or w.rows.shakes row 0; name = get_or w.rows.names row 0 }
+row_at w row = row_in w.rows row
 
 abbrev pub number_at : Row → ℕ
 number_at row = row.name / editions
@@ -129,11 +148,9 @@ place_for c = cond (sized c.size) (record { row = row_of c.size (c.entered + 1);
 abbrev pub grown : Window → Values → Window
 grown w v =
     record {
-      rows = record {
-        losses = set w.rows.losses (row_of w.counts.size (w.counts.entered + 1)) v.loss;
-        shakes = set w.rows.shakes (row_of w.counts.size (w.counts.entered + 1)) v.shake;
-        names = set w.rows.names (row_of w.counts.size (w.counts.entered + 1)) (named (w.counts.entered + 1) v.edition);
-      };
+      rows =
+          rows_with w.rows (row_of w.counts.size (w.counts.entered + 1))
+          (record { loss = v.loss; shake = v.shake; name = named (w.counts.entered + 1) v.edition });
       counts = grown_counts w.counts;
     }
 

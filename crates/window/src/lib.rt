@@ -2,8 +2,9 @@
 #![tactic(auto)]
 
 ghost use Rattle.std.specs.Prelude.{◌≡◌, true, min, ◌+◌, ◌-◌, ◌%◌, ◌<◌, ◌≤◌};
-ghost use Rattle.window.specs.Rows.{row_count, report_limit, fresh_window, fit_window, added, sized, empty, row_of, place_for, due, number_at, values_at, no_values, holds, rows_fit, counts_fit};
+ghost use Rattle.window.specs.Rows.{row_count, report_limit, no_rows, row_in, rows_with, fresh_window, fit_window, added, sized, empty, row_of, place_for, due, number_at, values_at, no_values, holds, rows_fit, counts_fit};
 
+use refusal::Refusal;
 use values::{Edition, Name, Values};
 
 // How many rows are used, N; how many reports were entered, which is the last one's number; and how many of the latest are
@@ -38,18 +39,54 @@ pub struct Row {
     pub name: u32,
 }
 
-// A window, or the refusal's number and a window of zeros.
-#[derive(Clone, Copy)]
-pub struct Fresh {
-    pub refusal: u8,
-    pub window: Window,
-}
-
 // Where the next report goes: its row, and how many are held with it.
 #[derive(Clone, Copy)]
 pub struct Place {
     pub row: u16,
     pub held: u16,
+}
+
+impl Rows {
+    // Rows that hold nothing.
+    pub fn none() -> Rows
+        ensures { result ≡ no_rows }
+    {
+        Rows {
+            losses: [0; Window::ROWS],
+            shakes: [0; Window::ROWS],
+            names: [0; Window::ROWS],
+        }
+    }
+
+    // The row at a place; past the last one, a row that holds nothing.
+    pub fn row(&self, at: usize) -> Row
+        ensures { result ≡ row_in self.now at }
+    {
+        if at < Window::ROWS {
+            Row {
+                loss: self.losses[at],
+                shake: self.shakes[at],
+                name: self.names[at],
+            }
+        } else {
+            Row {
+                loss: 0,
+                shake: 0,
+                name: 0,
+            }
+        }
+    }
+
+    // Stores a row at a place, if there is one.
+    pub fn put(&mut self, at: usize, row: Row)
+        ensures { self.new ≡ rows_with self.old at row }
+    {
+        if at < Window::ROWS {
+            self.losses[at] = row.loss;
+            self.shakes[at] = row.shake;
+            self.names[at] = row.name;
+        }
+    }
 }
 
 impl Window {
@@ -63,32 +100,31 @@ impl Window {
     // No more reports are entered than this.
     pub const REPORTS: u32 = 1000000;
 
-    pub const OUT_OF_RANGE: u8 = 18;
-
-    // A window of n rows with nothing entered, or refusal 18.
-    pub fn fresh(n: u16) -> Fresh
+    // A window of n rows with nothing entered. Refused 18.
+    #[tactic(auto, unfolding(crate::specs::Rows::fresh_window))]
+    pub fn fresh(n: u16) -> Result<Window, Refusal>
         ensures { result ≡ fresh_window n }
     {
         if sized(n) {
-            return Fresh {
-                refusal: 0,
-                window: empty(n),
-            };
-        }
-        Fresh {
-            refusal: Window::OUT_OF_RANGE,
-            window: empty(0),
+            Ok(empty(n))
+        } else {
+            Err(Refusal::WindowOutOfRange)
         }
     }
 
+    // No window yet: one of no rows, which takes no report.
+    pub fn none() -> Window
+        ensures { result ≡ empty 0 }
+    {
+        empty(0)
+    }
+
     // Every stored number is in its range, and the held numbers are the latest ones without a gap.
+    #[tactic(auto, unfolding(crate::specs::Rows::fit_window))]
     pub fn fit(self) -> bool
         ensures { result ≡ fit_window self }
     {
-        if counts_fit(self.counts) {
-            return rows_fit(self);
-        }
-        false
+        counts_fit(self.counts) && rows_fit(self)
     }
 
     // Where the next report goes in a window of these counts; 0 where there is no such window.
@@ -107,16 +143,16 @@ impl Window {
 
     // The window with one report more; where N are held, the oldest gives it its row. A window that can take none is
     // handed back.
+    #[tactic(auto, unfolding(crate::specs::Rows::added))]
     pub fn added(self, values: Values) -> Window
         ensures { result ≡ added self values }
     {
         let counts = self.counts;
-        if sized(counts.size) {
-            if counts.entered < Window::REPORTS {
-                return grown(self, values);
-            }
+        if sized(counts.size) && counts.entered < Window::REPORTS {
+            grown(self, values)
+        } else {
+            self
         }
-        self
     }
 }
 
@@ -144,25 +180,18 @@ fn sized(n: u16) -> bool
 fn empty(size: u16) -> Window
     ensures { result ≡ empty size }
 {
-    let losses = [0u16; Window::ROWS];
-    let shakes = [0u16; Window::ROWS];
-    let names = [0u32; Window::ROWS];
-    let counts = Counts {
-        size,
-        entered: 0,
-        held: 0,
-    };
     Window {
-        rows: Rows {
-            losses,
-            shakes,
-            names,
+        rows: Rows::none(),
+        counts: Counts {
+            size,
+            entered: 0,
+            held: 0,
         },
-        counts,
     }
 }
 
 // The next report stored in its row.
+#[tactic(auto, unfolding(crate::specs::Rows::added))]
 fn grown(w: Window, values: Values) -> Window
     requires { (sized w.counts.size ≡ true) × (w.counts.entered < report_limit) }
     ensures { result ≡ added w values }
@@ -170,18 +199,18 @@ fn grown(w: Window, values: Values) -> Window
     let counts = w.counts;
     let size = counts.size;
     let number = counts.entered + 1;
-    let row = row_of(size, number) as usize;
-    let edition = values.edition;
+    let row = Row {
+        loss: values.loss,
+        shake: values.shake,
+        name: Name::of(number, values.edition),
+    };
     let mut next = w;
-    next.rows.losses[row] = values.loss;
-    next.rows.shakes[row] = values.shake;
-    next.rows.names[row] = Name::of(number, edition);
-    let later = Counts {
+    next.rows.put(row_of(size, number) as usize, row);
+    next.counts = Counts {
         size,
         entered: number,
         held: capped(counts.held, size),
     };
-    next.counts = later;
     next
 }
 
@@ -197,24 +226,17 @@ fn row_of(size: u16, number: u32) -> u16
 fn capped(held: u16, size: u16) -> u16
     ensures { result ≡ min size (held + 1) }
 {
-    if held < size { held + 1 } else { size }
+    held.saturating_add(1).min(size)
 }
 
 // The counts are in their ranges.
 fn counts_fit(counts: Counts) -> bool
     ensures { result ≡ counts_fit counts }
 {
-    let size = counts.size;
-    let entered = counts.entered;
-    let held = counts.held;
-    if sized(size) {
-        if entered <= Window::REPORTS {
-            if held <= size {
-                return (held as u32) <= entered;
-            }
-        }
-    }
-    false
+    sized(counts.size)
+        && counts.entered <= Window::REPORTS
+        && counts.held <= counts.size
+        && u32::from(counts.held) <= counts.entered
 }
 
 // Every row holds what is due.
@@ -222,21 +244,12 @@ fn rows_fit(w: Window) -> bool
     requires { counts_fit w.counts ≡ true }
     ensures { result ≡ rows_fit w row_count }
 {
-    let rows = w.rows;
     let counts = w.counts;
-    let last = row_of(counts.size, counts.entered + (counts.size as u32));
-    let mut row: usize = 0;
-    while row < Window::ROWS {
-        let n = due(counts, last, row as u16);
-        let held = Row {
-            loss: rows.losses[row],
-            shake: rows.shakes[row],
-            name: rows.names[row],
-        };
-        if !holds(n, held) {
+    let last = row_of(counts.size, counts.entered + u32::from(counts.size));
+    for row in 0..Window::ROWS {
+        if !holds(due(counts, last, row as u16), w.rows.row(row)) {
             return false;
         }
-        row += 1;
     }
     true
 }
@@ -247,15 +260,15 @@ fn due(counts: Counts, last: u16, row: u16) -> u32
         × (last ≡ row_of counts.size (counts.entered + counts.size)) }
     ensures { result ≡ due counts row }
 {
-    let size = counts.size;
-    if size <= row {
+    if counts.size <= row {
         return 0;
     }
-    let behind = steps_back(size, last, row);
+    let behind = steps_back(counts.size, last, row);
     if behind < counts.held {
-        return counts.entered - (behind as u32);
+        counts.entered - u32::from(behind)
+    } else {
+        0
     }
-    0
 }
 
 // How many rows the one lies behind the other, around the ring.
@@ -274,28 +287,18 @@ fn steps_back(size: u16, last: u16, row: u16) -> u16
 fn holds(due: u32, row: Row) -> bool
     ensures { result ≡ holds due (number_at row) (values_at row) }
 {
-    if Name::number(row.name) != due {
-        return false;
-    }
     let values = row.values();
-    if due == 0 {
-        return no_values(values);
-    }
-    values.in_range()
+    Name::number(row.name) == due
+        && if due == 0 {
+            no_values(values)
+        } else {
+            values.in_range()
+        }
 }
 
 // The values of a row that holds nothing.
 fn no_values(values: Values) -> bool
     ensures { result ≡ no_values values }
 {
-    let edition = values.edition;
-    if values.loss == 0 {
-        if values.shake == 0 {
-            return match edition {
-                Edition::First => true,
-                Edition::Second(_) => false,
-            };
-        }
-    }
-    false
+    values.loss == 0 && values.shake == 0 && matches!(values.edition, Edition::First)
 }

@@ -2,23 +2,20 @@
 -- Assumes nothing.
 use mathlib.Core.Path.{◌≡◌, refl, sym, ap, ◌∙◌, subst}
 use mathlib.Core.Bool.{Bool, true}
-use Prim.Native.Nat.{ℕ, ◌<◌}
+use Prim.Native.Nat.{ℕ, ◌+◌}
 use native.Mathlib.Omega.{arith}
 use native.Mathlib.Numerals.{add-one}
-use borrow.Author.Tests.{not-true, not-false}
-use Rattle.window.specs.Rows.{number_in, values_in, due, holds, row_fit, rows_fit}
-use Rattle.window.specs.declared.Window.{Window}
 use Rattle.laws.proofs.Tests.{and_true}
+use Rattle.window.specs.Rows.{row_of, row_in, number_at, values_at, number_in, values_in, due, holds, row_fit, rows_fit}
+use Rattle.window.specs.declared.Row.{Row}
+use Rattle.window.specs.declared.Window.{Window}
 use Rattle.window.proofs.Fitness.{ranges_of, unfit_row}
-use mathlib.Core.Bool.{not}
 use Rattle.window.proofs.rows_fit.Goals as goal
 
--- what the two calls of a turn say of the row
-judged : (w : Window) (row n : ℕ) {b : Bool} → b ≡ holds n (number_in w row) (values_in w row) → n ≡ due w.counts row → row_fit w row ≡ b
-judged w row n p q = sym (p ∙ ap (λ m. holds m (number_in w row) (values_in w row)) q)
-
-pub overflow_cast-counts : goal.overflow_cast-counts
-overflow_cast-counts c = let k = ranges_of c.args.w.counts c.requires in omega arith
+-- what the calls of a turn say of the row
+judged : (w : Window) (row n : ℕ) {h : Row} {b : Bool} → b ≡ holds n (number_at h) (values_at h) → h ≡ row_in w.rows row → n ≡ due w.counts row → row_fit w row ≡ b
+judged w row n p q r =
+    sym (p ∙ ap (λ h. holds n (number_at h) (values_at h)) q ∙ ap (λ m. holds m (number_in w row) (values_in w row)) r)
 
 pub overflow_add-counts : goal.overflow_add-counts
 overflow_add-counts c = let k = ranges_of c.args.w.counts c.requires in omega arith
@@ -28,29 +25,24 @@ row_of-last-requires c = let k = ranges_of c.args.w.counts c.requires in omega a
 
 pub loop-row-init : goal.loop-row-init
 unfolding rows_fit
-loop-row-init c = (omega arith, refl)
+loop-row-init c = refl
 
-pub due-n-requires : goal.due-n-requires
-due-n-requires c =
+pub due-requires : goal.due-requires
+due-requires c =
     let k = ranges_of c.args.w.counts c.requires in
-    (k.ring.positive, k.within, k.ring.were_entered, c.row_of-last.ensures)
+    (k.ring.positive, k.within, k.ring.were_entered, c.row_of-last.ensures ∙ ap (λ n. row_of c.args.w.counts.size (c.args.w.counts.entered + n)) c.from.ensures)
 
 pub returns-then-not-holds : goal.returns-then-not-holds
 returns-then-not-holds c =
-    let w = c.args.w in
-    let row : c.loop-row.row < 1024 = omega arith in
-    sym (unfit_row w 1024 c.loop-row.row row (judged w c.loop-row.row c.due-n.result c.holds.ensures c.due-n.ensures ∙ not-true _ (ap not c.if-not-holds.true)))
+    sym (unfit_row c.args.w 1024 c.loop-row.row (omega arith) (judged c.args.w _ _ c.holds.ensures c.row.ensures c.due.ensures ∙ c.if-not-holds.true))
 
 pub loop-row-preserved : goal.loop-row-preserved
 unfolding rows_fit
 loop-row-preserved c =
-    let w = c.args.w in (
-      omega arith,
-      rw (add-one c.loop-row.row)
-          (and_true c.loop-row.invariant.1 (judged w c.loop-row.row c.due-n.result c.holds.ensures c.due-n.ensures ∙ not-false _ (ap not c.if-not-holds.false))),
-    )
+    rw (add-one c.loop-row.row)
+    (and_true c.loop-row.invariant (judged c.args.w _ _ c.holds.ensures c.row.ensures c.due.ensures ∙ c.if-not-holds.false))
 
 pub returns : goal.returns
 returns c =
     let all : c.loop-row.row ≡ 1024 = omega arith in
-    sym (subst (λ n. rows_fit c.args.w n ≡ true) all c.loop-row.invariant.1)
+    sym (subst (λ n. rows_fit c.args.w n ≡ true) all c.loop-row.invariant)
