@@ -22,8 +22,7 @@ use Rattle.search.specs.Best.{best, placed}
 use Rattle.search.proofs.Best.{length_best_le, best_cons, best_skip}
 use Rattle.values.proofs.Names.{name-number, name_back}
 use Rattle.ranking.specs.declared.Rule.{Rule}
-use Rattle.ranking.specs.declared.Score.{Score}
-use Rattle.ranking.specs.declared.Score.TheVariants.{Scored, DoesNotCount}
+use Rattle.std.specs.Prelude.{Option, Some, None}
 use Rattle.ranking.specs.Cells.{score, is_scored, points, ScoreFits, from_least}
 use Rattle.ranking.specs.Standing.{Held, Entry, above, is_counted, entry, entries, top}
 use Rattle.ranking.proofs.Cells.{from_is, from_none}
@@ -196,14 +195,14 @@ module _ {rule : Rule} {k : ℕ} {hs : List Held} {ns : List ℕ} {ss : List ℤ
   same_bar = p.bar_is ∙ bar_read rule k small hs p.lines
 
   -- a row more, by what its score's test and the bar say of its report
-  module _ (w : Window) (r : ℕ) {sc : Score} (is : sc ≡ from_least least (score rule (report_in w r).values)) where
+  module _ (w : Window) (r : ℕ) {sc : Option ℤ} (is : sc ≡ from_least least (score rule (report_in w r).values)) where
     abbrev own_entry : Entry
     own_entry = entry rule (report_in w r)
 
     stays : top rule k hs ≡ top rule k (with_row w r hs) → Pass rule k (with_row w r hs) ns ss len bar least
     stays e = record { lines = p.lines ∙ ap columns_of e; bar_is = p.bar_is; least-is = p.least-is }
 
-    pub pass_out : ScoreFits rule (report_in w r).values → sc ≡ DoesNotCount → Pass rule k (with_row w r hs) ns ss len bar least
+    pub pass_out : ScoreFits rule (report_in w r).values → sc ≡ None → Pass rule k (with_row w r hs) ns ss len bar least
     pass_out fits none =
         stays
         (⊎_elim (row_out rule k small hs w r)
@@ -212,12 +211,12 @@ module _ {rule : Rule} {k : ℕ} {hs : List Held} {ns : List ℕ} {ss : List ℤ
         ∙ admits_under (above rule) bar own_entry (score_below rule) fits.sfits (ap (lt_z own_entry.score) (sym p.least-is) ∙ low.1)))
         (from_none least (score rule (report_in w r).values) (sym is ∙ none)))
 
-    module _ {own : ℤ} (scored : sc ≡ Scored own) (fits : mag own < 2147483648) where
+    module _ {own : ℤ} (scored : sc ≡ Some own) (fits : mag own < 2147483648) where
       -- the report's entry as the code has it
       abbrev read : Entry
       read = record { name = get_or w.names r 0; score = to_z w32 (of_z w32 own) }
 
-      score-is : score rule (report_in w r).values ≡ Scored own
+      score-is : score rule (report_in w r).values ≡ Some own
       score-is = from_is least (score rule (report_in w r).values) own (sym is ∙ scored)
 
       read_is : read ≡ own_entry

@@ -11,7 +11,7 @@ ghost use Rattle.list.specs.Bars.{bar_at, bar_of};
 ghost use Rattle.list.specs.Rows.{rows_of};
 ghost use Rattle.list.specs.Inner.{Roomy, rank_in, new_in, slid, Placing, least_at, turns, admits, wiped, Gathered};
 
-use ranking::{Rule, Score};
+use ranking::Rule;
 use values::Name;
 use window::Window;
 
@@ -224,8 +224,7 @@ fn upward<'a, 'b>(
         let loss = losses[here];
         let shake = shakes[here];
         let name = names[here];
-        let scored = rule.score_from(loss, shake, name, least);
-        let Score::Scored(score) = scored else {
+        let Some(score) = rule.score_from(loss, shake, name, least) else {
             continue;
         };
         if !bar.admits(rule, name, score) {
@@ -269,8 +268,7 @@ fn downward<'a, 'b>(
         let loss = losses[row];
         let shake = shakes[row];
         let name = names[row];
-        let scored = rule.score_from(loss, shake, name, least);
-        let Score::Scored(score) = scored else {
+        let Some(score) = rule.score_from(loss, shake, name, least) else {
             continue;
         };
         if !bar.admits(rule, name, score) {

@@ -12,7 +12,7 @@ ghost use Rattle.question.specs.Calls.{holds_number, held_as, next_fits, ranges_
 ghost use Rattle.question.specs.Inner.{taking, list_taken, step_refusal};
 
 use list::{Lines, gathered};
-use ranking::{Grid, Rule, Score};
+use ranking::{Grid, Rule};
 use values::Name;
 use window::{Counts, Row, Window};
 
@@ -181,8 +181,8 @@ impl Question {
             return self;
         }
         match self.rule.score(values) {
-            Score::Scored(score) => self.cut_with(name, score),
-            Score::DoesNotCount => self,
+            Some(score) => self.cut_with(name, score),
+            None => self,
         }
     }
 
@@ -463,8 +463,8 @@ fn held_as(window: Window, rule: Rule, name: u32, score: i32) -> bool
         name: own_name,
     };
     match rule.score(held.values()) {
-        Score::Scored(own) => score == own,
-        Score::DoesNotCount => false,
+        Some(own) => score == own,
+        None => false,
     }
 }
 

@@ -27,8 +27,7 @@ use Rattle.ranking.specs.Cells.{inside, weight_fits, weights_fit, is_proper, ran
 use Rattle.ranking.specs.Inner.{pair_part, hottest, edition_by, Words}
 use Rattle.ranking.specs.declared.Range.{Range}
 use Rattle.ranking.specs.declared.Rule.{Rule}
-use Rattle.ranking.specs.declared.Score.{Score}
-use Rattle.ranking.specs.declared.Score.TheVariants.{Scored, DoesNotCount}
+use Rattle.std.specs.Prelude.{Option, Some, None}
 use Rattle.laws.proofs.Tests.{Tested, passed, failed, tested, clash, and_both, and_true, and_so, if_so, if_not}
 use Rattle.laws.proofs.Lists.{Pairwise, Distinct, Other, Same, there, pairwise_map, pairwise_only, only_in, only_of, only-only, only-length, same-only, lt_or_eq}
 use Rattle.laws.proofs.Orders.{StrictTotal, one_way, ahead, ltb_strict}
@@ -489,13 +488,13 @@ module _ (rule : Rule) where
 
   -- ---- what scoring answers
 
-  pub score-counted : (v : Values) → counts rule v ≡ true → score rule v ≡ Scored (sum rule v)
+  pub score-counted : (v : Values) → counts rule v ≡ true → score rule v ≡ Some (sum rule v)
   unfolding score
-  score-counted v h = if_so (Scored (sum rule v)) DoesNotCount h
+  score-counted v h = if_so (Some (sum rule v)) None h
 
-  pub score_out : (v : Values) → counts rule v ≡ false → score rule v ≡ DoesNotCount
+  pub score_out : (v : Values) → counts rule v ≡ false → score rule v ≡ None
   unfolding score
-  score_out v h = if_not (Scored (sum rule v)) DoesNotCount h
+  score_out v h = if_not (Some (sum rule v)) None h
 
   pub scored_counts : (v : Values) → is_scored (score rule v) ≡ counts rule v
   scored_counts v = go (tested (counts rule v))
@@ -505,21 +504,21 @@ module _ (rule : Rule) where
       go (failed e) = ap is_scored (score_out v e) ∙ sym e
 
   -- the same from a least score on
-  pub from_counted : (v : Values) (least : ℤ) → counts rule v ≡ true → lt_z (sum rule v) least ≡ false → from_least least (score rule v) ≡ Scored (sum rule v)
-  from_counted v least h e = ap (from_least least) (score-counted v h) ∙ if_not DoesNotCount (Scored (sum rule v)) e
+  pub from_counted : (v : Values) (least : ℤ) → counts rule v ≡ true → lt_z (sum rule v) least ≡ false → from_least least (score rule v) ≡ Some (sum rule v)
+  from_counted v least h e = ap (from_least least) (score-counted v h) ∙ if_not None (Some (sum rule v)) e
 
-  pub from_out : (v : Values) (least : ℤ) → counts rule v ≡ false → from_least least (score rule v) ≡ DoesNotCount
+  pub from_out : (v : Values) (least : ℤ) → counts rule v ≡ false → from_least least (score rule v) ≡ None
   from_out v least h = ap (from_least least) (score_out v h)
 
-  pub from_low : (v : Values) (least : ℤ) → lt_z (sum rule v) least ≡ true → from_least least (score rule v) ≡ DoesNotCount
+  pub from_low : (v : Values) (least : ℤ) → lt_z (sum rule v) least ≡ true → from_least least (score rule v) ≡ None
   from_low v least e = go (tested (counts rule v))
     where
-      go : Tested (counts rule v) → from_least least (score rule v) ≡ DoesNotCount
-      go (passed h) = ap (from_least least) (score-counted v h) ∙ if_so DoesNotCount (Scored (sum rule v)) e
+      go : Tested (counts rule v) → from_least least (score rule v) ≡ None
+      go (passed h) = ap (from_least least) (score-counted v h) ∙ if_so None (Some (sum rule v)) e
       go (failed h) = from_out v least h
 
   -- no heat makes more of a loss and a shake than the best, so what is below the least with that is below it
-  pub from_hottest : (v : Values) (least : ℤ) → in_range v ≡ true → lt_z (weighed rule.weights (hottest rule.weights v)) least ≡ true → from_least least (score rule v) ≡ DoesNotCount
+  pub from_hottest : (v : Values) (least : ℤ) → in_range v ≡ true → lt_z (weighed rule.weights (hottest rule.weights v)) least ≡ true → from_least least (score rule v) ≡ None
   unfolding sum
   from_hottest v least h e =
       let most = weighed rule.weights (hottest rule.weights v) in
@@ -555,7 +554,7 @@ module _ (rule : Rule) where
     pub score_pair : (v w : Values) → v.loss ≡ w.loss → v.shake ≡ w.shake → score rule v ≡ score rule w
     unfolding score
     score_pair v w p q =
-        ap₂ (λ t s. cond t (Scored s) DoesNotCount)
+        ap₂ (λ t s. cond t (Some s) None)
         (counts_pair v ∙ ap₂ (λ l s. inside losses l && inside shakes s) p q ∙ sym (counts_pair w))
         (sum_pair v ∙ ap₂ (λ l s. rule.weights.loss *ℤ pos l +ℤ rule.weights.shake *ℤ pos s) p q ∙ sym (sum_pair w))
 
@@ -665,28 +664,28 @@ module _ (rule : Rule) where
 
 -- ---- scores from a least one on
 
-pub from_is : (least : ℤ) (sc : Score) (s : ℤ) → from_least least sc ≡ Scored s → sc ≡ Scored s
-from_is least (Scored t) s h = go (tested (lt_z t least))
+pub from_is : (least : ℤ) (sc : Option ℤ) (s : ℤ) → from_least least sc ≡ Some s → sc ≡ Some s
+from_is least (Some t) s h = go (tested (lt_z t least))
   where
-    go : Tested (lt_z t least) → Scored t ≡ Scored s
-    go (passed e) = absurd (other (sym (if_so DoesNotCount (Scored t) e) ∙ h))
+    go : Tested (lt_z t least) → Some t ≡ Some s
+    go (passed e) = absurd (other (sym (if_so None (Some t) e) ∙ h))
       where
-        other : DoesNotCount ≡ Scored s → ⊥
+        other : None ≡ Some s → ⊥
         other q = let z : ◌≡◌ {A = ℕ} 0 1 = cc in omega arith
-    go (failed e) = sym (if_not DoesNotCount (Scored t) e) ∙ h
-from_is least DoesNotCount s h = absurd (other h)
+    go (failed e) = sym (if_not None (Some t) e) ∙ h
+from_is least None s h = absurd (other h)
   where
-    other : DoesNotCount ≡ Scored s → ⊥
+    other : None ≡ Some s → ⊥
     other q = let z : ◌≡◌ {A = ℕ} 0 1 = cc in omega arith
 
 -- none: it doesn't count, or is below
-pub from_none : (least : ℤ) (sc : Score) → from_least least sc ≡ DoesNotCount → (is_scored sc ≡ false) ⊎ ((is_scored sc ≡ true) × (lt_z (points sc) least ≡ true))
-from_none least (Scored t) h = go (tested (lt_z t least))
+pub from_none : (least : ℤ) (sc : Option ℤ) → from_least least sc ≡ None → (is_scored sc ≡ false) ⊎ ((is_scored sc ≡ true) × (lt_z (points sc) least ≡ true))
+from_none least (Some t) h = go (tested (lt_z t least))
   where
-    go : Tested (lt_z t least) → (is_scored (Scored t) ≡ false) ⊎ ((is_scored (Scored t) ≡ true) × (lt_z t least ≡ true))
+    go : Tested (lt_z t least) → (is_scored (Some t) ≡ false) ⊎ ((is_scored (Some t) ≡ true) × (lt_z t least ≡ true))
     go (passed e) = inr (refl, e)
-    go (failed e) = absurd (other (sym h ∙ if_not DoesNotCount (Scored t) e))
+    go (failed e) = absurd (other (sym h ∙ if_not None (Some t) e))
       where
-        other : DoesNotCount ≡ Scored t → ⊥
+        other : None ≡ Some t → ⊥
         other q = let z : ◌≡◌ {A = ℕ} 0 1 = cc in omega arith
-from_none least DoesNotCount h = inl refl
+from_none least None h = inl refl

@@ -27,7 +27,7 @@ use Rattle.values.proofs.Names.{name-number, name_rises}
 use Rattle.ranking.specs.Cells.{columns, inside, weight_fits, weights_fit, is_scored, points, score, cell, corner, corner_of, best_score, greater, visiting}
 use Rattle.ranking.specs.Standing.{Held, Entry, later_first, goes_first, above, is_counted, counted, entry, entries, top, reaches, search_of}
 use Rattle.ranking.specs.declared.Rule.{Rule}
-use Rattle.ranking.specs.declared.Score.TheVariants.{Scored, DoesNotCount}
+use Rattle.std.specs.Prelude.{Some, None}
 use Rattle.ranking.proofs.Cells.{counts_pair, sum_pair, score_pair}
 use Rattle.ranking.proofs.Entries.{above_strict}
 
@@ -224,7 +224,7 @@ module _ (rule : Rule) (none : rule.weights.heat ≡ pos 0) where
 pub record WithoutHeat (rule : Rule) : Type 0 where
   pub fits : weights_fit rule ≡ weight_fits rule.weights.loss && weight_fits rule.weights.shake
   pub scores : (v : Values) → score rule v
-      ≡ cond (inside rule.ranges.loss v.loss && inside rule.ranges.shake v.shake) (Scored (rule.weights.loss *ℤ pos v.loss +ℤ rule.weights.shake *ℤ pos v.shake)) DoesNotCount
+      ≡ cond (inside rule.ranges.loss v.loss && inside rule.ranges.shake v.shake) (Some (rule.weights.loss *ℤ pos v.loss +ℤ rule.weights.shake *ℤ pos v.shake)) None
   pub best-scores : (c : ℕ) → best_score rule c
       ≡ rule.weights.loss *ℤ pos (corner rule.weights.loss rule.ranges.loss (c % columns))
       +ℤ rule.weights.shake *ℤ pos (corner rule.weights.shake rule.ranges.shake (c / columns))
@@ -235,7 +235,7 @@ unfolding weights_fit score best_score
 without-heat rule none =
     record {
       fits = ap (λ z. weight_fits rule.weights.loss && weight_fits rule.weights.shake && weight_fits z) none ∙ and_so (weight_fits rule.weights.loss && weight_fits rule.weights.shake);
-      scores = λ v. ap₂ (λ t s. cond t (Scored s) DoesNotCount) (counts_pair rule none v) (sum_pair rule none v);
+      scores = λ v. ap₂ (λ t s. cond t (Some s) None) (counts_pair rule none v) (sum_pair rule none v);
       best-scores = λ c. sum_pair rule none (corner_of rule c);
       editions = any_edition rule none;
     }

@@ -19,7 +19,7 @@ use Rattle.ranking.specs.Standing.{Held, Entry, goes_first, above, entries, top,
 use Rattle.ranking.specs.Inner.{stripes_of}
 use Rattle.ranking.specs.declared.Range.{Range}
 use Rattle.ranking.specs.declared.Rule.{Rule}
-use Rattle.ranking.specs.declared.Score.TheVariants.{Scored, DoesNotCount}
+use Rattle.std.specs.Prelude.{Some, None}
 use Rattle.ranking.proofs.Cells.{length-visiting, corner-best, points-sum, sum_pair}
 use Rattle.ranking.proofs.Columns.{width, most_steps_lem}
 use Rattle.ranking.proofs.Entries.{above_strict, entries_of_lem}
@@ -134,14 +134,14 @@ pub record Examples : Type 0 where
   pub p15_order : most_steps unmet ≡ 32
   pub p15_steps : steps (search_of unmet) 1 (report 1 10 10 ∷ report 2 2000 5 ∷ []) ≡ 32
   -- P17: weights 1, 0, 1 pass over 1, which has no heat: a cell of column i has the best possible score 256 i + 255 + 4095, 8190 in column 15 and 7934 in column 14, so 16 steps take column 15
-  pub p17_out : score (with_heat (pos 1) (pos 1)) (report 1 4095 9).values ≡ DoesNotCount
+  pub p17_out : score (with_heat (pos 1) (pos 1)) (report 1 4095 9).values ≡ None
   pub p17_list : top (with_heat (pos 1) (pos 1)) 1 mixed ≡ heat_line 2 4095 7935 ∷ []
   pub p17_both : top (with_heat (pos 1) (pos 1)) 3 mixed ≡ heat_line 2 4095 7935 ∷ heat_line 3 3000 3100 ∷ []
   pub p17_best : (best_score (with_heat (pos 1) (pos 1)) 15 ≡ pos 8190) × (best_score (with_heat (pos 1) (pos 1)) 14 ≡ pos 7934)
   pub p17_steps : steps (search_of (with_heat (pos 1) (pos 1))) 1 mixed ≡ 16
   pub p17_cells : marks (search_of (with_heat (pos 1) (pos 1))) 1 mixed ≡ last_column
   -- P18: the same reports by weights 1, 0, 0: 1 counts, and no heat is looked at
-  pub p18_in : score (with_heat (pos 1) (pos 0)) (report 1 4095 9).values ≡ Scored (pos 4095)
+  pub p18_in : score (with_heat (pos 1) (pos 0)) (report 1 4095 9).values ≡ Some (pos 4095)
   pub p18_list : top (with_heat (pos 1) (pos 0)) 3 mixed ≡ line 1 4095 ∷ heat_line 2 4095 3840 ∷ heat_line 3 3000 100 ∷ []
   -- P19: weights 1, 0, -1 take heat 0 for the best: 256 i + 255, 3839 in column 14, which equals the last score, so 32 steps take columns 15 and 14
   pub p19_list : top (with_heat (pos 1) (negsuc 0)) 3 cooled ≡ heat_line 3 0 3839 ∷ heat_line 2 100 3800 ∷ []

@@ -24,8 +24,7 @@ use Rattle.values.proofs.Facts.{range_facts}
 use Rattle.ranking.specs.Cells.{side, columns, whole_range, rule_of, weight_fits, weights_fit, ranges_proper, ties_known, fit_rule, greater, points, counts, score, cell, cell_counts, nearest, corner, corner_of, best_score, before, cells, counted_cells, most_steps, visiting, in_order}
 use Rattle.ranking.specs.Standing.{Held, Entry, goes_first, above, is_counted, counted, entry, entries, top, passes, search_of, Permitted, foremost, Wanted}
 use Rattle.ranking.specs.declared.Rule.{Rule}
-use Rattle.ranking.specs.declared.Score.{Score}
-use Rattle.ranking.specs.declared.Score.TheVariants.{Scored}
+use Rattle.std.specs.Prelude.{Option, Some}
 use Rattle.ranking.proofs.Cells.{inside_is, meets-is, corner_high, corner-low, column, row, cells_of, scored_counts, score-counted, counts_pair, sum_pair}
 use Rattle.ranking.proofs.Editions.{as_first, Apart, AnyEdition, any_edition}
 use Rattle.ranking.proofs.Entries.{passes-least, length-top}
@@ -86,8 +85,8 @@ module _ (a b : ℤ) where
       ∙ and_true (inside_is whole_range v.loss (record { from_low = omega arith; to_high = f.loss_fits }))
       (inside_is whole_range v.shake (record { from_low = omega arith; to_high = f.shake_fits }))
 
-  scored : (v : Values) → in_range v ≡ true → score rule v ≡ Scored (weighed_pair a b v.loss v.shake)
-  scored v e = score-counted rule v (all-count v e) ∙ ap Scored (sum_pair rule refl v)
+  scored : (v : Values) → in_range v ≡ true → score rule v ≡ Some (weighed_pair a b v.loss v.shake)
+  scored v e = score-counted rule v (all-count v e) ∙ ap Some (sum_pair rule refl v)
 
   all-counted : (hs : List Held) → All Permitted hs → counted rule hs ≡ hs
   all-counted hs p = only-all (is_counted rule) hs (λ h m. scored_counts rule h.values ∙ all-count h.values (p h m))
@@ -120,7 +119,7 @@ module _ (a b : ℤ) where
   earlier_is c d h l = ap₂ (λ x y. greater x y (ltb c d)) (best-is c h) (best-is d l)
 
   entry-is : (h : Held) → Permitted h → entry rule h ≡ record { name = named h.number h.values.edition; score = weighed_pair a b h.values.loss h.values.shake }
-  entry-is h p = ap (λ (s : Score). record { name = named h.number h.values.edition; score = points s }) (scored h.values p)
+  entry-is h p = ap (λ (s : Option ℤ). record { name = named h.number h.values.edition; score = points s }) (scored h.values p)
 
   all-entries : (hs : List Held) → All Permitted hs → entries rule hs ≡ map (entry rule) hs
   unfolding entries
@@ -143,7 +142,7 @@ module _ (a b : ℤ) where
 pub record AsBefore (a b : ℤ) : Type 0 where
   pub proper : ranges_proper (rule_of_two a b) ≡ true
   pub fits : fit_rule (rule_of_two a b) ≡ weight_fits a && weight_fits b
-  pub scores : (v : Values) → in_range v ≡ true → score (rule_of_two a b) v ≡ Scored (weighed_pair a b v.loss v.shake)
+  pub scores : (v : Values) → in_range v ≡ true → score (rule_of_two a b) v ≡ Some (weighed_pair a b v.loss v.shake)
   pub best-scores : (c : ℕ) → c < 256 → best_score (rule_of_two a b) c ≡ cell_best a b c
   pub ranked : (e f : Entry) → above (rule_of_two a b) e f ≡ greater e.score f.score (ltb f.name e.name)
   pub passed_by : (s other : ℤ) → passes (rule_of_two a b) s other ≡ le_z other s

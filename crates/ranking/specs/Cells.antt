@@ -1,5 +1,5 @@
 -- A question's rule, the scores that it gives, the grid's cells, and the order in which a search takes them.
-use Rattle.std.specs.Prelude.{Bool, true, false, not, cond, ◌&&◌, List, [], ◌∷◌, ℕ, zero, suc, ◌+◌, ◌*◌, ◌/◌, ◌%◌, min, max, ltb, leb, eqb, length, get_or, ℤ, pos, negsuc, ◌+ℤ◌, ◌*ℤ◌}
+use Rattle.std.specs.Prelude.{Bool, true, false, not, cond, ◌&&◌, List, [], ◌∷◌, ℕ, zero, suc, ◌+◌, ◌*◌, ◌/◌, ◌%◌, min, max, ltb, leb, eqb, length, get_or, ℤ, pos, negsuc, ◌+ℤ◌, ◌*ℤ◌, Option, Some, None, is_some, unwrap_or}
 use Rattle.std.specs.Int.Signed.{lt_z, le_z}
 use Rattle.std.specs.Int.{w32}
 use Rattle.std.proofs.Common.{SFits}
@@ -15,8 +15,6 @@ use Rattle.ranking.specs.declared.Weights.{Weights}
 use Rattle.ranking.specs.declared.Range.{Range}
 use Rattle.ranking.specs.declared.Ranges.{Ranges}
 use Rattle.ranking.specs.declared.Rule.{Rule}
-use Rattle.ranking.specs.declared.Score.{Score}
-use Rattle.ranking.specs.declared.Score.TheVariants.{Scored, DoesNotCount}
 use Rattle.ranking.specs.declared.Reach.{Reach}
 
 -- The grid: 16 columns by 16 rows of cells, each of 256 by 256 values.
@@ -118,27 +116,25 @@ weighed w v = w.loss *ℤ pos v.loss +ℤ w.shake *ℤ pos v.shake +ℤ w.heat *
 unfoldable pub sum : Rule → Values → ℤ
 sum rule v = weighed rule.weights v
 
--- Rules 6.2, 16.2 and 17.3: a report's score, or that it doesn't count.
-unfoldable pub score : Rule → Values → Score
-score rule v = cond (counts rule v) (Scored (sum rule v)) DoesNotCount
+-- Rules 6.2, 16.2 and 17.3: a report's score, where it counts.
+unfoldable pub score : Rule → Values → Option ℤ
+score rule v = cond (counts rule v) (Some (sum rule v)) None
 
--- What the two answers say: whether the report counts, and its score, 0 where it doesn't.
-abbrev pub is_scored : Score → Bool
-is_scored (Scored s) = true
-is_scored DoesNotCount = false
+-- What the answer says: whether the report counts, and its score, 0 where it doesn't.
+abbrev pub is_scored : Option ℤ → Bool
+is_scored answer = is_some answer
 
-abbrev pub points : Score → ℤ
-points (Scored s) = s
-points DoesNotCount = pos 0
+abbrev pub points : Option ℤ → ℤ
+points answer = unwrap_or answer (pos 0)
 
 -- Rule 6.2: it is one that an `i32` holds.
 abbrev pub ScoreFits : Rule → Values → Type 0
 ScoreFits rule v = SFits w32 (points (score rule v))
 
 -- A score that is at least `least`; else none.
-abbrev pub from_least : ℤ → Score → Score
-from_least least (Scored s) = cond (lt_z s least) DoesNotCount (Scored s)
-from_least least DoesNotCount = DoesNotCount
+abbrev pub from_least : ℤ → Option ℤ → Option ℤ
+from_least least (Some s) = cond (lt_z s least) None (Some s)
+from_least least None = None
 
 -- Rule 17.6: the values of a report whose edition is in its name.
 abbrev pub values_named : ℕ → ℕ → ℕ → Values

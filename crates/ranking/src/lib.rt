@@ -97,13 +97,6 @@ pub struct Rule {
     pub ties: u8,
 }
 
-// What a report is for a question: a score, or none where it doesn't count.
-#[derive(Clone, Copy)]
-pub enum Score {
-    Scored(i32),
-    DoesNotCount,
-}
-
 // How many of the cells that a search can take have a best possible score of at least some score, and which of the others it
 // takes first; CELLS, where there is none.
 #[derive(Clone, Copy)]
@@ -307,19 +300,19 @@ impl Rule {
         self.ties <= Rule::FIRST_COME
     }
 
-    // What some values are for the question; the low 12 bits of each are looked at.
-    pub fn score(self, values: Values) -> Score
+    // The score of some values, if they count; the low 12 bits of each are looked at.
+    pub fn score(self, values: Values) -> Option<i32>
         ensures { result ≡ score self (low values) }
     {
         if self.counts(values) {
-            return Score::Scored(self.sum(values));
+            return Some(self.sum(values));
         }
-        Score::DoesNotCount
+        None
     }
 
     // The same of a report as its row has it, and none also where the score is below `least`. Most reports fail by loss and shake alone, so the
     // name isn't looked at before that.
-    pub fn score_from(self, loss: u16, shake: u16, name: u32, least: i32) -> Score
+    pub fn score_from(self, loss: u16, shake: u16, name: u32, least: i32) -> Option<i32>
         ensures { (result ≡ from_least least (score self (low (values_named loss shake name)))) × ScoreFits self (low (values_named loss shake name)) }
     {
         let weights = self.weights;
@@ -329,7 +322,7 @@ impl Rule {
             edition: Edition::First,
         };
         if weights.most(first) < least {
-            return Score::DoesNotCount;
+            return None;
         }
         let values = Values {
             loss,
@@ -338,12 +331,12 @@ impl Rule {
         };
         let sum = self.sum(values);
         if sum < least {
-            return Score::DoesNotCount;
+            return None;
         }
         if self.counts(values) {
-            return Score::Scored(sum);
+            return Some(sum);
         }
-        Score::DoesNotCount
+        None
     }
 
     // Loss and shake lie inside their ranges, and there is a heat where it has a weight.

@@ -16,7 +16,7 @@ mod gauge;
 pub use gauge::Gauge;
 use list::{Lines, editions_in, numbers_in};
 use question::Question;
-use ranking::{Grid, Rule, Score};
+use ranking::{Grid, Rule};
 use values::Name;
 use window::{Row, Window};
 
@@ -207,14 +207,14 @@ fn listed(question: Question, row: Row) -> Question
 {
     let values = row.values();
     match question.rule.score(values) {
-        Score::Scored(score) => {
+        Some(score) => {
             if joins(question, score, Grid::cell(values)) {
                 question.cut_with(row.name, score)
             } else {
                 question
             }
         }
-        Score::DoesNotCount => question,
+        None => question,
     }
 }
 

@@ -45,7 +45,7 @@ loop-row-preserved-in_default c =
       omega (arith, c.loop-row.invariant.1),
       subst (λ hs. ((Pass c.args.rule c.args.most)) hs ns ss len bar least) (ap (λ r. with_row ((rows_of c.args.losses.now c.args.shakes.now c.args.names.now)) ((c.loop-row.row - 1)) (reports r (c.args.high - c.loop-row.row))) one ∙ ap (reports ((c.loop-row.row - 1))) more) p,
     ) in
-    on _ _ _ _ _ (pass_out c.requires.0 c.loop-row.invariant.2 ((rows_of c.args.losses.now c.args.shakes.now c.args.names.now)) ((c.loop-row.row - 1)) c.score_from-scored.ensures.0 c.score_from-scored.ensures.1 c.in_default.is)
+    on _ _ _ _ _ (pass_out c.requires.0 c.loop-row.invariant.2 ((rows_of c.args.losses.now c.args.shakes.now c.args.names.now)) ((c.loop-row.row - 1)) c.score_from.ensures.0 c.score_from.ensures.1 c.in_default.is)
 
 pub loop-row-preserved-then-not-admits : goal.loop-row-preserved-then-not-admits
 loop-row-preserved-then-not-admits c =
@@ -56,7 +56,7 @@ loop-row-preserved-then-not-admits c =
       omega (arith, c.loop-row.invariant.1),
       subst (λ hs. ((Pass c.args.rule c.args.most)) hs ns ss len bar least) (ap (λ r. with_row ((rows_of c.args.losses.now c.args.shakes.now c.args.names.now)) ((c.loop-row.row - 1)) (reports r (c.args.high - c.loop-row.row))) one ∙ ap (reports ((c.loop-row.row - 1))) more) p,
     ) in
-    on _ _ _ _ _ (pass_skips c.requires.0 c.loop-row.invariant.2 ((rows_of c.args.losses.now c.args.shakes.now c.args.names.now)) ((c.loop-row.row - 1)) c.score_from-scored.ensures.0 c.in-Scored.is c.in-Scored.known_told-1-own.given.0.1 (sym c.admits.ensures ∙ not-true _ (ap not c.if-not-admits.true)))
+    on _ _ _ _ _ (pass_skips c.requires.0 c.loop-row.invariant.2 ((rows_of c.args.losses.now c.args.shakes.now c.args.names.now)) ((c.loop-row.row - 1)) c.score_from.ensures.0 c.in-Some.is c.in-Some.known_told-1-own.given.0.1 (sym c.admits.ensures ∙ not-true _ (ap not c.if-not-admits.true)))
 
 pub put_in-len-requires : goal.put_in-len-requires
 put_in-len-requires c = (pass_few c.requires.0 c.loop-row.invariant.2, c.requires.0, pass_room c.requires.0 c.loop-row.invariant.2)
@@ -74,7 +74,7 @@ loop-row-preserved c =
       subst (λ hs. ((Pass c.args.rule c.args.most)) hs ns ss len bar least) (ap (λ r. with_row ((rows_of c.args.losses.now c.args.shakes.now c.args.names.now)) ((c.loop-row.row - 1)) (reports r (c.args.high - c.loop-row.row))) one ∙ ap (reports ((c.loop-row.row - 1))) more) p,
     ) in
     on _ _ _ _ _
-    (pass_puts c.requires.0 c.loop-row.invariant.2 ((rows_of c.args.losses.now c.args.shakes.now c.args.names.now)) ((c.loop-row.row - 1)) c.score_from-scored.ensures.0 c.in-Scored.is c.in-Scored.known_told-1-own.given.0.1 (sym c.admits.ensures ∙ not-false _ (ap not c.if-not-admits.false))
+    (pass_puts c.requires.0 c.loop-row.invariant.2 ((rows_of c.args.losses.now c.args.shakes.now c.args.names.now)) ((c.loop-row.row - 1)) c.score_from.ensures.0 c.in-Some.is c.in-Some.known_told-1-own.given.0.1 (sym c.admits.ensures ∙ not-false _ (ap not c.if-not-admits.false))
     c.put_in-len.ensures.0
     c.put_in-len.ensures.1
     c.bar_in-bar-in-loop-row.ensures

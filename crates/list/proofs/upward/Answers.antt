@@ -40,7 +40,7 @@ loop-row-preserved-in_default c =
     (c.loop-row.invariant.0, subst (λ n. (Taken) n ns ss len bar least) e p) in
     let now_taken : (Taken) (c.loop-row.row) c.loop-row.found c.loop-row.by c.loop-row.len c.loop-row.bar (to_z w32 c.loop-row.least-bits) = let e : min (c.loop-row.row) c.loop-row.stop ≡ (c.loop-row.row) = omega (arith, c.loop-row-test.true) in
     subst (λ n. (Taken) n c.loop-row.found c.loop-row.by c.loop-row.len c.loop-row.bar (to_z w32 c.loop-row.least-bits)) e c.loop-row.invariant.1 in
-    on _ _ _ _ _ (pass_out c.requires.0 (now_taken) ((rows_of c.args.losses.now c.args.shakes.now c.args.names.now)) (c.loop-row.row) c.score_from-scored.ensures.0 c.score_from-scored.ensures.1 c.in_default.is)
+    on _ _ _ _ _ (pass_out c.requires.0 (now_taken) ((rows_of c.args.losses.now c.args.shakes.now c.args.names.now)) (c.loop-row.row) c.score_from.ensures.0 c.score_from.ensures.1 c.in_default.is)
 
 pub loop-row-preserved-then-not-admits : goal.loop-row-preserved-then-not-admits
 loop-row-preserved-then-not-admits c =
@@ -49,7 +49,7 @@ loop-row-preserved-then-not-admits c =
     (c.loop-row.invariant.0, subst (λ n. (Taken) n ns ss len bar least) e p) in
     let now_taken : (Taken) (c.loop-row.row) c.loop-row.found c.loop-row.by c.loop-row.len c.loop-row.bar (to_z w32 c.loop-row.least-bits) = let e : min (c.loop-row.row) c.loop-row.stop ≡ (c.loop-row.row) = omega (arith, c.loop-row-test.true) in
     subst (λ n. (Taken) n c.loop-row.found c.loop-row.by c.loop-row.len c.loop-row.bar (to_z w32 c.loop-row.least-bits)) e c.loop-row.invariant.1 in
-    on _ _ _ _ _ (pass_skips c.requires.0 (now_taken) ((rows_of c.args.losses.now c.args.shakes.now c.args.names.now)) (c.loop-row.row) c.score_from-scored.ensures.0 c.in-Scored.is c.in-Scored.known_told-1-own.given.0.1 (sym c.admits.ensures ∙ not-true _ (ap not c.if-not-admits.true)))
+    on _ _ _ _ _ (pass_skips c.requires.0 (now_taken) ((rows_of c.args.losses.now c.args.shakes.now c.args.names.now)) (c.loop-row.row) c.score_from.ensures.0 c.in-Some.is c.in-Some.known_told-1-own.given.0.1 (sym c.admits.ensures ∙ not-true _ (ap not c.if-not-admits.true)))
 
 pub loop-row-preserved-then-turns : goal.loop-row-preserved-then-turns
 loop-row-preserved-then-turns c =
@@ -78,7 +78,7 @@ loop-row-preserved c =
     let now_taken : (Taken) (c.loop-row.row) c.loop-row.found c.loop-row.by c.loop-row.len c.loop-row.bar (to_z w32 c.loop-row.least-bits) = let e : min (c.loop-row.row) c.loop-row.stop ≡ (c.loop-row.row) = omega (arith, c.loop-row-test.true) in
     subst (λ n. (Taken) n c.loop-row.found c.loop-row.by c.loop-row.len c.loop-row.bar (to_z w32 c.loop-row.least-bits)) e c.loop-row.invariant.1 in
     on _ _ _ _ _
-    (pass_puts c.requires.0 (now_taken) ((rows_of c.args.losses.now c.args.shakes.now c.args.names.now)) (c.loop-row.row) c.score_from-scored.ensures.0 c.in-Scored.is c.in-Scored.known_told-1-own.given.0.1 (sym c.admits.ensures ∙ not-false _ (ap not c.if-not-admits.false))
+    (pass_puts c.requires.0 (now_taken) ((rows_of c.args.losses.now c.args.shakes.now c.args.names.now)) (c.loop-row.row) c.score_from.ensures.0 c.in-Some.is c.in-Some.known_told-1-own.given.0.1 (sym c.admits.ensures ∙ not-false _ (ap not c.if-not-admits.false))
     c.put_in-len.ensures.0
     c.put_in-len.ensures.1
     c.bar_in-bar-in-loop-row.ensures

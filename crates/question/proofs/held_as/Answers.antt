@@ -78,18 +78,18 @@ returns-then-name-own_name c =
     let a = c.args in
     sym (line_other a.window a.rule ((record { name = c.args.name; score = c.args.score })) (c.number-number.result) c.number-number.ensures c.if-name-own_name.true)
 
-pub returns-in-Scored : goal.returns-in-Scored
-returns-in-Scored c =
+pub returns-in-Some : goal.returns-in-Some
+returns-in-Some c =
     let held : holds_number c.args.window.counts (c.number-number.result) ≡ true = sym c.holds_number.ensures ∙ not-false _ (ap not c.if-not-holds_number.false) in
     let a = c.args in
-    let own = c.in-Scored.own in
-    let is = ap (λ v. score a.rule (low v)) (sym c.values.ensures) ∙ sym c.score.ensures ∙ c.in-Scored.is in
-    same_bits w32 a.score own c.ranges.score (record { sfits = c.in-Scored.known_told-1-own.given.0.1 })
+    let own = c.in-Some.own in
+    let is = ap (λ v. score a.rule (low v)) (sym c.values.ensures) ∙ sym c.score.ensures ∙ c.in-Some.is in
+    same_bits w32 a.score own c.ranges.score (record { sfits = c.in-Some.known_told-1-own.given.0.1 })
     ∙ ap (equal a.score) (sym (ap points is))
     ∙ sym (line_score a.window a.rule ((record { name = c.args.name; score = c.args.score })) (c.number-number.result) c.number-number.ensures (held) c.if-name-own_name.false (ap is_scored is))
 
-pub returns-in-DoesNotCount : goal.returns-in-DoesNotCount
-returns-in-DoesNotCount c =
+pub returns-in-None : goal.returns-in-None
+returns-in-None c =
     let a = c.args in
-    let is = ap (λ v. score a.rule (low v)) (sym c.values.ensures) ∙ sym c.score.ensures ∙ c.in-DoesNotCount.is in
+    let is = ap (λ v. score a.rule (low v)) (sym c.values.ensures) ∙ sym c.score.ensures ∙ c.in-None.is in
     sym (line_out a.window a.rule ((record { name = c.args.name; score = c.args.score })) (c.number-number.result) c.number-number.ensures (ap is_scored is))

@@ -9,7 +9,7 @@ use Rattle.values.specs.Range.{low}
 use Rattle.values.proofs.Facts.{low_in}
 use Rattle.values.proofs.Names.{name_back}
 use Rattle.ranking.specs.Cells.{score, is_scored, points, cell}
-use Rattle.ranking.specs.declared.Score.TheVariants.{Scored}
+use Rattle.std.specs.Prelude.{Some}
 use Rattle.ranking.proofs.Cells.{counts-order, scored_counts}
 use Rattle.window.specs.Rows.{values_at, report_at}
 use Rattle.question.specs.Lines.{with_entry, cut_to_k, is_past}
@@ -21,8 +21,8 @@ use Rattle.slot.proofs.listed.Goals as goal
 pub returns-then-joins : goal.returns-then-joins
 returns-then-joins c =
     let read : c.values-values.result ≡ values_at c.args.row = c.values-values.ensures in
-    let is : score c.args.question.rule ((report_at c.args.row)).values ≡ Scored c.in-Scored.score = sym (c.score.ensures ∙ ap (λ v. score c.args.question.rule (low v)) (read)) ∙ c.in-Scored.is in
-    let own : to_z w32 (of_z w32 c.in-Scored.score) ≡ points (score c.args.question.rule ((report_at c.args.row)).values) = kept w32 c.in-Scored.score c.in-Scored.known_told-1-own.given.0.1 ∙ sym (ap points (is)) in
+    let is : score c.args.question.rule ((report_at c.args.row)).values ≡ Some c.in-Some.score = sym (c.score.ensures ∙ ap (λ v. score c.args.question.rule (low v)) (read)) ∙ c.in-Some.is in
+    let own : to_z w32 (of_z w32 c.in-Some.score) ≡ points (score c.args.question.rule ((report_at c.args.row)).values) = kept w32 c.in-Some.score c.in-Some.known_told-1-own.given.0.1 ∙ sym (ap points (is)) in
     let test : c.joins.result ≡ takes c.args.question ((report_at c.args.row)).values = let q = c.args.question in
     let v = ((report_at c.args.row)).values in
     let there = counts-order q.rule v (low_in (values_at c.args.row)) (sym (scored_counts q.rule v) ∙ ap is_scored (is)) in
@@ -37,8 +37,8 @@ returns-then-joins c =
 pub returns-else-joins : goal.returns-else-joins
 returns-else-joins c =
     let read : c.values-values.result ≡ values_at c.args.row = c.values-values.ensures in
-    let is : score c.args.question.rule ((report_at c.args.row)).values ≡ Scored c.in-Scored.score = sym (c.score.ensures ∙ ap (λ v. score c.args.question.rule (low v)) (read)) ∙ c.in-Scored.is in
-    let own : to_z w32 (of_z w32 c.in-Scored.score) ≡ points (score c.args.question.rule ((report_at c.args.row)).values) = kept w32 c.in-Scored.score c.in-Scored.known_told-1-own.given.0.1 ∙ sym (ap points (is)) in
+    let is : score c.args.question.rule ((report_at c.args.row)).values ≡ Some c.in-Some.score = sym (c.score.ensures ∙ ap (λ v. score c.args.question.rule (low v)) (read)) ∙ c.in-Some.is in
+    let own : to_z w32 (of_z w32 c.in-Some.score) ≡ points (score c.args.question.rule ((report_at c.args.row)).values) = kept w32 c.in-Some.score c.in-Some.known_told-1-own.given.0.1 ∙ sym (ap points (is)) in
     let test : c.joins.result ≡ takes c.args.question ((report_at c.args.row)).values = let q = c.args.question in
     let v = ((report_at c.args.row)).values in
     let there = counts-order q.rule v (low_in (values_at c.args.row)) (sym (scored_counts q.rule v) ∙ ap is_scored (is)) in
@@ -47,8 +47,8 @@ returns-else-joins c =
     ∙ sym (takes_both q v (ap is_scored (is))) in
     sym (listed_not c.args.question ((report_at c.args.row)) (sym (test) ∙ c.if-joins.false))
 
-pub returns-in-DoesNotCount : goal.returns-in-DoesNotCount
-returns-in-DoesNotCount c =
+pub returns-in-None : goal.returns-in-None
+returns-in-None c =
     let a = c.args in
     let read = ap (λ v. score c.args.question.rule (low v)) c.values-values.ensures in
-    sym (listed_out c.args.question (report_at c.args.row) (ap is_scored (sym (c.score.ensures ∙ read) ∙ c.in-DoesNotCount.is)))
+    sym (listed_out c.args.question (report_at c.args.row) (ap is_scored (sym (c.score.ensures ∙ read) ∙ c.in-None.is)))

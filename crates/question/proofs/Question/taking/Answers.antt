@@ -30,27 +30,27 @@ returns-then-cell-next c =
     (taking_other c.args.self r (some)
     (ne_eqb (cell r.values) c.args.self.next (λ e. c.if-cell-next.true (in_cell_lem ∙ e))))
 
-pub returns-in-Scored : goal.returns-in-Scored
-returns-in-Scored c =
+pub returns-in-Some : goal.returns-in-Some
+returns-in-Some c =
     let some : eqb (number_at c.args.row) 0 ≡ false = ne_eqb (number_at c.args.row) 0 (λ e. c.if-number-eq0.false (c.number.ensures ∙ e)) in
     let in_cell_lem : c.cell-cell.result ≡ cell (report_at c.args.row).values = c.cell-cell.ensures ∙ ap (λ v. cell (low v)) c.values-values.ensures in
     let a = c.args in
     let r = report_at c.args.row in
-    let own = c.in-Scored.score in
-    let is = ap (λ v. score c.args.self.rule (low v)) (sym c.values-values.ensures) ∙ sym c.score.ensures ∙ c.in-Scored.is in
+    let own = c.in-Some.score in
+    let is = ap (λ v. score c.args.self.rule (low v)) (sym c.values-values.ensures) ∙ sym c.score.ensures ∙ c.in-Some.is in
     c.cut_with.ensures
-    ∙ ap₂ (λ n s. cut_with c.args.self (record { name = n; score = s })) (sym (name_back c.args.row.name)) (kept w32 own c.in-Scored.known_told-1-own.given.0.1 ∙ sym (ap points is))
+    ∙ ap₂ (λ n s. cut_with c.args.self (record { name = n; score = s })) (sym (name_back c.args.row.name)) (kept w32 own c.in-Some.known_told-1-own.given.0.1 ∙ sym (ap points is))
     ∙ sym
     (taking_here c.args.self r (some)
     (eq-eqb (cell r.values) c.args.self.next (sym (in_cell_lem) ∙ c.if-cell-next.false)) (ap is_scored is))
 
-pub returns-in-DoesNotCount : goal.returns-in-DoesNotCount
-returns-in-DoesNotCount c =
+pub returns-in-None : goal.returns-in-None
+returns-in-None c =
     let some : eqb (number_at c.args.row) 0 ≡ false = ne_eqb (number_at c.args.row) 0 (λ e. c.if-number-eq0.false (c.number.ensures ∙ e)) in
     let in_cell_lem : c.cell-cell.result ≡ cell (report_at c.args.row).values = c.cell-cell.ensures ∙ ap (λ v. cell (low v)) c.values-values.ensures in
     let a = c.args in
     let r = report_at c.args.row in
-    let is = ap (λ v. score c.args.self.rule (low v)) (sym c.values-values.ensures) ∙ sym c.score.ensures ∙ c.in-DoesNotCount.is in
+    let is = ap (λ v. score c.args.self.rule (low v)) (sym c.values-values.ensures) ∙ sym c.score.ensures ∙ c.in-None.is in
     sym
     (taking_out c.args.self r (some)
     (eq-eqb (cell r.values) c.args.self.next (sym (in_cell_lem) ∙ c.if-cell-next.false)) (ap is_scored is))

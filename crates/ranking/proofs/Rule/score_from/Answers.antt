@@ -9,7 +9,7 @@ use mir.Val.{to_z, of_z}
 use Rattle.laws.proofs.Words.{kept}
 use Rattle.values.specs.Range.{in_range, low}
 use Rattle.values.proofs.Facts.{low_in}
-use Rattle.ranking.specs.declared.Score.TheVariants.{Scored}
+use Rattle.std.specs.Prelude.{Some}
 use Rattle.ranking.specs.Cells.{sum, score, ScoreFits, from_least, values_named}
 use Rattle.ranking.proofs.Cells.{from_hottest, from_low, from_counted, from_out, score-named, points-fit, word_fits}
 use Rattle.ranking.proofs.Rule.score_from.Goals as goal
@@ -44,7 +44,7 @@ returns-then-counts c =
     let own_in : in_range ((low (values_named c.args.loss c.args.shake c.args.name))) ≡ true = low_in (values_named c.args.loss c.args.shake c.args.name) in
     let fits : ScoreFits (c.args.self) ((low (values_named c.args.loss c.args.shake c.args.name))) = points-fit (c.args.self) ((low (values_named c.args.loss c.args.shake c.args.name))) (word_fits (c.args.self) ((low (values_named c.args.loss c.args.shake c.args.name))) c.most.ensures.1 (own_in)) in
     let counted = from_counted (c.args.self) ((low (record { loss = c.args.loss; shake = c.args.shake; edition = c.edition_in.result }))) (c.args.least) (sym c.counts.ensures ∙ c.if-counts.true) (sym (below) ∙ c.if-sum-least.false) in
-    (ap Scored (is) ∙ sym counted ∙ same, fits)
+    (ap Some (is) ∙ sym counted ∙ same, fits)
 
 pub returns : goal.returns
 returns c =
