@@ -145,10 +145,7 @@ impl Question {
             return true;
         }
         let bar = self.list().bar(self.k);
-        if bar.full {
-            return self.rule.best_score(next as u8) < bar.score;
-        }
-        false
+        bar.full && self.rule.best_score(next as u8) < bar.score
     }
 
     // A search anew: no lines, and the first cell is next.
@@ -277,21 +274,15 @@ impl Question {
     pub fn is_marked(self, cell: u8) -> bool
         ensures { result ≡ is_marked self cell }
     {
-        if self.rule.cell_counts(cell) {
-            return self.is_past(cell);
-        }
-        false
+        self.rule.cell_counts(cell) && self.is_past(cell)
     }
 
     // The search has taken this cell, if it can be taken: so it is for a report that counts.
+    #[tactic(auto, unfolding(crate::specs::Lines::is_past))]
     pub fn is_past(self, cell: u8) -> bool
         ensures { result ≡ is_past self cell }
     {
-        let next = self.next;
-        if self.rule.in_order(next) {
-            return self.rule.before(cell, next as u8);
-        }
-        true
+        !self.rule.in_order(self.next) || self.rule.before(cell, self.next as u8)
     }
 
     // Of each cell, whether the search has taken it.
@@ -299,29 +290,22 @@ impl Question {
         ensures { result ≡ marks_of self }
     {
         let mut marks = [false; Question::MARKS];
-        let mut cell: usize = 0;
-        while cell < Question::MARKS {
+        for cell in 0..Question::MARKS {
             marks[cell] = self.is_marked(cell as u8);
-            cell += 1;
         }
         marks
     }
 
     // Every stored number is in its range, and the lines are reports that the window holds and that count, with their
     // scores, strictly falling in rank. Of the window itself `Window::fit` speaks.
+    #[tactic(auto, unfolding(crate::specs::Calls::fit_question))]
     pub fn fit(self, window: Window) -> bool
         ensures { result ≡ fit_question window self }
     {
-        let counts = window.counts;
-        if self.ranges_fit(counts.held) {
-            if self.lines_held(window) {
-                let list = self.list();
-                if list.falls(self.rule) {
-                    return list.rest_blank();
-                }
-            }
-        }
-        false
+        self.ranges_fit(window.counts.held)
+            && self.lines_held(window)
+            && self.list().falls(self.rule)
+            && self.rest_blank()
     }
 
     // The next cell is marked, and its reports join the list. Refused 24 where the window or the question is unfit, 25
@@ -378,51 +362,34 @@ impl Question {
     }
 
     // k, the rule, the next cell and the list's length are in their ranges.
+    #[tactic(auto, unfolding(crate::specs::Calls::ranges_fit))]
     fn ranges_fit(self, held: u16) -> bool
         ensures { result ≡ ranges_fit self held }
     {
-        let k = self.k;
-        let len = self.len;
-        if k < 1 {
-            return false;
-        }
-        if Question::LINES < k {
-            return false;
-        }
-        if !self.rule.fit() {
-            return false;
-        }
-        if !self.next_fits() {
-            return false;
-        }
-        if k < len {
-            return false;
-        }
-        len as u16 <= held
+        1 <= self.k
+            && self.k <= Question::LINES
+            && self.rule.fit()
+            && self.next_fits()
+            && self.len <= self.k
+            && u16::from(self.len) <= held
     }
 
     // The next cell is one that can be taken, or CELLS.
+    #[tactic(auto, unfolding(crate::specs::Calls::next_fits))]
     fn next_fits(self) -> bool
         ensures { result ≡ next_fits self.rule self.next }
     {
-        let next = self.next;
-        if next == Grid::CELLS {
-            return true;
-        }
-        self.rule.in_order(next)
+        self.next == Grid::CELLS || self.rule.in_order(self.next)
     }
 
     // Every line names a report that the window holds and that counts, with its score.
     fn lines_held(self, window: Window) -> bool
         ensures { result ≡ all_of (held_as window self.rule) (lines self) }
     {
-        let n = self.list().line_count();
-        let mut i: usize = 0;
-        while i < n {
+        for i in 0..self.list().line_count() {
             if !held_as(window, self.rule, self.names[i], self.scores[i]) {
                 return false;
             }
-            i += 1;
         }
         true
     }
@@ -463,23 +430,13 @@ fn held_as(window: Window, rule: Rule, name: u32, score: i32) -> bool
 }
 
 // A window of these counts holds the report of that number.
+#[tactic(auto, unfolding(crate::specs::Calls::holds_number))]
 pub fn holds_number(counts: Counts, number: u32) -> bool
     ensures { result ≡ holds_number counts number }
 {
-    let size = counts.size;
-    let entered = counts.entered;
-    let held = counts.held as u64;
-    if size < Window::SMALLEST {
-        return false;
-    }
-    if Window::LARGEST < size {
-        return false;
-    }
-    if number < 1 {
-        return false;
-    }
-    if entered < number {
-        return false;
-    }
-    (entered as u64) < (number as u64) + held
+    Window::SMALLEST <= counts.size
+        && counts.size <= Window::LARGEST
+        && 1 <= number
+        && number <= counts.entered
+        && u64::from(counts.entered) < u64::from(number) + u64::from(counts.held)
 }

@@ -32,9 +32,10 @@ returns-then-bar c =
     (finished-full q (sym c.in_order.ensures ∙ not-false _ (ap not c.if-not-in_order.false)) (roomy q c.well_formed.0.1.1.0.1.0.1 c.well_formed.0.1.1.1.1.0.1.0.1)
     (sym (ap (λ (b : Bar). b.full) is) ∙ c.if-bar.true))
 
-pub returns : goal.returns
-returns c =
+pub returns-else-bar : goal.returns-else-bar
+returns-else-bar c =
     let q = c.args.self in
-    sym
+    c.if-bar.false
+    ∙ sym
     (finished_open q (sym c.in_order.ensures ∙ not-false _ (ap not c.if-not-in_order.false))
     (sym (ap (λ (b : Bar). b.full) (c.bar-bar.ensures ∙ ap (λ l. bars.bar_of l c.args.self.k) c.list.ensures)) ∙ c.if-bar.false))

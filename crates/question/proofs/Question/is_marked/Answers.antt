@@ -10,12 +10,10 @@ use Rattle.question.proofs.Question.is_marked.Goals as goal
 
 pub returns-then-cell_counts : goal.returns-then-cell_counts
 returns-then-cell_counts c =
-    let a = c.args in
     c.is_past.ensures
     ∙ sym (marked_past c.args.self c.args.cell (order_in c.args.self.rule c.args.cell c.ranges.cell.fits (sym c.cell_counts.ensures ∙ c.if-cell_counts.true)))
 
-pub returns : goal.returns
+pub returns-else-cell_counts : goal.returns-else-cell_counts
 unfolding in_order
-returns c =
-    let a = c.args in
-    sym (marked_out c.args.self c.args.cell (and_no (ltb c.args.cell 256) (sym c.cell_counts.ensures ∙ c.if-cell_counts.false)))
+returns-else-cell_counts c =
+    c.if-cell_counts.false ∙ sym (marked_out c.args.self c.args.cell (and_no (ltb c.args.cell 256) (sym c.cell_counts.ensures ∙ c.if-cell_counts.false)))

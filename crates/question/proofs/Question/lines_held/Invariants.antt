@@ -1,4 +1,3 @@
-use Prim.Native.Nat.{◌-◌}
 use Rattle.list.specs.Lines.{all_of}
 use Rattle.list.proofs.Walking.{Walk}
 use Rattle.question.specs.Lines.{lines}
@@ -7,7 +6,4 @@ use Rattle.question.proofs.Question.lines_held.Given as goal
 
 abbrev pub invariant-loop-i : goal.invariant-loop-i
 invariant-loop-i l =
-    Walk (held_as l.window l.self.rule) (all_of (held_as l.window l.self.rule) (lines l.self)) l.self.names l.self.scores l.n l.i
-
-abbrev pub decreases-loop-i : goal.decreases-loop-i
-decreases-loop-i l = l.n - l.i
+    Walk (held_as l.window l.self.rule) (all_of (held_as l.window l.self.rule) (lines l.self)) l.self.names l.self.scores l.i-end l.i

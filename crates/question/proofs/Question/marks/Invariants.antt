@@ -1,10 +1,6 @@
-use Prim.Native.Nat.{◌-◌, ◌≤◌}
 use Rattle.question.specs.Lines.{is_marked}
 use Rattle.question.proofs.Marking.{Filled}
 use Rattle.question.proofs.Question.marks.Given as goal
 
 abbrev pub invariant-loop-cell : goal.invariant-loop-cell
-invariant-loop-cell l = (l.cell ≤ 256) × Filled (is_marked l.self) l.cell l.marks
-
-abbrev pub decreases-loop-cell : goal.decreases-loop-cell
-decreases-loop-cell l = 256 - l.cell
+invariant-loop-cell l = Filled (is_marked l.self) l.cell l.marks
