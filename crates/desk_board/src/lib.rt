@@ -5,11 +5,11 @@ ghost use Rattle.std.specs.Prelude.{◌<◌};
 ghost use Rattle.window.specs.Rows.{row_count};
 
 use board::{Board, Entered};
-use orders::{BoardOrder, Extras};
+use orders::{BoardOrder, Setting};
 use question::Question;
 use ranking::{Rule, Weights};
 use replies::{put, put_counted, put_heat, put_mark, put_number, put_scored, refused};
-use slot::{Gauge, Shown};
+use slot::Shown;
 use values::{Edition, Name, Values};
 use window::{Counts, Rows, Window};
 
@@ -22,49 +22,45 @@ pub struct Left {
 
 pub fn obeyed(board: Board, order: BoardOrder, out: &mut [u8]) -> Left {
     match order {
-        BoardOrder::Set {
-            slot,
-            k,
-            loss,
-            shake,
-            extras,
-        } => set(board, slot, k, rule(loss, shake, extras), out),
+        BoardOrder::Set(setting) => set(board, setting.slot, setting.k, rule(setting), out),
         BoardOrder::Remove(slot) => remove(board, slot, out),
         BoardOrder::Enter(values) => enter(board, values, out),
         BoardOrder::Begin(slot) => begin(board, slot, out),
         BoardOrder::Step(slot) => step(board, slot, out),
-        _ => {
-            let end = shown(board, order, out);
-            Left {
-                board: pokes::poked(board, order),
-                end,
-            }
+        BoardOrder::Read(slot) => {
+            let end = read(board.read(slot), out);
+            Left { board, end }
+        }
+        BoardOrder::Marks(slot) => {
+            let end = marks(pokes::slot(&board, slot), out);
+            Left { board, end }
+        }
+        BoardOrder::Steps(slot) => {
+            let steps = pokes::slot(&board, slot).steps();
+            let end = put_counted(out, 0, b"steps", u64::from(steps));
+            Left { board, end }
+        }
+        BoardOrder::Held => {
+            let end = held(&board.window, out);
+            Left { board, end }
+        }
+        BoardOrder::Poke(poke) => {
+            let end = put(out, 0, b"ok");
+            let board = pokes::poked(board, poke);
+            Left { board, end }
         }
     }
 }
 
 // The rule that a line asks for. A weight of the heat that it doesn't say is 0, a range has all values, and ties go to the
 // newest.
-fn rule(loss: i16, shake: i16, extras: Extras) -> Rule {
+fn rule(setting: Setting) -> Rule {
     let weights = Weights {
-        loss,
-        shake,
+        loss: setting.loss,
+        shake: setting.shake,
         heat: 0,
     };
-    pokes::ruled(Rule::of(weights), extras)
-}
-
-// The answer to an order that makes no call which changes the board: what it asks to see, or ok of a poke.
-fn shown(board: Board, order: BoardOrder, out: &mut [u8]) -> usize {
-    match order {
-        BoardOrder::Read(slot) => read(board.read(slot), out),
-        BoardOrder::Marks(slot) => marks(pokes::slot(board, slot), out),
-        BoardOrder::Steps(slot) => {
-            put_counted(out, 0, b"steps", pokes::slot(board, slot).steps() as u64)
-        }
-        BoardOrder::Held => held(board.window, out),
-        _ => put(out, 0, b"ok"),
-    }
+    pokes::ruled(Rule::of(weights), setting.extras)
 }
 
 fn set(board: Board, slot: u8, k: u8, rule: Rule, out: &mut [u8]) -> Left {
@@ -74,7 +70,7 @@ fn set(board: Board, slot: u8, k: u8, rule: Rule, out: &mut [u8]) -> Left {
         let end = refused(out, answer.refusal);
         return Left { board: left, end };
     }
-    let end = put_counted(out, 0, b"steps", answer.steps as u64);
+    let end = put_counted(out, 0, b"steps", u64::from(answer.steps));
     Left { board: left, end }
 }
 
@@ -94,7 +90,7 @@ fn done(refusal: u8, out: &mut [u8]) -> usize {
 }
 
 fn begin(board: Board, slot: u8, out: &mut [u8]) -> Left {
-    let answer = pokes::slot(board, slot).begin(board.window);
+    let answer = pokes::slot(&board, slot).begin(board.window);
     let question = answer.question;
     let end = done(answer.refusal, out);
     Left {
@@ -104,7 +100,7 @@ fn begin(board: Board, slot: u8, out: &mut [u8]) -> Left {
 }
 
 fn step(board: Board, slot: u8, out: &mut [u8]) -> Left {
-    let answer = pokes::slot(board, slot).step(board.window);
+    let answer = pokes::slot(&board, slot).step(board.window);
     let question = answer.question;
     let end = done(answer.refusal, out);
     Left {
@@ -117,27 +113,13 @@ fn read(shown: Shown, out: &mut [u8]) -> usize {
     if shown.refusal != 0 {
         return refused(out, shown.refusal);
     }
-    let numbers = shown.numbers;
-    let scores = shown.scores;
-    let editions = shown.editions;
-    let len = shown.len;
-    let mut end = put_counted(out, 0, b"list", len as u64);
-    let mut i: u8 = 0;
-    while i < Question::LINES {
-        let k = i as usize;
-        end = entry(i < len, numbers[k], scores[k], editions[k], end, out);
-        i += 1;
+    let lines = shown.numbers.iter().zip(&shown.scores).zip(&shown.editions);
+    let mut end = put_counted(out, 0, b"list", u64::from(shown.len));
+    for ((number, score), edition) in lines.take(usize::from(shown.len)) {
+        end = put_scored(out, end, u64::from(*number), *score);
+        end = put_heat(out, end, b":", Edition::of(*edition));
     }
     end
-}
-
-// A line of a list, where it has one, with its heat, if there is one.
-fn entry(used: bool, number: u32, score: i32, edition: u16, at: usize, out: &mut [u8]) -> usize {
-    if !used {
-        return at;
-    }
-    let end = put_scored(out, at, number as u64, score);
-    put_heat(out, end, b":", Edition::of(edition))
 }
 
 fn enter(board: Board, values: Values, out: &mut [u8]) -> Left {
@@ -153,109 +135,62 @@ fn enter(board: Board, values: Values, out: &mut [u8]) -> Left {
 
 // The report's number, and the slots that were searched with their steps.
 fn searches(entered: Entered, out: &mut [u8]) -> usize {
-    let searched = entered.searched;
-    let steps = entered.steps;
-    let mut end = put_counted(out, 0, b"report", entered.number as u64);
-    let mut i: usize = 0;
-    while i < Gauge::SLOTS {
-        end = search(searched[i], i as u64, steps[i], end, out);
-        i += 1;
+    let mut end = put_counted(out, 0, b"report", u64::from(entered.number));
+    let slots = entered.searched.iter().zip(&entered.steps);
+    for (slot, (searched, steps)) in slots.enumerate() {
+        if *searched {
+            end = put_number(out, end, slot as u64);
+            end = put_mark(out, end, b":", u64::from(*steps));
+        }
     }
     end
 }
 
-// A slot and its steps, where it was searched.
-fn search(searched: bool, slot: u64, steps: u16, at: usize, out: &mut [u8]) -> usize {
-    if !searched {
-        return at;
-    }
-    let end = put_number(out, at, slot);
-    put_mark(out, end, b":", steps as u64)
-}
-
+// How many cells are marked, and which.
 fn marks(question: Question, out: &mut [u8]) -> usize {
     let marks = question.marks();
-    let mut end = put_counted(out, 0, b"marks", marked(marks));
-    let mut i: usize = 0;
-    while i < Question::MARKS {
-        end = cell(marks[i], i as u64, end, out);
-        i += 1;
+    let count = marks.iter().filter(|marked| **marked).count();
+    let mut end = put_counted(out, 0, b"marks", count as u64);
+    for (cell, marked) in marks.iter().enumerate() {
+        if *marked {
+            end = put_number(out, end, cell as u64);
+        }
     }
     end
 }
 
-// A cell, where it is marked.
-fn cell(marked: bool, n: u64, at: usize, out: &mut [u8]) -> usize {
-    if !marked {
-        return at;
-    }
-    put_number(out, at, n)
-}
-
-// How many are marked.
-fn marked(marks: [bool; Question::MARKS]) -> u64 {
-    let mut n: u64 = 0;
-    let mut i: usize = 0;
-    while i < Question::MARKS {
-        n = std::num::wrapping_add_u64(n, one(marks[i]));
-        i += 1;
-    }
-    n
-}
-
-fn one(marked: bool) -> u64 {
-    if marked { 1 } else { 0 }
-}
-
-// The reports that a fit window holds.
-fn held(window: Window, out: &mut [u8]) -> usize {
+// The reports that a fit window holds, oldest first.
+fn held(window: &Window, out: &mut [u8]) -> usize {
     if !window.fit() {
         return refused(out, Board::UNFIT);
     }
     let counts = window.counts;
-    let end = put_counted(out, 0, b"held", counts.held as u64);
-    rows(counts, &window.rows, end, out)
-}
-
-// The held rows, oldest first.
-fn rows<'a>(counts: Counts, rows: &'a Rows, at: usize, out: &mut [u8]) -> usize {
-    let held = counts.held;
-    let mut end = at;
-    let mut i: u16 = 0;
-    while i < held {
-        let place = row_of(counts, i);
-        end = row(
-            rows.names[place],
-            rows.losses[place],
-            rows.shakes[place],
-            end,
-            out,
-        );
-        i += 1;
+    let mut end = put_counted(out, 0, b"held", u64::from(counts.held));
+    for older in 0..counts.held {
+        end = row(window, row_of(counts, older), end, out);
     }
     end
 }
 
-// The row of the held report that i older ones are held before.
-fn row_of(counts: Counts, i: u16) -> usize
+// The row of the held report that so many older ones are held before.
+fn row_of(counts: Counts, older: u16) -> usize
     ensures { result < row_count }
 {
-    let size = counts.size as u32;
+    let size = u32::from(counts.size);
     if size == 0 {
         return 0;
     }
-    let oldest = std::num::wrapping_sub_u32(counts.entered, counts.held as u32);
-    wide(std::num::wrapping_add_u32(oldest, i as u32) % size) % Window::ROWS
-}
-
-fn wide(n: u32) -> usize {
-    n as usize
+    let oldest = counts.entered.wrapping_sub(u32::from(counts.held));
+    oldest.wrapping_add(u32::from(older)) as usize % size as usize % Window::ROWS
 }
 
 // A row, with its heat, if there is one.
-fn row(name: u32, loss: u16, shake: u16, at: usize, out: &mut [u8]) -> usize {
-    let first = put_number(out, at, Name::number(name) as u64);
-    let second = put_mark(out, first, b":", loss as u64);
-    let end = put_mark(out, second, b":", shake as u64);
-    put_heat(out, end, b":", Name::edition(name))
+fn row(window: &Window, row: usize, at: usize, out: &mut [u8]) -> usize
+    requires { row < row_count }
+{
+    let name = window.rows.names[row];
+    let number = put_number(out, at, u64::from(Name::number(name)));
+    let loss = put_mark(out, number, b":", u64::from(window.rows.losses[row]));
+    let shake = put_mark(out, loss, b":", u64::from(window.rows.shakes[row]));
+    put_heat(out, shake, b":", Name::edition(name))
 }

@@ -1,140 +1,142 @@
 // The desk's frames, sessions, payloads and bench sender: each call is made, and what it answers is written to the front of `out`.
 #![tactic(auto)]
 
+ghost use Rattle.std.specs.Prelude.{◌≡◌, ◌*◌};
+
 use bench::Bench;
 use bus::Bus;
 use joining::Answer;
-use orders::{BusOrder, Extras, Said};
+use orders::{BusOrder, BusPoke, Heard, Sending, SessionPoke};
+use ranges::Bytes;
 use replies::{put, put_bytes, put_counted, put_heat, put_identifier, put_number, refused};
 use report::{Payload, Reading, Report, Written};
-use times::Times;
+use times::{Last, Times};
 
 // No line holds more bytes than this.
 const BYTES: usize = 256;
 
-// Where the answer ends. The sessions stand in `room`, and their senders' last times in `known` and `at`.
-pub fn obeyed(
-    order: BusOrder,
-    line: &[u8],
-    room: &mut [u8; Bus::ROOM],
-    known: &mut [bool; Bus::SENDERS],
-    at: &mut [u32; Bus::SENDERS],
-    out: &mut [u8],
-) -> usize {
-    match order {
-        BusOrder::Frame { id, word, extras } => {
-            frame(id, lines::word(line, word), extras, room, known, at, out)
-        }
-        BusOrder::Session(sender) => {
-            let end = session(place(room, sender), out);
-            put_last(sender, known, at, end, out)
-        }
-        BusOrder::Payload { word } => payload(lines::word(line, word), out),
-        BusOrder::Write {
-            sender,
-            values,
-            own,
-            extras,
-        } => write(sender, Report { values, own }, extras, line, out),
-        _ => {
-            poked(order, room, known, at);
-            put(out, 0, b"ok")
-        }
-    }
+// What is kept of the senders: their sessions, as they stand in the lent bytes, and their last times.
+#[derive(Clone, Copy)]
+pub struct Senders {
+    pub room: [u8; Bus::ROOM],
+    pub times: Times,
 }
 
-// Stores what a poke asks for.
-fn poked(
-    order: BusOrder,
-    room: &mut [u8; Bus::ROOM],
-    known: &mut [bool; Bus::SENDERS],
-    at: &mut [u32; Bus::SENDERS],
-) {
-    match order {
-        BusOrder::PokeSession {
-            sender,
-            size,
-            count,
-            next,
-            extras,
-        } => {
-            poke_session(room, sender, size, count, next);
-            if extras.time.said {
-                poke_time(known, at, sender, true, extras.time.first);
+impl Senders {
+    // A fresh session for each, and no time.
+    pub fn fresh() -> Senders {
+        let mut room = [0u8; Bus::ROOM];
+        Bus::fill(&mut room, Bus::fresh().sessions);
+        let times = Times::fresh();
+        Senders { room, times }
+    }
+
+    // Where the answer ends.
+    pub fn obey(&mut self, order: BusOrder, out: &mut [u8]) -> usize {
+        match order {
+            BusOrder::Frame(heard) => self.frame(heard, out),
+            BusOrder::Session(sender) => {
+                let end = session(self.place(sender), out);
+                put_last(self.times.of(sender), end, out)
+            }
+            BusOrder::Payload(bytes) => payload(bytes, out),
+            BusOrder::Write(sending) => write(sending, out),
+            BusOrder::Poke(poke) => {
+                self.poke(poke);
+                put(out, 0, b"ok")
             }
         }
-        BusOrder::PokeByte {
+    }
+
+    // Stores what a poke asks for.
+    fn poke(&mut self, poke: BusPoke) {
+        match poke {
+            BusPoke::Session(poke) => self.poke_session(poke),
+            BusPoke::Byte {
+                sender,
+                place,
+                value,
+            } => wire::put(&mut self.room, start(sender) + usize::from(place), value),
+            BusPoke::Untimed { sender, time } => self.poke_time(sender, false, time),
+        }
+    }
+
+    fn poke_session(&mut self, poke: SessionPoke) {
+        let at = start(poke.sender);
+        wire::put(&mut self.room, at + Bus::SIZE, poke.size);
+        wire::put(&mut self.room, at + Bus::COUNT, poke.count);
+        wire::put(&mut self.room, at + Bus::NEXT, poke.next);
+        if let Some(time) = poke.time {
+            self.poke_time(poke.sender, true, time);
+        }
+    }
+
+    // Stores whether there is a last time, and which.
+    fn poke_time(&mut self, sender: u8, known: bool, at: u32) {
+        Times::put(
+            &mut self.times.known,
+            &mut self.times.at,
             sender,
-            place,
-            value,
-        } => wire::put(
-            room,
-            Bus::PLACE * (sender as usize) + (place as usize),
-            value,
-        ),
-        BusOrder::PokeUntimed { sender, time } => poke_time(known, at, sender, false, time),
-        _ => {}
+            Last { known, at },
+        );
+    }
+
+    // A sender's session where it stands.
+    fn place(&self, sender: u8) -> &[u8] {
+        wire::front(back(&self.room, start(sender)), Bus::PLACE)
+    }
+
+    // A frame for its sender's session. The size of the payload that it may end is the one that the session had before.
+    fn frame(&mut self, heard: Heard, out: &mut [u8]) -> usize {
+        let [sender, ..] = heard.id.to_le_bytes();
+        let size = usize::from(wire::byte(self.place(sender), Bus::SIZE));
+        match self.take(heard) {
+            Answer::Refused(code) => refused(out, code),
+            Answer::Kept => put(out, 0, b"kept"),
+            Answer::Complete(report) => {
+                put_report(report, wire::front(self.place(sender), size), out)
+            }
+        }
+    }
+
+    // The call of a frame with a time, or of one without.
+    fn take(&mut self, heard: Heard) -> Answer {
+        let mut bytes = [0u8; BYTES];
+        let n = heard.data.put(&mut bytes);
+        let frame = wire::front(&bytes, n);
+        match heard.time {
+            None => Bus::take(&mut self.room, heard.id, frame),
+            Some(time) => Times::take(
+                &mut self.room,
+                &mut self.times.known,
+                &mut self.times.at,
+                time,
+                heard.id,
+                frame,
+            ),
+        }
     }
 }
 
-// A sender's session where it stands.
-fn place(room: &[u8], sender: u8) -> &[u8] {
-    wire::front(back(room, Bus::PLACE * (sender as usize)), Bus::PLACE)
+// Where a sender's session stands.
+fn start(sender: u8) -> usize
+    ensures { result ≡ 92 * sender }
+{
+    Bus::PLACE * usize::from(sender)
 }
 
 // What stands from `at` on.
 fn back(s: &[u8], at: usize) -> &[u8] {
-    let size = s.len();
-    if at < size { &s[at..] } else { &s[size..] }
-}
-
-// A frame for its sender's session. The size of the payload that it may end is the one that the session had before.
-fn frame(
-    id: u32,
-    digits: &[u8],
-    extras: Extras,
-    room: &mut [u8; Bus::ROOM],
-    known: &mut [bool; Bus::SENDERS],
-    at: &mut [u32; Bus::SENDERS],
-    out: &mut [u8],
-) -> usize {
-    let mut bytes = [0u8; BYTES];
-    let n = ranges::bytes(digits, &mut bytes);
-    let sender = (id % 256) as u8;
-    let size = wire::byte(place(room, sender), Bus::SIZE);
-    let answer = taken(id, wire::front(&bytes, n), extras, room, known, at);
-    match answer {
-        Answer::Refused(code) => refused(out, code),
-        Answer::Kept => put(out, 0, b"kept"),
-        Answer::Complete(report) => {
-            put_report(report, wire::front(place(room, sender), size as usize), out)
-        }
-    }
-}
-
-// The call of a frame with a time, or of one without.
-fn taken(
-    id: u32,
-    data: &[u8],
-    extras: Extras,
-    room: &mut [u8; Bus::ROOM],
-    known: &mut [bool; Bus::SENDERS],
-    at: &mut [u32; Bus::SENDERS],
-) -> Answer {
-    if extras.time.said {
-        return Times::take(room, known, at, extras.time.first, id, data);
-    }
-    Bus::take(room, id, data)
+    &s[at.min(s.len())..]
 }
 
 // A report, with the note of its payload.
 fn put_report(report: Report, payload: &[u8], out: &mut [u8]) -> usize {
     let values = report.values;
-    let edition = values.edition;
-    let own = put_counted(out, 0, b"report", report.own as u64);
-    let loss = put_number(out, own, values.loss as u64);
-    let shake = put_number(out, loss, values.shake as u64);
-    let heat = put_heat(out, shake, b" heat ", edition);
+    let own = put_counted(out, 0, b"report", u64::from(report.own));
+    let loss = put_number(out, own, u64::from(values.loss));
+    let shake = put_number(out, loss, u64::from(values.shake));
+    let heat = put_heat(out, shake, b" heat ", values.edition);
     if !Payload::has_note(payload) {
         return heat;
     }
@@ -144,7 +146,7 @@ fn put_report(report: Report, payload: &[u8], out: &mut [u8]) -> usize {
 
 // A space and bytes; nothing where there are none.
 fn put_word(bytes: &[u8], at: usize, out: &mut [u8]) -> usize {
-    if bytes.len() == 0 {
+    if bytes.is_empty() {
         return at;
     }
     let end = put(out, at, b" ");
@@ -152,38 +154,25 @@ fn put_word(bytes: &[u8], at: usize, out: &mut [u8]) -> usize {
 }
 
 fn session(place: &[u8], out: &mut [u8]) -> usize {
-    let size = put_counted(out, 0, b"session", wire::byte(place, Bus::SIZE) as u64);
-    let count = put_number(out, size, wire::byte(place, Bus::COUNT) as u64);
-    let next = put_number(out, count, wire::byte(place, Bus::NEXT) as u64);
+    let size = put_counted(out, 0, b"session", u64::from(wire::byte(place, Bus::SIZE)));
+    let count = put_number(out, size, u64::from(wire::byte(place, Bus::COUNT)));
+    let next = put_number(out, count, u64::from(wire::byte(place, Bus::NEXT)));
     put_word(wire::front(place, Payload::LARGEST), next, out)
 }
 
-// A sender's last time behind its session, if there is one.
-fn put_last(
-    sender: u8,
-    known: &[bool; Bus::SENDERS],
-    at: &[u32; Bus::SENDERS],
-    end: usize,
-    out: &mut [u8],
-) -> usize {
-    let k = sender as usize;
-    if Bus::SENDERS <= k {
-        return end;
+// A sender's last time, if there is one.
+fn put_last(last: Last, at: usize, out: &mut [u8]) -> usize {
+    if last.known {
+        put_counted(out, at, b" at", u64::from(last.at))
+    } else {
+        at
     }
-    put_time(known[k], at[k], end, out)
-}
-
-fn put_time(known: bool, time: u32, end: usize, out: &mut [u8]) -> usize {
-    if !known {
-        return end;
-    }
-    put_counted(out, end, b" at", time as u64)
 }
 
 // The payload's reader alone.
-fn payload(digits: &[u8], out: &mut [u8]) -> usize {
+fn payload(payload: Bytes, out: &mut [u8]) -> usize {
     let mut bytes = [0u8; BYTES];
-    let n = ranges::bytes(digits, &mut bytes);
+    let n = payload.put(&mut bytes);
     let payload = wire::front(&bytes, n);
     match Payload::read(payload) {
         Reading::Refused(code) => refused(out, code),
@@ -191,22 +180,21 @@ fn payload(digits: &[u8], out: &mut [u8]) -> usize {
     }
 }
 
-// The bench sender.
-fn write(sender: u8, report: Report, extras: Extras, line: &[u8], out: &mut [u8]) -> usize {
+// The bench sender. The room that is lent is as much as any report needs, unless less is said.
+fn write(sending: Sending, out: &mut [u8]) -> usize {
     let mut bytes = [0u8; BYTES];
-    let n = ranges::bytes(
-        lines::word(line, ranges::byte(extras.note.first)),
-        &mut bytes,
-    );
-    let note = wire::front(&bytes, n);
+    let n = sending.note.map_or(0, |note| note.put(&mut bytes));
     let mut space = [0u8; Bench::LARGEST];
-    let answer = sent(
-        &mut space,
-        lent(extras.room),
-        sender,
-        report,
-        extras.note.said,
-        note,
+    let lent = sending.room.map_or(Bench::LARGEST, |n| n as usize);
+    let answer = Bench::send(
+        &mut space[..lent.min(Bench::LARGEST)],
+        sending.sender,
+        Report {
+            values: sending.values,
+            own: sending.own,
+        },
+        sending.note.is_some(),
+        wire::front(&bytes, n),
     );
     match answer {
         Written::Refused(code) => refused(out, code),
@@ -214,67 +202,18 @@ fn write(sender: u8, report: Report, extras: Extras, line: &[u8], out: &mut [u8]
     }
 }
 
-// The room that a line says; as much as any report needs where it says none.
-fn lent(room: Said) -> usize {
-    if room.said {
-        return room.first as usize;
-    }
-    Bench::LARGEST
-}
-
-// The frames written to the front of the room, of which `lent` bytes are lent, or all.
-fn sent(
-    room: &mut [u8],
-    lent: usize,
-    sender: u8,
-    report: Report,
-    noted: bool,
-    note: &[u8],
-) -> Written {
-    if room.len() <= lent {
-        return Bench::send(room, sender, report, noted, note);
-    }
-    let start: usize = 0;
-    Bench::send(&mut room[start..lent], sender, report, noted, note)
-}
-
-fn put_frames(frames: &[u8], out: &mut [u8]) -> usize {
-    let n = frames.len() / Bench::FRAME;
-    let mut end = put_counted(out, 0, b"frames", n as u64);
-    let mut i: usize = 0;
-    while i < n {
-        end = put_frame(back(frames, Bench::FRAME * i), end, out);
-        i += 1;
+fn put_frames(bytes: &[u8], out: &mut [u8]) -> usize {
+    let frames = bytes.chunks_exact(Bench::FRAME);
+    let mut end = put_counted(out, 0, b"frames", frames.len() as u64);
+    for frame in frames {
+        end = put_frame(frame, end, out);
     }
     end
 }
 
-// The frame at the front.
-fn put_frame(frames: &[u8], at: usize, out: &mut [u8]) -> usize {
+fn put_frame(frame: &[u8], at: usize, out: &mut [u8]) -> usize {
     let space = put(out, at, b" ");
-    let id = put_identifier(out, space, wire::read32(frames, 0));
+    let id = put_identifier(out, space, wire::read32(frame, 0));
     let end = put(out, id, b" ");
-    put_bytes(out, end, wire::front(back(frames, Bench::IDENTIFIER), 8))
-}
-
-fn poke_session(room: &mut [u8], sender: u8, size: u8, count: u8, next: u8) {
-    let at = Bus::PLACE * (sender as usize);
-    wire::put(room, at + Bus::SIZE, size);
-    wire::put(room, at + Bus::COUNT, count);
-    wire::put(room, at + Bus::NEXT, next);
-}
-
-// Stores whether there is a last time, and which.
-fn poke_time(
-    known: &mut [bool; Bus::SENDERS],
-    at: &mut [u32; Bus::SENDERS],
-    sender: u8,
-    is_known: bool,
-    time: u32,
-) {
-    let k = sender as usize;
-    if k < Bus::SENDERS {
-        known[k] = is_known;
-        at[k] = time;
-    }
+    put_bytes(out, end, back(frame, Bench::IDENTIFIER))
 }

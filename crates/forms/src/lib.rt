@@ -1,6 +1,7 @@
 // The forms of the desk's lines: which one a line has, and what it is in words, as docs/DESK.md has them.
 #![tactic(auto)]
 
+use ranges::Words;
 use replies::put;
 
 // Which form a line has by its first word, or by the one behind `poke`.
@@ -33,238 +34,113 @@ pub enum Form {
 }
 
 impl Form {
-    // How many there are.
-    pub const COUNT: u8 = 22;
+    // Those that `help` lists, as the page does.
+    const LISTED: [Form; 22] = [
+        Form::Window,
+        Form::Set,
+        Form::Remove,
+        Form::Read,
+        Form::Enter,
+        Form::Begin,
+        Form::Step,
+        Form::Marks,
+        Form::Steps,
+        Form::Held,
+        Form::Frame,
+        Form::Session,
+        Form::Payload,
+        Form::Write,
+        Form::PokeWindow,
+        Form::PokeRow,
+        Form::PokeSlot,
+        Form::PokeLine,
+        Form::PokeSession,
+        Form::PokeByte,
+        Form::PokeUntimed,
+        Form::Help,
+    ];
 
-    // The one at that place of the page's table; the last where there is none.
-    fn at(n: u8) -> Form {
-        match n {
-            0 => Form::Window,
-            1 => Form::Set,
-            2 => Form::Remove,
-            3 => Form::Read,
-            4 => Form::Enter,
-            5 => Form::Begin,
-            6 => Form::Step,
-            7 => Form::Marks,
-            8 => Form::Steps,
-            9 => Form::Held,
-            10 => Form::Frame,
-            11 => Form::Session,
-            12 => Form::Payload,
-            13 => Form::Write,
-            14 => Form::PokeWindow,
-            15 => Form::PokeRow,
-            16 => Form::PokeSlot,
-            17 => Form::PokeLine,
-            18 => Form::PokeSession,
-            19 => Form::PokeByte,
-            20 => Form::PokeUntimed,
-            _ => Form::Help,
+    // The form that the next words name.
+    pub fn of(words: &mut Words) -> Form {
+        match words.next() {
+            Some(b"window") => Form::Window,
+            Some(b"set") => Form::Set,
+            Some(b"remove") => Form::Remove,
+            Some(b"read") => Form::Read,
+            Some(b"enter") => Form::Enter,
+            Some(b"begin") => Form::Begin,
+            Some(b"step") => Form::Step,
+            Some(b"marks") => Form::Marks,
+            Some(b"steps") => Form::Steps,
+            Some(b"held") => Form::Held,
+            Some(b"frame") => Form::Frame,
+            Some(b"session") => Form::Session,
+            Some(b"payload") => Form::Payload,
+            Some(b"write") => Form::Write,
+            Some(b"poke") => Form::of_poke(words),
+            Some(b"help") => Form::Help,
+            _ => Form::Unknown,
         }
     }
 
-    pub fn of(line: &[u8]) -> Form {
-        let word = lines::word(line, 0);
-        if lines::same(word, b"poke") {
-            return Form::of_poke(lines::word(line, 1));
+    fn of_poke(words: &mut Words) -> Form {
+        match words.next() {
+            Some(b"window") => Form::PokeWindow,
+            Some(b"row") => Form::PokeRow,
+            Some(b"slot") => Form::PokeSlot,
+            Some(b"line") => Form::PokeLine,
+            Some(b"session") => Form::PokeSession,
+            Some(b"byte") => Form::PokeByte,
+            Some(b"untimed") => Form::PokeUntimed,
+            _ => Form::UnknownPoke,
         }
-        if lines::same(word, b"window") {
-            return Form::Window;
-        }
-        if lines::same(word, b"frame") {
-            return Form::Frame;
-        }
-        if lines::same(word, b"session") {
-            return Form::Session;
-        }
-        if lines::same(word, b"payload") {
-            return Form::Payload;
-        }
-        if lines::same(word, b"write") {
-            return Form::Write;
-        }
-        if lines::same(word, b"help") {
-            return Form::Help;
-        }
-        Form::of_board(word)
     }
 
-    fn of_board(word: &[u8]) -> Form {
-        if lines::same(word, b"set") {
-            return Form::Set;
+    // What a line of this form is; of a line of none, what may stand in its first words.
+    fn words(self) -> &'static [u8] {
+        match self {
+            Form::Window => b"window N; N is 0 to 65535",
+            Form::Set => b"set SLOT K A B [heat C] [loss LOW HIGH] [shake LOW HIGH] [rule R]; SLOT, K and R are 0 to 255, A, B and C -32768 to 32767, LOW and HIGH 0 to 65535",
+            Form::Remove => b"remove SLOT; SLOT is 0 to 255",
+            Form::Read => b"read SLOT; SLOT is 0 to 255",
+            Form::Enter => b"enter LOSS SHAKE [heat H]; each is 0 to 65535",
+            Form::Begin => b"begin SLOT; SLOT is 0 to 31",
+            Form::Step => b"step SLOT; SLOT is 0 to 31",
+            Form::Marks => b"marks SLOT; SLOT is 0 to 31",
+            Form::Steps => b"steps SLOT; SLOT is 0 to 31",
+            Form::Held => b"held",
+            Form::Frame => b"frame ID DATA [at MS]; ID is 1 to 8 hexadecimal digits, DATA an even number of them, MS 0 to 4294967295",
+            Form::Session => b"session SENDER; SENDER is 0 to 253",
+            Form::Payload => b"payload BYTES; BYTES is an even number of hexadecimal digits",
+            Form::Write => b"write SENDER LOSS SHAKE OWN [heat H] [note BYTES] [room N]; SENDER is 0 to 255, LOSS, SHAKE and H 0 to 65535, OWN and N 0 to 4294967295, BYTES an even number of hexadecimal digits",
+            Form::PokeWindow => b"poke window SIZE ENTERED HELD; SIZE and HELD are 0 to 65535, ENTERED 0 to 4294967295",
+            Form::PokeRow => b"poke row ROW NUMBER LOSS SHAKE [heat H]; ROW is 0 to 1023, NUMBER 0 to 1048319, LOSS and SHAKE 0 to 65535, H 0 to 4095",
+            Form::PokeSlot => b"poke slot SLOT K A B LEN NEXT [heat C] [loss LOW HIGH] [shake LOW HIGH] [rule R]; SLOT is 0 to 31, K, LEN and R 0 to 255, A, B and C -32768 to 32767, NEXT, LOW and HIGH 0 to 65535",
+            Form::PokeLine => b"poke line SLOT PLACE NUMBER SCORE [heat H]; SLOT is 0 to 31, PLACE 0 to 15, NUMBER 0 to 1048319, SCORE -2147483648 to 2147483647, H 0 to 4095",
+            Form::PokeSession => b"poke session SENDER SIZE COUNT NEXT [at MS]; SENDER is 0 to 253, MS 0 to 4294967295, the others 0 to 255",
+            Form::PokeByte => b"poke byte SENDER PLACE VALUE; SENDER is 0 to 253, PLACE 0 to 88, VALUE 0 to 255",
+            Form::PokeUntimed => b"poke untimed SENDER MS; SENDER is 0 to 253, MS 0 to 4294967295",
+            Form::Help => b"help",
+            Form::Unknown => b"window, set, remove, read, enter, begin, step, marks, steps, held, frame, session, payload, write, poke or help",
+            Form::UnknownPoke => b"poke window, row, slot, line, session, byte or untimed",
         }
-        if lines::same(word, b"remove") {
-            return Form::Remove;
-        }
-        if lines::same(word, b"read") {
-            return Form::Read;
-        }
-        if lines::same(word, b"enter") {
-            return Form::Enter;
-        }
-        if lines::same(word, b"begin") {
-            return Form::Begin;
-        }
-        if lines::same(word, b"step") {
-            return Form::Step;
-        }
-        if lines::same(word, b"marks") {
-            return Form::Marks;
-        }
-        if lines::same(word, b"steps") {
-            return Form::Steps;
-        }
-        if lines::same(word, b"held") {
-            return Form::Held;
-        }
-        Form::Unknown
-    }
-
-    fn of_poke(word: &[u8]) -> Form {
-        if lines::same(word, b"window") {
-            return Form::PokeWindow;
-        }
-        if lines::same(word, b"row") {
-            return Form::PokeRow;
-        }
-        if lines::same(word, b"slot") {
-            return Form::PokeSlot;
-        }
-        if lines::same(word, b"line") {
-            return Form::PokeLine;
-        }
-        if lines::same(word, b"session") {
-            return Form::PokeSession;
-        }
-        if lines::same(word, b"byte") {
-            return Form::PokeByte;
-        }
-        if lines::same(word, b"untimed") {
-            return Form::PokeUntimed;
-        }
-        Form::UnknownPoke
     }
 }
 
 // What a line of no known form is answered.
 pub fn expected(buf: &mut [u8], form: Form) -> usize {
     let end = put(buf, 0, b"wrong: expected ");
-    put_form(buf, end, form)
+    put(buf, end, form.words())
 }
 
 // Every form on a line of its own; the last one has no line end.
 pub fn help(buf: &mut [u8]) -> usize {
-    let mut end = put_form(buf, 0, Form::at(0));
-    let mut n: u8 = 1;
-    while n < Form::COUNT {
-        end = put_next(buf, end, Form::at(n));
-        n += 1;
+    let mut end = 0;
+    for (n, form) in Form::LISTED.iter().enumerate() {
+        if 0 < n {
+            end = put(buf, end, b"\n");
+        }
+        end = put(buf, end, form.words());
     }
     end
-}
-
-// A form on the next line.
-fn put_next(buf: &mut [u8], at: usize, form: Form) -> usize {
-    let start = put(buf, at, b"\n");
-    put_form(buf, start, form)
-}
-
-fn put_form(buf: &mut [u8], at: usize, form: Form) -> usize {
-    match form {
-        Form::Window => put(buf, at, b"window N; N is 0 to 65535"),
-        Form::Frame => put(
-            buf,
-            at,
-            b"frame ID DATA [at MS]; ID is 1 to 8 hexadecimal digits, DATA an even number of them, MS 0 to 4294967295",
-        ),
-        Form::Session => put(buf, at, b"session SENDER; SENDER is 0 to 253"),
-        Form::Payload => put(
-            buf,
-            at,
-            b"payload BYTES; BYTES is an even number of hexadecimal digits",
-        ),
-        Form::Write => put(
-            buf,
-            at,
-            b"write SENDER LOSS SHAKE OWN [heat H] [note BYTES] [room N]; SENDER is 0 to 255, LOSS, SHAKE and H 0 to 65535, OWN and N 0 to 4294967295, BYTES an even number of hexadecimal digits",
-        ),
-        Form::Help => put(buf, at, b"help"),
-        Form::Unknown => put(
-            buf,
-            at,
-            b"window, set, remove, read, enter, begin, step, marks, steps, held, frame, session, payload, write, poke or help",
-        ),
-        _ => put_board_form(buf, at, form),
-    }
-}
-
-fn put_board_form(buf: &mut [u8], at: usize, form: Form) -> usize {
-    match form {
-        Form::Set => put(
-            buf,
-            at,
-            b"set SLOT K A B [heat C] [loss LOW HIGH] [shake LOW HIGH] [rule R]; SLOT, K and R are 0 to 255, A, B and C -32768 to 32767, LOW and HIGH 0 to 65535",
-        ),
-        Form::Remove => put(buf, at, b"remove SLOT; SLOT is 0 to 255"),
-        Form::Read => put(buf, at, b"read SLOT; SLOT is 0 to 255"),
-        Form::Enter => put(buf, at, b"enter LOSS SHAKE [heat H]; each is 0 to 65535"),
-        Form::Begin => put(buf, at, b"begin SLOT; SLOT is 0 to 31"),
-        Form::Step => put(buf, at, b"step SLOT; SLOT is 0 to 31"),
-        Form::Marks => put(buf, at, b"marks SLOT; SLOT is 0 to 31"),
-        Form::Steps => put(buf, at, b"steps SLOT; SLOT is 0 to 31"),
-        Form::Held => put(buf, at, b"held"),
-        _ => put_poke_form(buf, at, form),
-    }
-}
-
-fn put_poke_form(buf: &mut [u8], at: usize, form: Form) -> usize {
-    match form {
-        Form::PokeWindow => put(
-            buf,
-            at,
-            b"poke window SIZE ENTERED HELD; SIZE and HELD are 0 to 65535, ENTERED 0 to 4294967295",
-        ),
-        Form::PokeRow => put(
-            buf,
-            at,
-            b"poke row ROW NUMBER LOSS SHAKE [heat H]; ROW is 0 to 1023, NUMBER 0 to 1048319, LOSS and SHAKE 0 to 65535, H 0 to 4095",
-        ),
-        Form::PokeSlot => put(
-            buf,
-            at,
-            b"poke slot SLOT K A B LEN NEXT [heat C] [loss LOW HIGH] [shake LOW HIGH] [rule R]; SLOT is 0 to 31, K, LEN and R 0 to 255, A, B and C -32768 to 32767, NEXT, LOW and HIGH 0 to 65535",
-        ),
-        Form::PokeLine => put(
-            buf,
-            at,
-            b"poke line SLOT PLACE NUMBER SCORE [heat H]; SLOT is 0 to 31, PLACE 0 to 15, NUMBER 0 to 1048319, SCORE -2147483648 to 2147483647, H 0 to 4095",
-        ),
-        _ => put_session_poke_form(buf, at, form),
-    }
-}
-
-fn put_session_poke_form(buf: &mut [u8], at: usize, form: Form) -> usize {
-    match form {
-        Form::PokeSession => put(
-            buf,
-            at,
-            b"poke session SENDER SIZE COUNT NEXT [at MS]; SENDER is 0 to 253, MS 0 to 4294967295, the others 0 to 255",
-        ),
-        Form::PokeByte => put(
-            buf,
-            at,
-            b"poke byte SENDER PLACE VALUE; SENDER is 0 to 253, PLACE 0 to 88, VALUE 0 to 255",
-        ),
-        Form::PokeUntimed => put(
-            buf,
-            at,
-            b"poke untimed SENDER MS; SENDER is 0 to 253, MS 0 to 4294967295",
-        ),
-        _ => put(
-            buf,
-            at,
-            b"poke window, row, slot, line, session, byte or untimed",
-        ),
-    }
 }

@@ -3,17 +3,16 @@
 
 use board::Board;
 use list::Lines;
-use orders::{BoardOrder, Extras, Said};
+use orders::{BoardPoke, LinePoke, RowPoke, RuleExtras, SlotPoke};
 use question::Question;
-use ranges::{byte, short, weight};
-use ranking::{Range, Ranges, Rule, Weights};
-use values::Name;
+use ranking::Rule;
+use values::{Edition, Name};
 use window::{Counts, Window};
 
 // The board with what a poke stores.
-pub fn poked(board: Board, order: BoardOrder) -> Board {
-    match order {
-        BoardOrder::PokeWindow {
+pub fn poked(board: Board, poke: BoardPoke) -> Board {
+    match poke {
+        BoardPoke::Window {
             size,
             entered,
             held,
@@ -25,144 +24,81 @@ pub fn poked(board: Board, order: BoardOrder) -> Board {
                 held,
             },
         ),
-        BoardOrder::PokeRow {
-            row,
-            number,
-            loss,
-            shake,
-            extras,
-        } => with_row(board, row as usize, number, loss, shake, extras),
-        BoardOrder::PokeSlot { slot: at, .. } | BoardOrder::PokeLine { slot: at, .. } => {
-            with_slot(board, at, poked_slot(slot(board, at), order))
+        BoardPoke::Row(poke) => with_row(board, poke),
+        BoardPoke::Slot(poke) => {
+            let question = with_numbers(slot(&board, poke.slot), poke);
+            with_slot(board, poke.slot, question)
         }
-        _ => board,
-    }
-}
-
-// A slot's question with what a poke stores.
-fn poked_slot(question: Question, order: BoardOrder) -> Question {
-    match order {
-        BoardOrder::PokeSlot {
-            slot: _,
-            k,
-            loss,
-            shake,
-            len,
-            next,
-            extras,
-        } => {
-            let old = question.rule;
-            let heat = old.weights.heat;
-            let ranges = old.ranges;
-            let rule = Rule::within(Weights { loss, shake, heat }, ranges).tied(old.ties);
-            with_numbers(question, k, ruled(rule, extras), len, next)
+        BoardPoke::Line(poke) => {
+            let question = with_line(slot(&board, poke.slot), poke);
+            with_slot(board, poke.slot, question)
         }
-        BoardOrder::PokeLine {
-            slot: _,
-            place,
-            number,
-            score,
-            extras,
-        } => with_line(question, place as usize, number, score, extras),
-        _ => question,
     }
 }
 
 // The rule with the heat's weight, the ranges and the tie rule that a line says; what it doesn't say stays.
-pub fn ruled(rule: Rule, extras: Extras) -> Rule {
-    let weights = weighted(rule.weights, extras.heat);
-    let ranges = rule.ranges;
-    let loss = bounded(ranges.loss, extras.loss);
-    let shake = bounded(ranges.shake, extras.shake);
-    Rule::within(weights, Ranges { loss, shake }).tied(tied(rule.ties, extras.ties))
-}
-
-fn tied(ties: u8, said: Said) -> u8 {
-    if said.said {
-        return byte(said.first);
-    }
-    ties
-}
-
-fn weighted(mut weights: Weights, said: Said) -> Weights {
-    if said.said {
-        weights.heat = weight(said.first);
-    }
-    weights
-}
-
-fn bounded(range: Range, said: Said) -> Range {
-    if !said.said {
-        return range;
-    }
-    Range {
-        low: short(said.first),
-        high: short(said.second),
-    }
+pub fn ruled(mut rule: Rule, extras: RuleExtras) -> Rule {
+    rule.weights.heat = extras.heat.unwrap_or(rule.weights.heat);
+    rule.ranges.loss = extras.loss.unwrap_or(rule.ranges.loss);
+    rule.ranges.shake = extras.shake.unwrap_or(rule.ranges.shake);
+    rule.ties = extras.ties.unwrap_or(rule.ties);
+    rule
 }
 
 // The name of that number, with the edition that the name before it had unless a heat is said.
-fn renamed(name: u32, number: u32, extras: Extras) -> u32 {
-    Name::of(number, extras.edition(Name::edition(name)))
+fn renamed(name: u32, number: u32, heat: Option<u16>) -> u32 {
+    Name::of(number, heat.map_or(Name::edition(name), Edition::Second))
 }
 
-fn with_counts(board: Board, counts: Counts) -> Board {
-    let mut window = board.window;
-    let slots = board.slots;
-    window.counts = counts;
-    Board { window, slots }
+fn with_counts(mut board: Board, counts: Counts) -> Board {
+    board.window.counts = counts;
+    board
 }
 
-fn with_row(board: Board, row: usize, number: u32, loss: u16, shake: u16, extras: Extras) -> Board {
+fn with_row(board: Board, poke: RowPoke) -> Board {
     let mut window = board.window;
     let slots = board.slots;
+    let row = usize::from(poke.row);
     if row < Window::ROWS {
-        window.rows.names[row] = renamed(window.rows.names[row], number, extras);
-        window.rows.losses[row] = loss;
-        window.rows.shakes[row] = shake;
+        window.rows.names[row] = renamed(window.rows.names[row], poke.number, poke.heat);
+        window.rows.losses[row] = poke.loss;
+        window.rows.shakes[row] = poke.shake;
     }
     Board { window, slots }
 }
 
-fn with_numbers(question: Question, k: u8, rule: Rule, len: u8, next: u16) -> Question {
-    let mut changed = question;
-    changed.k = k;
-    changed.rule = rule;
-    changed.len = len;
-    changed.next = next;
-    changed
+fn with_numbers(mut question: Question, poke: SlotPoke) -> Question {
+    question.k = poke.k;
+    question.rule.weights.loss = poke.loss;
+    question.rule.weights.shake = poke.shake;
+    question.rule = ruled(question.rule, poke.extras);
+    question.len = poke.len;
+    question.next = poke.next;
+    question
 }
 
-fn with_line(
-    question: Question,
-    place: usize,
-    number: u32,
-    score: i32,
-    extras: Extras,
-) -> Question {
-    let mut changed = question;
+fn with_line(mut question: Question, poke: LinePoke) -> Question {
+    let place = usize::from(poke.place);
     if place < Lines::MOST {
-        changed.names[place] = renamed(changed.names[place], number, extras);
-        changed.scores[place] = score;
+        question.names[place] = renamed(question.names[place], poke.number, poke.heat);
+        question.scores[place] = poke.score;
     }
-    changed
+    question
 }
 
 // The board with a question in that slot.
-pub fn with_slot(board: Board, at: u8, question: Question) -> Board {
-    let window = board.window;
-    let mut slots = board.slots;
+pub fn with_slot(mut board: Board, at: u8, question: Question) -> Board {
     if at < Board::SLOTS {
-        slots[at as usize] = question;
+        board.slots[usize::from(at)] = question;
     }
-    Board { window, slots }
+    board
 }
 
 // The question in that slot.
-pub fn slot(board: Board, at: u8) -> Question {
-    let slots = board.slots;
+pub fn slot(board: &Board, at: u8) -> Question {
     if at < Board::SLOTS {
-        return slots[at as usize];
+        board.slots[usize::from(at)]
+    } else {
+        Question::fresh()
     }
-    Question::fresh()
 }

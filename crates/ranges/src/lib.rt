@@ -1,194 +1,134 @@
-// The numbers of a line, each with a range that a letter names.
+// The words of a line that are left, read one after another: each as a number of its range, or as bytes.
 #![tactic(auto)]
 
 use lines::Number;
 
-// The numbers that were read, whether all are right, and the word behind them. One that may be below zero is held as 32 bits hold it.
+// What is left of a line.
 #[derive(Clone, Copy)]
-pub struct Numbers {
-    pub right: bool,
-    pub at: u8,
-    pub values: [u32; Numbers::MOST],
+pub struct Words<'a> {
+    rest: &'a [u8],
 }
 
-impl Numbers {
-    pub const MOST: usize = 6;
+// Bytes in hexadecimal digits, two a byte.
+#[derive(Clone, Copy)]
+pub struct Bytes<'a> {
+    digits: &'a [u8],
+}
 
-    // Reads a number from the word `from` on for each letter:
-    //   b  0 to 255                s  0 to 31, a slot       h  0 to 65535         n  0 to 4294967295
-    //   u  0 to 253, a sender      r  0 to 1023, a row      p  0 to 15, a line    y  0 to 88, a byte's place
-    //   e  0 to 4095, a heat       m  0 to 1048319, the number in a name
-    //   w  -32768 to 32767         z  -2147483648 to 2147483647
-    //   x  1 to 8 hexadecimal digits
-    //   d  bytes in hexadecimal digits, which may be missing: the number is that of the word, where `bytes` reads them
-    // Any other letter has no number.
-    pub fn read(line: &[u8], from: u8, letters: &[u8]) -> Numbers {
-        let values = [0u32; Numbers::MOST];
-        let mut numbers = Numbers {
-            right: true,
-            at: from,
-            values,
+// A word is missing, stands where none may, or is none that its place can hold.
+#[derive(Clone, Copy)]
+pub struct Wrong;
+
+impl<'a> Words<'a> {
+    // All the words of a line.
+    pub fn of(line: &'a [u8]) -> Words<'a> {
+        Words { rest: line }
+    }
+
+    // The next word.
+    pub fn next(&mut self) -> Option<&'a [u8]> {
+        let word = lines::word(self.rest, 0);
+        self.rest = lines::tail(self.rest, 1);
+        if word.is_empty() { None } else { Some(word) }
+    }
+
+    // Nothing is left.
+    pub fn ended(mut self) -> Result<(), Wrong> {
+        match self.next() {
+            None => Ok(()),
+            Some(_) => Err(Wrong),
+        }
+    }
+
+    fn needed(&mut self) -> Result<&'a [u8], Wrong> {
+        self.next().ok_or(Wrong)
+    }
+
+    // A number from 0 to `most`.
+    pub fn number<T: TryFrom<u32> + Copy>(&mut self, most: T) -> Result<T, Wrong>
+    where
+        u32: From<T>,
+        T::Error: Drop,
+    {
+        read(self.needed()?, 10, most)
+    }
+
+    // The number behind a word that may be missing; no other word may stand in its place.
+    pub fn number_behind<T: TryFrom<u32> + Copy>(
+        &mut self,
+        name: &[u8],
+        most: T,
+    ) -> Result<Option<T>, Wrong>
+    where
+        u32: From<T>,
+        T::Error: Drop,
+    {
+        match self.next() {
+            None => Ok(None),
+            Some(word) if word == name => Ok(Some(self.number(most)?)),
+            Some(_) => Err(Wrong),
+        }
+    }
+
+    // A number of the type's range, with a minus before one below zero.
+    pub fn signed<T: TryFrom<i64>>(&mut self) -> Result<T, Wrong>
+    where
+        T::Error: Drop,
+    {
+        let n = match self.needed()? {
+            [b'-', digits @ ..] => -i64::from(read(digits, 10, u32::MAX)?),
+            digits => i64::from(read(digits, 10, u32::MAX)?),
         };
-        let mut i: usize = 0;
-        while i < letters.len() {
-            numbers = numbers.with(line, letters[i], i);
-            i += 1;
+        T::try_from(n).map_err(|_| Wrong)
+    }
+
+    // A number of 1 to 8 hexadecimal digits.
+    pub fn identifier(&mut self) -> Result<u32, Wrong> {
+        let word = self.needed()?;
+        if word.len() <= 8 {
+            read(word, 16, u32::MAX)
+        } else {
+            Err(Wrong)
         }
-        numbers
     }
 
-    // With the number of the next word in its place.
-    fn with(self, line: &[u8], letter: u8, place: usize) -> Numbers {
-        let at = self.at;
-        let word = lines::word(line, at);
-        let number = number(word, letter, at);
-        let mut numbers = self;
-        if place < Numbers::MOST {
-            numbers.values[place] = number.value;
+    // Bytes in hexadecimal digits. Where the next word is none, it stays, and there are no bytes.
+    pub fn bytes(&mut self) -> Bytes<'a> {
+        let mut behind = *self;
+        match behind.next() {
+            Some(digits) if is_bytes(digits) => {
+                *self = behind;
+                Bytes { digits }
+            }
+            _ => Bytes { digits: &[] },
         }
-        if !number.known {
-            numbers.right = false;
+    }
+}
+
+impl Bytes<'_> {
+    // Stores them at the front of `room`, as far as it goes, and answers how many they are.
+    pub fn put(self, room: &mut [u8]) -> usize {
+        for (byte, pair) in room.iter_mut().zip(self.digits.chunks_exact(2)) {
+            *byte = read(pair, 16, u8::MAX).unwrap_or(0);
         }
-        numbers.at = behind(word, letter, at);
-        numbers
+        self.digits.len() / 2
     }
 }
 
-// The word behind the one `at`, which a number was read from; it is the same where bytes are missing.
-fn behind(word: &[u8], letter: u8, at: u8) -> u8 {
-    if letter == b'd' {
-        return behind_bytes(word, at);
-    }
-    std::num::wrapping_add_u8(at, 1)
-}
-
-// The word behind the one `at`, or that one, where it isn't bytes.
-pub fn behind_bytes(word: &[u8], at: u8) -> u8 {
-    if is_bytes(word) {
-        return std::num::wrapping_add_u8(at, 1);
-    }
-    at
-}
-
-fn unknown() -> Number {
-    Number {
-        known: false,
-        value: 0,
-    }
-}
-
-// The number in the word `at`, in the range of the letter.
-fn number(word: &[u8], letter: u8, at: u8) -> Number {
-    match letter {
-        b'b' => Number::read(word, 10, 255),
-        b's' => Number::read(word, 10, 31),
-        b'h' => Number::read(word, 10, 65535),
-        b'n' => Number::read(word, 10, 4294967295),
-        b'u' => Number::read(word, 10, 253),
-        b'r' => Number::read(word, 10, 1023),
-        b'p' => Number::read(word, 10, 15),
-        b'y' => Number::read(word, 10, 88),
-        b'e' => Number::read(word, 10, 4095),
-        b'm' => Number::read(word, 10, 1048319),
-        b'w' => Number::short(word),
-        b'z' => long(word),
-        b'x' => identifier(word),
-        b'd' => Number {
-            known: true,
-            value: at as u32,
-        },
-        _ => unknown(),
-    }
-}
-
-// A number from -2147483648 to 2147483647, decimal with a minus before a negative one, as four bytes hold it.
-fn long(word: &[u8]) -> Number {
-    if wire::byte(word, 0) != b'-' {
-        return Number::read(word, 10, 2147483647);
-    }
-    let size = word.len();
-    if size == 0 {
-        return unknown();
-    }
-    let n = Number::read(&word[1..size], 10, 2147483648);
+// The number that the digits of a word stand for, of at most `most`.
+fn read<T: TryFrom<u32> + Copy>(word: &[u8], base: u8, most: T) -> Result<T, Wrong>
+where
+    u32: From<T>,
+    T::Error: Drop,
+{
+    let n = Number::read(word, base, u32::from(most));
     if !n.known {
-        return unknown();
+        return Err(Wrong);
     }
-    Number {
-        known: true,
-        value: std::num::wrapping_sub_u32(0, n.value),
-    }
+    T::try_from(n.value).map_err(|_| Wrong)
 }
 
-fn identifier(word: &[u8]) -> Number {
-    if 8 < word.len() {
-        return unknown();
-    }
-    Number::read(word, 16, 4294967295)
-}
-
-// Whether a text is bytes of two hexadecimal digits each; no text is no bytes.
-pub fn is_bytes(s: &[u8]) -> bool {
-    if s.len() % 2 != 0 {
-        return false;
-    }
-    let mut k: usize = 0;
-    while k < s.len() / 2 {
-        if !pair(s, 2 * k).known {
-            return false;
-        }
-        k += 1;
-    }
-    true
-}
-
-// Stores the bytes that a text stands for at the front of `room`, and answers how many they are: none, where it isn't bytes.
-pub fn bytes(s: &[u8], room: &mut [u8]) -> usize {
-    if !is_bytes(s) {
-        return 0;
-    }
-    let mut k: usize = 0;
-    while k < s.len() / 2 {
-        wire::put(room, k, byte(pair(s, 2 * k).value));
-        k += 1;
-    }
-    k
-}
-
-// The byte of the two digits from `at` on.
-fn pair(s: &[u8], at: usize) -> Number {
-    if s.len() < 2 {
-        return unknown();
-    }
-    if s.len() - 2 < at {
-        return unknown();
-    }
-    let end = at + 2;
-    Number::read(&s[at..end], 16, 255)
-}
-
-// A number of one byte, of two, of two with a sign, and of four with a sign.
-pub fn byte(n: u32) -> u8 {
-    (n % 256) as u8
-}
-
-pub fn short(n: u32) -> u16 {
-    (n % 65536) as u16
-}
-
-pub fn weight(n: u32) -> i16 {
-    let low = n % 65536;
-    if low < 32768 {
-        low as i16
-    } else {
-        ((low as i32) - 65536) as i16
-    }
-}
-
-pub fn score(n: u32) -> i32 {
-    if n < 2147483648 {
-        n as i32
-    } else {
-        ((n as i64) - 4294967296) as i32
-    }
+// Whether a word is two hexadecimal digits for each byte.
+fn is_bytes(word: &[u8]) -> bool {
+    word.len() % 2 == 0 && word.iter().all(u8::is_ascii_hexdigit)
 }

@@ -1,2 +1,0 @@
--- Why numbers below zero are read safely.
-pub mod Signed
