@@ -28,10 +28,4 @@ returns-then-meets c =
     let some : (stripes_of (c.args.self).ranges.loss).first < (stripes_of (c.args.self).ranges.loss).end = subst (λ (at : Stripes). at.first < at.end) c.stripes-across.ensures (search rules) in
     let first : FirstOf (c.args.self) (c.args.row) (16 * (c.args.row) + c.edge.result) = subst (λ n. FirstOf (c.args.self) (c.args.row) (16 * (c.args.row) + n)) (sym (is))
     (edge_first (c.args.self) (c.args.row) (sym c.meets.ensures ∙ c.if-meets.true) (some)) in
-    λ h. first
-
-pub returns-else-meets : goal.returns-else-meets
-returns-else-meets c = λ h. absurd (omega arith)
-
-pub returns-else-across : goal.returns-else-across
-returns-else-across c = λ h. absurd (omega arith)
+    first
