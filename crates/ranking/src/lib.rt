@@ -431,6 +431,7 @@ impl Rule {
     }
 
     // The cell that a search takes first; CELLS, where there is none.
+    // Stays: an `Option<u8>` would be no plainer, since a question stores the next cell as a number, which a poke may make any `u16`, and each caller would turn it back.
     pub fn first_cell(self) -> u16
         ensures { result ≡ cell_at self 0 }
     {
