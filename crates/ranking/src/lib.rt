@@ -359,7 +359,7 @@ impl Rule {
     pub fn best_score(self, cell: u8) -> i32
         ensures { result ≡ best_score self cell }
     {
-        let n = cell as u16;
+        let n = u16::from(cell);
         self.loss_part(n % Grid::COLUMNS) + self.row_part(n / Grid::COLUMNS)
     }
 
@@ -368,7 +368,7 @@ impl Rule {
     pub fn cell_counts(self, cell: u8) -> bool
         ensures { result ≡ cell_counts self cell }
     {
-        let n = cell as u16;
+        let n = u16::from(cell);
         let ranges = self.ranges;
         ranges.loss.meets(n % Grid::COLUMNS) && ranges.shake.meets(n / Grid::COLUMNS)
     }
@@ -704,10 +704,10 @@ impl Grid {
 
     pub const ROWS: u16 = 16;
 
-    pub const CELLS: u16 = 256;
+    pub const CELLS: u16 = Grid::COLUMNS * Grid::ROWS;
 
     // The columns, as a length.
-    const ACROSS: usize = 16;
+    const ACROSS: usize = Grid::COLUMNS as usize;
 
     // The cell of some values, of which the low 12 bits are looked at.
     #[tactic(auto, unfolding(crate::specs::Cells::cell))]
