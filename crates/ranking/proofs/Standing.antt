@@ -86,7 +86,7 @@ module _ (rule : Rule) where
       numbered : added.number ≡ foremost rule entered
       permitted : Permitted added
       counted : is_counted rule added ≡ true
-      in_cell_lem : cell added.values ≡ c
+      in_cell : cell added.values ≡ c
       stands : entry rule added ≡ e
 
     first : (d : Edition) (e : Entry) → e ∈ entries rule hs → goes_first rule (named (foremost rule entered) d) e.name ≡ true
@@ -124,7 +124,7 @@ module _ (rule : Rule) where
           numbered = refl;
           permitted = corner_in rule c (in_order_lem rule c h).0;
           counted = corner-counted c h;
-          in_cell_lem = corner-cell rule c;
+          in_cell = corner-cell rule c;
           stands = refl;
         }
 
@@ -135,7 +135,7 @@ module _ (rule : Rule) where
           attains = λ c m. let h = visiting_of rule c m in (entry rule (at_corner c), corner_new c h, tops c h);
           bounded = λ c e f x h.
               subst (λ z. above rule x z ≡ true) f.stands
-              (under f.added f.permitted f.counted x (subst (λ d. reaches rule d x ≡ false) (sym f.in_cell_lem) h));
+              (under f.added f.permitted f.counted x (subst (λ d. reaches rule d x ≡ false) (sym f.in_cell) h));
           fresh = λ c e f m.
               let edition = f.added.values.edition in
               clash (first edition e m)
@@ -154,7 +154,7 @@ module _ (rule : Rule) where
             numbered = f.numbered;
             permitted = f.permitted;
             counted = f.counted;
-            in_cell_lem = f.in_cell_lem;
+            in_cell = f.in_cell;
             listed = rw (entries_cons rule f.added hs f.counted) (subst (λ z. z ∈ best (above rule) k (z ∷ entries rule hs)) (sym f.stands) m);
           }
 
@@ -167,7 +167,7 @@ module _ (rule : Rule) where
           numbered = v.numbered;
           permitted = v.permitted;
           counted = v.counted;
-          in_cell_lem = v.in_cell_lem;
+          in_cell = v.in_cell;
           stands = refl;
         },
         subst (λ l. entry rule v.added ∈ best (above rule) k l) (entries_cons rule v.added hs v.counted) v.listed,
@@ -176,7 +176,7 @@ module _ (rule : Rule) where
       -- a wanted cell has values that count
       wanted-order : (c : ℕ) → Wanted rule k hs entered c → in_order rule c ≡ true
       wanted-order c v =
-          subst (λ d. in_order rule d ≡ true) v.in_cell_lem (counts-order rule v.added.values v.permitted (held_counts v.added v.counted))
+          subst (λ d. in_order rule d ≡ true) v.in_cell (counts-order rule v.added.values v.permitted (held_counts v.added v.counted))
 
       -- Demand 3: the marked cells are the wanted ones.
       pub marks-wanted : (c : ℕ) → c ∈ marks (search_of rule) k hs ↔ Wanted rule k hs entered c

@@ -49,7 +49,7 @@ pub record WantedOfAll (rule : Rule) (k : ℕ) (hs : List Held) (entered c : ℕ
   pub added : Held
   pub numbered : added.number ≡ foremost rule entered
   pub permitted : Permitted added
-  pub in_cell_lem : cell added.values ≡ c
+  pub in_cell : cell added.values ≡ c
   pub listed : entry rule added ∈ top rule k (added ∷ hs)
 
 -- the question of two weights
@@ -127,13 +127,13 @@ module _ (a b : ℤ) where
 
   as_wanted : (k : ℕ) (hs : List Held) (entered c : ℕ) → Wanted rule k hs entered c ↔ WantedOfAll rule k hs entered c
   as_wanted k hs entered c = (
-    λ x. record { added = x.added; numbered = x.numbered; permitted = x.permitted; in_cell_lem = x.in_cell_lem; listed = x.listed },
+    λ x. record { added = x.added; numbered = x.numbered; permitted = x.permitted; in_cell = x.in_cell; listed = x.listed },
     λ x. record {
       added = x.added;
       numbered = x.numbered;
       permitted = x.permitted;
       counted = scored_counts rule x.added.values ∙ all-count x.added.values x.permitted;
-      in_cell_lem = x.in_cell_lem;
+      in_cell = x.in_cell;
       listed = x.listed;
     },
   )

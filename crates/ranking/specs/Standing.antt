@@ -108,5 +108,5 @@ pub record Wanted (rule : Rule) (k : ℕ) (hs : List Held) (entered c : ℕ) : T
   pub numbered : added.number ≡ foremost rule entered
   pub permitted : Permitted added
   pub counted : is_counted rule added ≡ true
-  pub in_cell_lem : cell added.values ≡ c
+  pub in_cell : cell added.values ≡ c
   pub listed : entry rule added ∈ top rule k (added ∷ hs)

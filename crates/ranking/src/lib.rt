@@ -1,7 +1,7 @@
 // A question's rule: its scores, the rank order, the grid and the order in which a search takes its cells.
 #![tactic(auto)]
 
-ghost use Rattle.std.specs.Prelude.{◌≡◌, true, ◌&&◌, ◌+◌, ◌*◌, ◌-◌, ◌%◌, ◌<◌, ◌≤◌, min, pos, ◌*ℤ◌};
+ghost use Rattle.std.specs.Prelude.{◌≡◌, true, IfSome, ◌&&◌, ◌+◌, ◌*◌, ◌-◌, ◌%◌, ◌<◌, ◌≤◌, min, pos, ◌*ℤ◌};
 ghost use Rattle.laws.specs.Whole.{equal};
 ghost use Rattle.values.specs.Range.{value_count, low_edition, low};
 ghost use Rattle.ranking.specs.Cells.{columns, cell_count, inside, whole_ranges, rule_within, rule_of, tied_by, no_rule, is_no_range, no_weights, is_none, weight_fits, weights_fit, is_proper, ranges_proper, ties_known, fit_rule, heat_counts, counts, heat_of, weighed, sum, score, ScoreFits, from_least, values_named, cell, meets, cell_counts, nearest, corner, best_score, greater, before, in_order, place_of, cell_at, cell_after, most_steps, steps_to, reach_of};
@@ -11,7 +11,7 @@ ghost use Rattle.ranking.specs.Inner.{leads, nearer, place_after, met, met_row, 
 use values::{Edition, Name, Values};
 
 // What a score is made with: a for loss, b for shake, c for heat.
-#[derive(Clone, Copy)]
+#[derive(Clone, Copy, Default, PartialEq, Eq)]
 pub struct Weights {
     pub loss: i16,
     pub shake: i16,
@@ -23,19 +23,8 @@ impl Weights {
 
     pub const LARGEST: i16 = 1000;
 
-    // All of them are 0.
-    fn is_none(self) -> bool
-        ensures { result ≡ no_weights self }
-    {
-        if is_zero(self.loss) {
-            if is_zero(self.shake) {
-                return is_zero(self.heat);
-            }
-        }
-        false
-    }
-
     // Values of at least that score, if they count; no others pass it, whatever the tie rule.
+    #[tactic(auto, unfolding(crate::specs::Standing::might_pass))]
     pub fn might_pass(self, values: Values, score: i32) -> bool
         ensures { result ≡ might_pass self (low values) score }
     {
@@ -46,8 +35,7 @@ impl Weights {
     fn sum(self, values: Values) -> i32
         ensures { result ≡ weighed self (low values) }
     {
-        let edition = values.edition;
-        self.pair(values) + weighted_heat(self.heat, edition)
+        self.pair(values) + weighted_heat(self.heat, values.edition)
     }
 
     // The greatest sum of values with this loss and shake, whatever the heat.
@@ -65,32 +53,34 @@ impl Weights {
     }
 
     // The edition in a name; where heat has no weight it is all one, and the first.
+    #[tactic(auto, unfolding(laws::specs::Whole::equal))]
     fn edition_in(self, name: u32) -> Edition
         ensures { result ≡ edition_by self name }
     {
-        if is_zero(self.heat) {
-            return Edition::First;
+        if self.heat == 0 {
+            Edition::First
+        } else {
+            Name::edition(name)
         }
-        Name::edition(name)
     }
 }
 
 // The values from one to another, both included.
-#[derive(Clone, Copy)]
+#[derive(Clone, Copy, Default, PartialEq, Eq)]
 pub struct Range {
     pub low: u16,
     pub high: u16,
 }
 
 // The losses and the shakes that count.
-#[derive(Clone, Copy)]
+#[derive(Clone, Copy, Default, PartialEq, Eq)]
 pub struct Ranges {
     pub loss: Range,
     pub shake: Range,
 }
 
 // All that a question goes by. The tie rule is NEWEST or FIRST_COME; any other is unfit, and ranks as FIRST_COME does.
-#[derive(Clone, Copy)]
+#[derive(Clone, Copy, Default, PartialEq, Eq)]
 pub struct Rule {
     pub weights: Weights,
     pub ranges: Ranges,
@@ -125,19 +115,14 @@ impl Ranges {
     pub fn whole() -> Ranges
         ensures { result ≡ whole_ranges }
     {
-        let loss = Range {
+        let whole = Range {
             low: 0,
             high: Values::LARGEST,
         };
-        let shake = loss;
-        Ranges { loss, shake }
-    }
-
-    // All ends are 0.
-    fn is_none(self) -> bool
-        ensures { result ≡ (is_no_range self.loss && is_no_range self.shake) }
-    {
-        self.loss.is_none() && self.shake.is_none()
+        Ranges {
+            loss: whole,
+            shake: whole,
+        }
     }
 }
 
@@ -146,7 +131,7 @@ impl Range {
     fn has(self, value: u16) -> bool
         ensures { result ≡ inside self value }
     {
-        self.low <= value && value <= self.high
+        (self.low..=self.high).contains(&value)
     }
 
     // In order, and with no end over the largest value.
@@ -156,39 +141,26 @@ impl Range {
         self.low <= self.high && self.high <= Values::LARGEST
     }
 
-    // Both ends are 0.
-    fn is_none(self) -> bool
-        ensures { result ≡ is_no_range self }
-    {
-        self.low == 0 && self.high == 0
-    }
-
     // Some value of that column or row lies inside.
     fn meets(self, index: u16) -> bool
         requires { index < columns }
         ensures { result ≡ meets self index }
     {
         let least = Grid::SIDE * index;
-        if self.low <= self.high {
-            return self.low <= least + (Grid::SIDE - 1) && least <= self.high;
-        }
-        false
+        self.low <= self.high && self.low <= least + (Grid::SIDE - 1) && least <= self.high
     }
 
     // The columns or rows that have a value inside.
+    #[tactic(auto, unfolding(crate::specs::Inner::stripes_of))]
     fn stripes(self) -> Stripes
         ensures { result ≡ stripes_of self }
     {
-        let last = self.high / Grid::SIDE;
-        if self.high < self.low {
-            return Stripes { first: 0, end: 0 };
-        }
-        if Values::LARGEST < self.low {
+        if self.high < self.low || Values::LARGEST < self.low {
             return Stripes { first: 0, end: 0 };
         }
         Stripes {
             first: self.low / Grid::SIDE,
-            end: smaller(last, Grid::COLUMNS - 1) + 1,
+            end: (self.high / Grid::SIDE).min(Grid::COLUMNS - 1) + 1,
         }
     }
 }
@@ -211,11 +183,10 @@ impl Rule {
     pub fn within(weights: Weights, ranges: Ranges) -> Rule
         ensures { result ≡ rule_within weights ranges }
     {
-        let ties = Rule::NEWEST;
         Rule {
             weights,
             ranges,
-            ties,
+            ties: Rule::NEWEST,
         }
     }
 
@@ -223,69 +194,43 @@ impl Rule {
     pub fn tied(self, ties: u8) -> Rule
         ensures { result ≡ tied_by ties self }
     {
-        let weights = self.weights;
-        let ranges = self.ranges;
-        Rule {
-            weights,
-            ranges,
-            ties,
-        }
+        Rule { ties, ..self }
     }
 
     // The rule of an empty slot: all 0.
     pub fn none() -> Rule
         ensures { result ≡ no_rule }
     {
-        let loss = Range { low: 0, high: 0 };
-        let shake = loss;
-        let weights = Weights {
-            loss: 0,
-            shake: 0,
-            heat: 0,
-        };
-        Rule::within(weights, Ranges { loss, shake })
+        Rule::default()
     }
 
     // All of it is 0.
+    #[tactic(auto, unfolding(crate::specs::Cells::is_none))]
     pub fn is_none(self) -> bool
         ensures { result ≡ is_none self }
     {
-        let weights = self.weights;
-        let ranges = self.ranges;
-        if weights.is_none() {
-            if self.later_first() {
-                return ranges.is_none();
-            }
-        }
-        false
+        self == Rule::none()
     }
 
     // Every number of it is in its range.
+    #[tactic(auto, unfolding(crate::specs::Cells::fit_rule))]
     pub fn fit(self) -> bool
         ensures { result ≡ fit_rule self }
     {
-        if self.weights_fit() {
-            if self.ranges_proper() {
-                return self.ties_known();
-            }
-        }
-        false
+        self.weights_fit() && self.ranges_proper() && self.ties_known()
     }
 
     // Each weight is in its range.
+    #[tactic(auto, unfolding(crate::specs::Cells::weights_fit))]
     pub fn weights_fit(self) -> bool
         ensures { result ≡ weights_fit self }
     {
         let weights = self.weights;
-        if weight_fits(weights.loss) {
-            if weight_fits(weights.shake) {
-                return weight_fits(weights.heat);
-            }
-        }
-        false
+        weight_fits(weights.loss) && weight_fits(weights.shake) && weight_fits(weights.heat)
     }
 
     // Both ranges are in order, with no end over the largest value.
+    #[tactic(auto, unfolding(crate::specs::Cells::ranges_proper))]
     pub fn ranges_proper(self) -> bool
         ensures { result ≡ ranges_proper self }
     {
@@ -294,6 +239,7 @@ impl Rule {
     }
 
     // The tie rule is one of the two.
+    #[tactic(auto, unfolding(crate::specs::Cells::ties_known))]
     pub fn ties_known(self) -> bool
         ensures { result ≡ ties_known self }
     {
@@ -301,13 +247,11 @@ impl Rule {
     }
 
     // The score of some values, if they count; the low 12 bits of each are looked at.
+    #[tactic(auto, unfolding(crate::specs::Cells::score))]
     pub fn score(self, values: Values) -> Option<i32>
         ensures { result ≡ score self (low values) }
     {
-        if self.counts(values) {
-            return Some(self.sum(values));
-        }
-        None
+        self.counts(values).then(|| self.sum(values))
     }
 
     // The same of a report as its row has it, and none also where the score is below `least`. Most reports fail by loss and shake alone, so the
@@ -340,18 +284,14 @@ impl Rule {
     }
 
     // Loss and shake lie inside their ranges, and there is a heat where it has a weight.
+    #[tactic(auto, unfolding(crate::specs::Cells::counts))]
     fn counts(self, values: Values) -> bool
         ensures { result ≡ counts self (low values) }
     {
         let ranges = self.ranges;
-        if ranges.loss.has(values.loss % Values::COUNT) {
-            if ranges.shake.has(values.shake % Values::COUNT) {
-                let weights = self.weights;
-                let edition = values.edition;
-                return heat_counts(weights.heat, edition);
-            }
-        }
-        false
+        ranges.loss.has(values.loss % Values::COUNT)
+            && ranges.shake.has(values.shake % Values::COUNT)
+            && heat_counts(self.weights.heat, values.edition)
     }
 
     // The weighted sum of the values.
@@ -369,6 +309,7 @@ impl Rule {
     }
 
     // Of two reports of equal scores the one of this name goes first.
+    #[tactic(auto, unfolding(crate::specs::Inner::key_of, crate::specs::Standing::goes_first))]
     fn goes_first(self, name: u32, other: u32) -> bool
         ensures { result ≡ goes_first self name other }
     {
@@ -376,30 +317,28 @@ impl Rule {
     }
 
     // A number that is greater for the one of two names that goes first: to compare two of these takes no branch.
+    #[tactic(auto, unfolding(crate::specs::Inner::key_of))]
     fn key(self, name: u32) -> u32
         ensures { result ≡ key_of self name }
     {
         if self.later_first() {
-            return name;
+            name
+        } else {
+            u32::MAX - name
         }
-        4294967295 - name
     }
 
     // A report ranks above another (rule 6.3): by its score, and of equal ones by its number, which is in its name, as the
     // tie rule says.
+    #[tactic(auto, unfolding(crate::specs::Standing::above))]
     pub fn above(self, name: u32, score: i32, other_name: u32, other_score: i32) -> bool
         ensures { result ≡ above self (record { name = name; score = score }) (record { name = other_name; score = other_score }) }
     {
-        if other_score < score {
-            return true;
-        }
-        if score < other_score {
-            return false;
-        }
-        self.goes_first(name, other_name)
+        other_score < score || (other_score == score && self.goes_first(name, other_name))
     }
 
     // A report that enters now with this score ranks above one of that other score.
+    #[tactic(auto, unfolding(crate::specs::Standing::passes))]
     pub fn passes(self, score: i32, other: i32) -> bool
         ensures { result ≡ passes self score other }
     {
@@ -408,49 +347,42 @@ impl Rule {
 
     // A list for k of that many entries, the last of that score, has a place for a report that enters now with this score.
     // Of a list with no entry `last` counts for nothing.
+    #[tactic(auto, unfolding(crate::specs::Standing::place_by))]
     pub fn has_place(self, k: u8, len: u8, last: i32, score: i32) -> bool
         ensures { result ≡ place_by self k len last score }
     {
-        if len < k {
-            return true;
-        }
-        if len == 0 {
-            return false;
-        }
-        self.passes(score, last)
+        len < k || (len != 0 && self.passes(score, last))
     }
 
     // A cell's best possible score; of a cell with no value inside the ranges, that of its values nearest to them.
+    #[tactic(auto, unfolding(crate::specs::Cells::best_score, crate::specs::Cells::sum, crate::specs::Inner::loss_part, crate::specs::Inner::row_part))]
     pub fn best_score(self, cell: u8) -> i32
         ensures { result ≡ best_score self cell }
     {
-        let n = cell as u16;
+        let n = u16::from(cell);
         self.loss_part(n % Grid::COLUMNS) + self.row_part(n / Grid::COLUMNS)
     }
 
     // Some values of the cell count.
+    #[tactic(auto, unfolding(crate::specs::Cells::cell_counts))]
     pub fn cell_counts(self, cell: u8) -> bool
         ensures { result ≡ cell_counts self cell }
     {
-        let n = cell as u16;
+        let n = u16::from(cell);
         let ranges = self.ranges;
-        if ranges.loss.meets(n % Grid::COLUMNS) {
-            return ranges.shake.meets(n / Grid::COLUMNS);
-        }
-        false
+        ranges.loss.meets(n % Grid::COLUMNS) && ranges.shake.meets(n / Grid::COLUMNS)
     }
 
     // A search can take this cell; CELLS and more are none.
+    #[tactic(auto, unfolding(crate::specs::Cells::in_order))]
     pub fn in_order(self, cell: u16) -> bool
         ensures { result ≡ in_order self cell }
     {
-        if cell < Grid::CELLS {
-            return self.cell_counts(cell as u8);
-        }
-        false
+        cell < Grid::CELLS && self.cell_counts(cell as u8)
     }
 
     // A search takes the cell c before the cell d.
+    #[tactic(auto, unfolding(crate::specs::Cells::before))]
     pub fn before(self, c: u8, d: u8) -> bool
         ensures { result ≡ before self c d }
     {
@@ -462,12 +394,10 @@ impl Rule {
         ensures { result ≡ place_of self cell }
     {
         let mut n: u16 = 0;
-        let mut d: u16 = 0;
-        while d < Grid::CELLS {
+        for d in 0..Grid::CELLS {
             if self.comes_before(d as u8, cell) {
                 n += 1;
             }
-            d += 1;
         }
         n
     }
@@ -476,10 +406,7 @@ impl Rule {
     fn comes_before(self, c: u8, d: u8) -> bool
         ensures { result ≡ (cell_counts self c && before self c d) }
     {
-        if self.cell_counts(c) {
-            return self.before(c, d);
-        }
-        false
+        self.cell_counts(c) && self.before(c, d)
     }
 
     // How many cells a search can take.
@@ -493,6 +420,7 @@ impl Rule {
     }
 
     // The steps of a search that takes this cell next; all, where it can't be taken.
+    #[tactic(auto, unfolding(crate::specs::Cells::steps_to))]
     pub fn steps_to(self, cell: u16) -> u16
         ensures { result ≡ steps_to self cell }
     {
@@ -503,6 +431,7 @@ impl Rule {
     }
 
     // The cell that a search takes first; CELLS, where there is none.
+    // Stays: an `Option<u8>` would be no plainer, since a question stores the next cell as a number, which a poke may make any `u16`, and each caller would turn it back.
     pub fn first_cell(self) -> u16
         ensures { result ≡ cell_at self 0 }
     {
@@ -510,6 +439,7 @@ impl Rule {
     }
 
     // The cell that a search takes after this one; CELLS, where it is the last or can't be taken.
+    #[tactic(auto, unfolding(crate::specs::Cells::cell_after))]
     pub fn next_cell(self, cell: u16) -> u16
         ensures { result ≡ cell_after self cell }
     {
@@ -527,12 +457,10 @@ impl Rule {
         let mut sought = Sought {
             cells: 0,
             next: Grid::CELLS,
-            best: -2147483648,
+            best: i32::MIN,
         };
-        let mut row: u16 = 0;
-        while row < Grid::ROWS {
+        for row in 0..Grid::ROWS {
             sought = self.row_sought(across, sought, row, score);
-            row += 1;
         }
         Reach {
             cells: sought.cells,
@@ -545,15 +473,14 @@ impl Rule {
         ensures { Across self result }
     {
         let mut parts = [0i32; Grid::ACROSS];
-        let mut column: usize = 0;
-        while column < Grid::ACROSS {
-            parts[column] = self.loss_part(column as u16);
-            column += 1;
+        for (column, part) in parts.iter_mut().enumerate() {
+            *part = self.loss_part(column as u16);
         }
         parts
     }
 
     // What the best loss of a column counts for.
+    #[tactic(auto, unfolding(crate::specs::Inner::loss_part))]
     fn loss_part(self, column: u16) -> i32
         requires { column < columns }
         ensures { (result ≡ loss_part self column) × Words self.weights }
@@ -564,6 +491,7 @@ impl Rule {
     }
 
     // What the best shake of a row and the best heat count for.
+    #[tactic(auto, unfolding(crate::specs::Inner::row_part))]
     fn row_part(self, row: u16) -> i32
         requires { row < columns }
         ensures { result ≡ row_part self row }
@@ -578,8 +506,7 @@ impl Rule {
         requires { (row < columns) × (sought.cells ≤ columns * row) × Across self across }
         ensures { result ≡ met_row self score sought row columns }
     {
-        let cell = self.row_first(row);
-        if cell < Grid::CELLS {
+        if let Some(cell) = self.row_first(row) {
             let best = self.best_score(cell as u8);
             if best < score {
                 return sought.met(cell, best, score);
@@ -588,20 +515,18 @@ impl Rule {
         self.row_met(across, sought, row, score)
     }
 
-    // The cell of a row that a search takes first; CELLS, where it takes none of them.
-    fn row_first(self, row: u16) -> u16
+    // The cell of a row that a search takes first, where it takes one of them.
+    fn row_first(self, row: u16) -> Option<u16>
         requires { row < columns }
-        ensures { result < cell_count → FirstOf self row result }
+        ensures { IfSome result (FirstOf self row) }
     {
         let weights = self.weights;
         let ranges = self.ranges;
         let across = ranges.loss.stripes();
-        if across.first < across.end {
-            if ranges.shake.meets(row) {
-                return Grid::COLUMNS * row + across.edge(weights.loss);
-            }
+        if across.first < across.end && ranges.shake.meets(row) {
+            return Some(Grid::COLUMNS * row + across.edge(weights.loss));
         }
-        Grid::CELLS
+        None
     }
 
     // The cells of a row, one by one.
@@ -615,13 +540,10 @@ impl Rule {
         }
         let part = self.row_part(row);
         let stripes = ranges.loss.stripes();
-        let end = stripes.end;
         let mut found = sought;
-        let mut column = stripes.first;
-        while column < end {
+        for column in stripes.first..stripes.end {
             let cell = Grid::COLUMNS * row + column;
             found = found.met(cell, across[column as usize] + part, score);
-            column += 1;
         }
         found
     }
@@ -631,11 +553,9 @@ impl Rule {
         requires { from < cell_count → cell_counts self from ≡ true }
         ensures { result ≡ cell_at self (place_after self from) }
     {
-        let mut found: u16 = Grid::CELLS;
-        let mut d: u16 = 0;
-        while d < Grid::CELLS {
+        let mut found = Grid::CELLS;
+        for d in 0..Grid::CELLS {
             found = self.nearer(from, found, d);
-            d += 1;
         }
         found
     }
@@ -645,26 +565,18 @@ impl Rule {
         requires { d < cell_count }
         ensures { result ≡ nearer self from found d }
     {
-        if self.cell_counts(d as u8) {
-            if self.leads(from, d) {
-                if self.leads(d, found) {
-                    return d;
-                }
-            }
+        if self.cell_counts(d as u8) && self.leads(from, d) && self.leads(d, found) {
+            d
+        } else {
+            found
         }
-        found
     }
 
     // c is taken before d, or one of them is no cell.
     fn leads(self, c: u16, d: u16) -> bool
         ensures { result ≡ leads self c d }
     {
-        if c < Grid::CELLS {
-            if d < Grid::CELLS {
-                return self.before(c as u8, d as u8);
-            }
-        }
-        true
+        Grid::CELLS <= c || Grid::CELLS <= d || self.before(c as u8, d as u8)
     }
 }
 
@@ -681,35 +593,29 @@ impl Stripes {
     fn width(self) -> u16
         ensures { result ≡ self.end - self.first }
     {
-        if self.first < self.end {
-            return self.end - self.first;
-        }
-        0
+        self.end.saturating_sub(self.first)
     }
 }
 
 impl Sought {
     // One cell more, of a greater number than those before: it is below the score and taken sooner than the
     // others that are, or not, or it counts.
+    #[tactic(auto, unfolding(crate::specs::Inner::met))]
     fn met(self, cell: u16, best: i32, score: i32) -> Sought
         requires { self.cells < cell_count }
         ensures { result ≡ met self cell best score }
     {
-        let cells = self.cells;
-        let next = self.next;
-        let top = self.best;
         if score <= best {
             return Sought {
-                cells: cells + 1,
-                next,
-                best: top,
+                cells: self.cells + 1,
+                ..self
             };
         }
-        if top < best {
+        if self.best < best {
             return Sought {
-                cells,
                 next: cell,
                 best,
+                ..self
             };
         }
         self
@@ -720,48 +626,32 @@ impl Sought {
 fn weight_fits(weight: i16) -> bool
     ensures { result ≡ weight_fits weight }
 {
-    Weights::SMALLEST <= weight && weight <= Weights::LARGEST
-}
-
-fn is_zero(weight: i16) -> bool
-    ensures { result ≡ equal weight (pos 0) }
-{
-    weight == 0
+    (Weights::SMALLEST..=Weights::LARGEST).contains(&weight)
 }
 
 // What a value counts for by its weight.
 fn weighted(weight: i16, value: u16) -> i32
     ensures { result ≡ weight *ℤ pos (value % value_count) }
 {
-    let a = weight as i32;
-    let v = (value % Values::COUNT) as i32;
-    a * v
+    i32::from(weight) * i32::from(value % Values::COUNT)
 }
 
 // What the heat counts for: nothing, where it has no weight or there is none.
 fn weighted_heat(weight: i16, edition: Edition) -> i32
     ensures { result ≡ weight *ℤ pos (heat_of (low_edition edition)) }
 {
-    if is_zero(weight) {
-        return 0;
-    }
     match edition {
-        Edition::First => 0,
-        Edition::Second(heat) => weighted(weight, heat),
+        Edition::Second(heat) if weight != 0 => weighted(weight, heat),
+        _ => 0,
     }
 }
 
 // A report of that edition counts by the weight for heat.
+#[tactic(auto, unfolding(laws::specs::Whole::equal))]
 fn heat_counts(weight: i16, edition: Edition) -> bool
     ensures { result ≡ heat_counts weight (low_edition edition) }
 {
-    if is_zero(weight) {
-        return true;
-    }
-    match edition {
-        Edition::First => false,
-        Edition::Second(heat) => true,
-    }
+    weight == 0 || matches!(edition, Edition::Second(_))
 }
 
 // What the heat that counts for most by its weight does count for.
@@ -769,9 +659,10 @@ fn best_heat(weight: i16) -> i32
     ensures { result ≡ heat_part weight }
 {
     if 0 < weight {
-        return weighted(weight, Values::LARGEST);
+        weighted(weight, Values::LARGEST)
+    } else {
+        0
     }
-    0
 }
 
 // The value of a column or a row that counts for most by its weight and lies inside the range, where one does.
@@ -792,31 +683,14 @@ fn nearest(value: u16, index: u16) -> u16
     ensures { result ≡ nearest value index }
 {
     let least = Grid::SIDE * index;
-    let most = least + (Grid::SIDE - 1);
-    if value < least {
-        return least;
-    }
-    smaller(value, most)
-}
-
-// The smaller of two numbers.
-fn smaller(a: u16, b: u16) -> u16
-    ensures { result ≡ min a b }
-{
-    if a < b { a } else { b }
+    value.clamp(least, least + (Grid::SIDE - 1))
 }
 
 // a is greater than b, or they are equal and the tie holds.
 fn greater(a: i32, b: i32, tie: bool) -> bool
     ensures { result ≡ greater a b tie }
 {
-    if b < a {
-        return true;
-    }
-    if a < b {
-        return false;
-    }
-    tie
+    b < a || (b == a && tie)
 }
 
 // The grid over loss and shake: COLUMNS by ROWS cells of SIDE by SIDE values.
@@ -830,12 +704,13 @@ impl Grid {
 
     pub const ROWS: u16 = 16;
 
-    pub const CELLS: u16 = 256;
+    pub const CELLS: u16 = Grid::COLUMNS * Grid::ROWS;
 
     // The columns, as a length.
-    const ACROSS: usize = 16;
+    const ACROSS: usize = Grid::COLUMNS as usize;
 
     // The cell of some values, of which the low 12 bits are looked at.
+    #[tactic(auto, unfolding(crate::specs::Cells::cell))]
     pub fn cell(values: Values) -> u8
         ensures { result ≡ cell (low values) }
     {

@@ -1,6 +1,6 @@
 -- The invariant: n counts the cells below d that are taken before the given one.
 -- Assumes nothing.
-use mathlib.Core.Path.{◌≡◌, refl, sym, ap, ◌∙◌, subst}
+use mathlib.Core.Path.{◌≡◌, sym, ap, ◌∙◌, subst}
 use mathlib.Core.Bool.{Bool, ◌&&◌}
 use mathlib.Core.List.{[]}
 use Prim.Native.Nat.{ℕ, ◌+◌}
@@ -12,42 +12,23 @@ use Rattle.ranking.proofs.Scan.{counted_yes, counted_no}
 use Rattle.ranking.proofs.Rule.place_of.Goals as goal
 use Rattle.ranking.proofs.Rule.place_of.Goals.{then-comes_before, else-comes_before}
 
-pub loop-d-init : goal.loop-d-init
-loop-d-init c = (omega arith, omega arith, refl)
-
-pub overflow_cast-d : goal.overflow_cast-d
-overflow_cast-d c = omega arith
-
-pub overflow_add-n : goal.overflow_add-n
-overflow_add-n c = omega arith
-
-pub overflow_add-d : goal.overflow_add-d
-overflow_add-d c = omega arith
-
-pub loop-d-smaller : goal.loop-d-smaller
-loop-d-smaller c = omega arith
-
 pub loop-d-preserved : goal.loop-d-preserved
 loop-d-preserved c =
-    let a = c.args in
     let p : ℕ → Bool = λ e. cell_counts c.args.self e && before c.args.self e c.args.cell in
     elim c.if-comes_before.branch [
       | then-comes_before w ↦ (
-        omega arith,
         omega (arith, w.n-is),
         w.n-is
-            ∙ ap (λ m. m + 1) c.loop-d.invariant.2
+            ∙ ap (λ m. m + 1) c.loop-d.invariant.1
             ∙ sym (counted_yes p c.loop-d.d (sym c.comes_before.ensures ∙ w.if-comes_before.true)),
       )
       | else-comes_before w ↦ (
-        omega arith,
         omega (arith, w.n-is),
-        w.n-is ∙ c.loop-d.invariant.2 ∙ sym (counted_no p c.loop-d.d (sym c.comes_before.ensures ∙ w.if-comes_before.false)),
+        w.n-is ∙ c.loop-d.invariant.1 ∙ sym (counted_no p c.loop-d.d (sym c.comes_before.ensures ∙ w.if-comes_before.false)),
       )
     ]
 
 pub returns : goal.returns
 returns c =
-    let a = c.args in
     let all : c.loop-d.d ≡ 256 = omega arith in
-    subst (λ d. c.loop-d.n ≡ length (only (λ e. cell_counts c.args.self e && before c.args.self e c.args.cell) (numbers_below d []))) all c.loop-d.invariant.2
+    subst (λ d. c.loop-d.n ≡ length (only (λ e. cell_counts c.args.self e && before c.args.self e c.args.cell) (numbers_below d []))) all c.loop-d.invariant.1

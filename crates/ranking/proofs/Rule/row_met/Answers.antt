@@ -1,47 +1,51 @@
 -- The invariant: the cells of the row's columns so far have been met, whatever rule these columns and this row's part are of.
 -- Assumes nothing.
 use mathlib.Core.Path.{◌≡◌, sym, ap, ap₂, ◌∙◌, subst}
-use Prim.Native.Nat.{◌+◌, ◌*◌, ◌-◌, ◌≤◌, ◌<◌}
+use Prim.Native.Nat.{ℕ, ◌+◌, ◌*◌, ◌-◌, ◌≤◌, ◌<◌}
 use native.Mathlib.Nat.{zero-add}
 use native.Mathlib.Omega.{arith}
 use borrow.Author.Tests.{not-true, not-false}
-use lib.IntN.{pos, ◌+ℤ◌}
+use lib.IntN.{ℤ, pos, ◌+ℤ◌}
 use lib.ListN.{get_or}
 use mir.Facts.{to_z-of_z}
 use mir.Syntax.{w32}
 use mir.Val.{SFits, to_z, of_z}
 use Rattle.laws.proofs.Words.{kept}
-use Rattle.ranking.specs.Cells.{best_score}
-use Rattle.ranking.specs.Inner.{met, met_row}
+use Rattle.ranking.specs.Cells.{meets, best_score}
+use Rattle.ranking.specs.Inner.{met, met_row, row_part, stripes_of, Across}
 use Rattle.ranking.specs.declared.Rule.{Rule}
 use Rattle.ranking.specs.declared.Sought.{Sought}
+use Rattle.ranking.specs.declared.Stripes.{Stripes}
+use mathlib.Core.Bool.{true}
+use mathlib.Core.List.{List}
+use lib.Signed.{mag}
 use Rattle.ranking.proofs.Columns.{Along, along_in, along_before, along_behind, along_best, along_ends, part_word, row_out_all}
 use Rattle.ranking.proofs.Reaching.{met_few, row_none, row_more, row_skips, best_fits}
 use mathlib.Core.Bool.{not}
 use Rattle.ranking.proofs.Rule.row_met.Goals as goal
 
-pub meets-requires : goal.meets-requires
-meets-requires c = c.requires.0
+along : (rule : Rule) (row : ℕ) (across : List ℤ) (part : ℤ) (at : Stripes) → Across rule across → mag part < 2147483648 → part ≡ row_part rule row
+    → meets rule.ranges.shake row ≡ true → at ≡ stripes_of rule.ranges.loss → Along row across (to_z w32 (of_z w32 part)) at.first at.end rule
+along rule row across part at parts fits down met stripes = record { parts = parts; down = kept w32 part fits ∙ down; met = met; stripes = sym stripes }
+
+part_back : (rule : Rule) (across : List ℤ) → Across rule across → (n : ℕ) → n < 16 → to_z w32 (of_z w32 (get_or across n (pos 0))) ≡ get_or across n (pos 0)
+part_back rule across parts n small = to_z-of_z (subst (SFits w32) (sym (parts.each n small)) (part_word rule parts.words n small))
+
+best_fits_in : (row : ℕ) (across : List ℤ) (part : ℤ) (first end : ℕ) (rule : Rule) → Along row across part first end rule → row < 16 → (n : ℕ) → n < 16
+    → {x : ℤ} → x ≡ get_or across n (pos 0) → SFits w32 (x +ℤ part)
+best_fits_in row across part first end rule own in-it n small whole =
+    subst (SFits w32) (sym (ap (λ z. z +ℤ part) whole ∙ along_best row across part first end rule own n small)) (best_fits rule own.parts.words (16 * row + n) (omega arith))
 
 pub returns-then-not-meets : goal.returns-then-not-meets
 returns-then-not-meets c =
-    let a = c.args in
     row_none c.args.self c.args.score c.args.sought c.args.row
     ∙ row_skips c.args.self c.args.score c.args.sought c.args.row 0 16 (λ i h l. row_out_all c.args.self c.args.row (sym c.meets.ensures ∙ not-true _ (ap not c.if-not-meets.true)) i (omega arith))
-
-pub row_part-part-requires : goal.row_part-part-requires
-row_part-part-requires c = c.requires.0
 
 -- the rule that is handed in is one that the columns and the row are of
 pub loop-column-init : goal.loop-column-init
 loop-column-init c =
-    let own : Along c.args.row c.args.across (to_z w32 (of_z w32 c.row_part-part.result)) c.stripes-stripes.result.first c.stripes-stripes.result.end c.args.self = record {
-      parts = c.requires.2;
-      down = kept w32 c.row_part-part.result c.row_part-part.type_inv ∙ c.row_part-part.ensures;
-      met = sym c.meets.ensures ∙ not-false _ (ap not c.if-not-meets.false);
-      stripes = sym c.stripes-stripes.ensures;
-    } in
-    let a = c.args in
+    let own = along c.args.self c.args.row c.args.across c.row_part-part.result c.stripes-stripes.result c.requires.2 c.row_part-part.type_inv c.row_part-part.ensures
+    (sym c.meets.ensures ∙ not-false _ (ap not c.if-not-meets.false)) c.stripes-stripes.ensures in
     let s = to_z w32 (of_z w32 c.args.score) in
     let ends = along_ends _ _ _ _ _ c.args.self (own) in (
       omega arith,
@@ -57,46 +61,21 @@ loop-column-init c =
 
 pub overflow_add-across : goal.overflow_add-across
 overflow_add-across c =
-    let own : Along c.args.row c.args.across (to_z w32 (of_z w32 c.row_part-part.result)) c.stripes-stripes.result.first c.stripes-stripes.result.end c.args.self = record {
-      parts = c.requires.2;
-      down = kept w32 c.row_part-part.result c.row_part-part.type_inv ∙ c.row_part-part.ensures;
-      met = sym c.meets.ensures ∙ not-false _ (ap not c.if-not-meets.false);
-      stripes = sym c.stripes-stripes.ensures;
-    } in
-    let whole : to_z w32 (of_z w32 (get_or c.args.across c.loop-column.column (pos 0))) ≡ get_or c.args.across c.loop-column.column (pos 0) = let along = own in
-    let rule = c.args.self in
+    let own = along c.args.self c.args.row c.args.across c.row_part-part.result c.stripes-stripes.result c.requires.2 c.row_part-part.type_inv c.row_part-part.ensures
+    (sym c.meets.ensures ∙ not-false _ (ap not c.if-not-meets.false)) c.stripes-stripes.ensures in
     let small : c.loop-column.column < 16 = omega arith in
-    to_z-of_z (subst (SFits w32) (sym (along.parts.each _ small)) (part_word rule along.parts.words _ small)) in
-    let along = own in
-    let rule = c.args.self in
-    let n = c.loop-column.column in
-    let small : n < 16 = omega arith in
-    subst (SFits w32) (sym (ap (λ z. z +ℤ to_z w32 (of_z w32 c.row_part-part.result)) (whole) ∙ along_best _ _ _ _ _ rule along n small))
-    (best_fits rule along.parts.words (16 * _ + n) (omega arith))
+    let whole = part_back c.args.self c.args.across c.requires.2 c.loop-column.column small in
+    best_fits_in _ _ _ _ _ c.args.self own c.requires.0 c.loop-column.column small whole
 
 pub loop-column-preserved : goal.loop-column-preserved
 loop-column-preserved c =
-    let own : Along c.args.row c.args.across (to_z w32 (of_z w32 c.row_part-part.result)) c.stripes-stripes.result.first c.stripes-stripes.result.end c.args.self = record {
-      parts = c.requires.2;
-      down = kept w32 c.row_part-part.result c.row_part-part.type_inv ∙ c.row_part-part.ensures;
-      met = sym c.meets.ensures ∙ not-false _ (ap not c.if-not-meets.false);
-      stripes = sym c.stripes-stripes.ensures;
-    } in
-    let whole : to_z w32 (of_z w32 (get_or c.args.across c.loop-column.column (pos 0))) ≡ get_or c.args.across c.loop-column.column (pos 0) = let along = own in
-    let rule = c.args.self in
+    let own = along c.args.self c.args.row c.args.across c.row_part-part.result c.stripes-stripes.result c.requires.2 c.row_part-part.type_inv c.row_part-part.ensures
+    (sym c.meets.ensures ∙ not-false _ (ap not c.if-not-meets.false)) c.stripes-stripes.ensures in
     let small : c.loop-column.column < 16 = omega arith in
-    to_z-of_z (subst (SFits w32) (sym (along.parts.each _ small)) (part_word rule along.parts.words _ small)) in
-    let fits : SFits w32 (to_z w32 (of_z w32 (get_or c.args.across c.loop-column.column (pos 0))) +ℤ to_z w32 (of_z w32 c.row_part-part.result)) = let along = own in
-    let rule = c.args.self in
-    let n = c.loop-column.column in
-    let small : n < 16 = omega arith in
-    subst (SFits w32) (sym (ap (λ z. z +ℤ to_z w32 (of_z w32 c.row_part-part.result)) (whole) ∙ along_best _ _ _ _ _ rule along n small))
-    (best_fits rule along.parts.words (16 * _ + n) (omega arith)) in
-    let a = c.args in
+    let whole = part_back c.args.self c.args.across c.requires.2 c.loop-column.column small in
+    let fits = best_fits_in _ _ _ _ _ c.args.self own c.requires.0 c.loop-column.column small whole in
     let s = to_z w32 (of_z w32 c.args.score) in
     let n = c.loop-column.column in
-    let inv = c.loop-column.invariant in
-    let small : n < 16 = omega arith in
     let cell = 16 * c.args.row + n in
     let part = to_z w32 (of_z w32 c.row_part-part.result) in
     let is : (rule : Rule) → Along c.args.row c.args.across part c.stripes-stripes.result.first c.stripes-stripes.result.end rule → c.met-found.result ≡ met c.loop-column.found cell (best_score rule cell) s =
@@ -118,15 +97,9 @@ loop-column-preserved c =
 
 pub returns : goal.returns
 returns c =
-    let own : Along c.args.row c.args.across (to_z w32 (of_z w32 c.row_part-part.result)) c.stripes-stripes.result.first c.stripes-stripes.result.end c.args.self = record {
-      parts = c.requires.2;
-      down = kept w32 c.row_part-part.result c.row_part-part.type_inv ∙ c.row_part-part.ensures;
-      met = sym c.meets.ensures ∙ not-false _ (ap not c.if-not-meets.false);
-      stripes = sym c.stripes-stripes.ensures;
-    } in
-    let a = c.args in
+    let own = along c.args.self c.args.row c.args.across c.row_part-part.result c.stripes-stripes.result c.requires.2 c.row_part-part.type_inv c.row_part-part.ensures
+    (sym c.meets.ensures ∙ not-false _ (ap not c.if-not-meets.false)) c.stripes-stripes.ensures in
     let s = to_z w32 (of_z w32 c.args.score) in
-    let inv = c.loop-column.invariant in
     let end = c.stripes-stripes.result.end in
     let all : c.loop-column.column ≡ end = omega arith in
     let up : end + (16 - end) ≡ 16 = omega (arith, c.loop-column.invariant.2) in

@@ -3,30 +3,17 @@
 use mathlib.Core.Path.{◌≡◌, sym, subst}
 use Prim.Native.Nat.{◌+◌, ◌<◌}
 use native.Mathlib.Omega.{arith}
-use Rattle.ranking.proofs.Scan.{Scanned, scanned_none, scanned_more, scanned_all}
+use Rattle.ranking.proofs.Scan.{Scanned, scanned_more, scanned_all}
 use Rattle.ranking.specs.Inner.{follows}
 use Rattle.ranking.proofs.Rule.seek.Goals as goal
 
-pub loop-d-init : goal.loop-d-init
-loop-d-init c = (omega arith, scanned_none c.args.self (follows c.args.self c.args.from))
-
-pub overflow_add-d : goal.overflow_add-d
-overflow_add-d c = omega arith
-
-pub loop-d-smaller : goal.loop-d-smaller
-loop-d-smaller c = omega arith
-
 pub loop-d-preserved : goal.loop-d-preserved
 loop-d-preserved c =
-    let a = c.args in
-    let cell : c.loop-d.d < 256 = omega arith in (
-      omega arith,
-      subst (Scanned c.args.self (follows c.args.self c.args.from) (c.loop-d.d + 1)) (sym c.nearer-found.ensures)
-          (scanned_more c.args.self c.args.from c.loop-d.found c.loop-d.d cell c.loop-d.invariant.1),
-    )
+    let cell : c.loop-d.d < 256 = omega arith in
+    subst (Scanned c.args.self (follows c.args.self c.args.from) (c.loop-d.d + 1)) (sym c.nearer-found.ensures)
+    (scanned_more c.args.self c.args.from c.loop-d.found c.loop-d.d cell c.loop-d.invariant)
 
 pub returns : goal.returns
 returns c =
-    let a = c.args in
     let all : c.loop-d.d ≡ 256 = omega arith in
-    scanned_all c.args.self c.args.from c.loop-d.found c.requires (subst (λ d. Scanned c.args.self (follows c.args.self c.args.from) d c.loop-d.found) all c.loop-d.invariant.1)
+    scanned_all c.args.self c.args.from c.loop-d.found c.requires (subst (λ d. Scanned c.args.self (follows c.args.self c.args.from) d c.loop-d.found) all c.loop-d.invariant)

@@ -1,10 +1,6 @@
-use Prim.Native.Nat.{◌-◌, ◌≤◌}
 use Rattle.ranking.proofs.Scan.{Scanned}
 use Rattle.ranking.specs.Inner.{follows}
 use Rattle.ranking.proofs.Rule.seek.Given as goal
 
 abbrev pub invariant-loop-d : goal.invariant-loop-d
-invariant-loop-d l = (l.d ≤ 256) × Scanned l.self (follows l.self l.from) l.d l.found
-
-abbrev pub decreases-loop-d : goal.decreases-loop-d
-decreases-loop-d l = 256 - l.d
+invariant-loop-d l = Scanned l.self (follows l.self l.from) l.d l.found

@@ -1,33 +1,37 @@
 -- Loss and shake, and the heat's part; it fits since each value counts by its low 12 bits.
 -- Assumes nothing.
 use mathlib.Core.Path.{◌≡◌, ap, ap₂, ◌∙◌}
-use lib.IntN.{pos, ◌+ℤ◌, ◌*ℤ◌}
+use Prim.Native.Nat.{◌<◌}
+use lib.IntN.{ℤ, pos, ◌+ℤ◌, ◌*ℤ◌}
+use lib.Signed.{mag}
 use mir.Facts.{to_z-of_z}
-use mir.Syntax.{w32}
+use mir.Syntax.{w16, w32}
 use mir.Val.{SFits, to_z, of_z}
 use Rattle.laws.proofs.Words.{kept}
+use Rattle.values.specs.declared.Values.{Values}
 use Rattle.values.specs.Range.{low}
 use Rattle.values.proofs.Facts.{low_in}
 use Rattle.ranking.specs.Cells.{heat_of, weighed, sum, rule_of}
+use Rattle.ranking.specs.Inner.{pair_part, Words}
+use Rattle.ranking.specs.declared.Weights.{Weights}
 use Rattle.ranking.proofs.Cells.{word_fits}
 use Rattle.ranking.proofs.Weights.sum.Goals as goal
 
-pub overflow_add-result : goal.overflow_add-result
+parts : (w : Weights) (v : Values) {x y : ℤ} → Words w → mag x < 2147483648 → x ≡ pair_part w v → mag y < 2147483648
+    → y ≡ to_z w16 (of_z w16 w.heat) *ℤ pos (heat_of v.edition) → to_z w32 (of_z w32 x) +ℤ to_z w32 (of_z w32 y) ≡ weighed w v
+parts w v words f e g d =
+    ap₂ (λ x y. x +ℤ y) (kept w32 _ f ∙ e) (kept w32 _ g ∙ d ∙ ap (λ z. z *ℤ pos (heat_of v.edition)) (to_z-of_z words.heat))
+
+fits : (w : Weights) (v : Values) → Words w → SFits w32 (weighed w (low v))
 unfolding sum
+fits w v words = word_fits (rule_of w) (low v) words (low_in v)
+
+pub overflow_add-result : goal.overflow_add-result
 overflow_add-result c =
-    let is : to_z w32 (of_z w32 c.pair.result) +ℤ to_z w32 (of_z w32 c.weighted_heat.result) ≡ weighed c.args.self (low c.args.values) = ap₂ (λ x y. x +ℤ y) (kept w32 c.pair.result c.pair.type_inv ∙ c.pair.ensures.0)
-    (kept w32 c.weighted_heat.result c.weighted_heat.type_inv
-    ∙ c.weighted_heat.ensures
-    ∙ ap (λ z. z *ℤ pos (heat_of (low c.args.values).edition)) (to_z-of_z c.pair.ensures.1.heat)) in
-    let fits : SFits w32 (weighed c.args.self (low c.args.values)) = word_fits (rule_of c.args.self) (low c.args.values) c.pair.ensures.1 (low_in c.args.values) in
-    rw (is) (fits)
+    rw (parts c.args.self (low c.args.values) c.pair.ensures.1 c.pair.type_inv c.pair.ensures.0 c.weighted_heat.type_inv c.weighted_heat.ensures)
+    (fits c.args.self c.args.values c.pair.ensures.1)
 
 pub returns : goal.returns
-unfolding sum
 returns c =
-    let is : to_z w32 (of_z w32 c.pair.result) +ℤ to_z w32 (of_z w32 c.weighted_heat.result) ≡ weighed c.args.self (low c.args.values) = ap₂ (λ x y. x +ℤ y) (kept w32 c.pair.result c.pair.type_inv ∙ c.pair.ensures.0)
-    (kept w32 c.weighted_heat.result c.weighted_heat.type_inv
-    ∙ c.weighted_heat.ensures
-    ∙ ap (λ z. z *ℤ pos (heat_of (low c.args.values).edition)) (to_z-of_z c.pair.ensures.1.heat)) in
-    let fits : SFits w32 (weighed c.args.self (low c.args.values)) = word_fits (rule_of c.args.self) (low c.args.values) c.pair.ensures.1 (low_in c.args.values) in
-    rw (is) (to_z-of_z (fits))
+    rw (parts c.args.self (low c.args.values) c.pair.ensures.1 c.pair.type_inv c.pair.ensures.0 c.weighted_heat.type_inv c.weighted_heat.ensures)
+    (to_z-of_z (fits c.args.self c.args.values c.pair.ensures.1))
