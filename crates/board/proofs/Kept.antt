@@ -15,7 +15,7 @@ use Rattle.values.specs.declared.Values.{Values}
 use Rattle.ranking.specs.declared.Rule.{Rule}
 use Rattle.laws.proofs.Tests.{Tested, passed, failed, tested, and_both, if_so, if_not}
 use Rattle.laws.proofs.Lists.{there, get_d_in}
-use Rattle.window.specs.Rows.{sized, empty, fresh_window, refusal_in, window_in, fit_window, added}
+use Rattle.window.specs.Rows.{sized, fresh_window, refusal_in, window_in, fit_window, added}
 use Rattle.window.proofs.History.{Since, since-fresh, since-added}
 use Rattle.question.specs.declared.Question.{Question}
 use Rattle.question.specs.Lines.{empty_slot, in_rows}

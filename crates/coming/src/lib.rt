@@ -23,23 +23,19 @@ impl Room {
 pub fn goes_on(rows: u16, bytes: &[u8], i: usize, room: usize, at: usize) -> bool
     ensures { result ≡ (comes rows bytes.now i && has_room room at) }
 {
-    if has_room(room, at) {
-        return comes(rows, bytes, i);
-    }
-    false
+    has_room(room, at) && comes(rows, bytes, i)
 }
 
 // Whether a room has space for what one item prints, from `at` on.
+#[tactic(auto, unfolding(crate::specs::Coming::has_room))]
 pub fn has_room(room: usize, at: usize) -> bool
     ensures { result ≡ has_room room at }
 {
-    if room < Room::MOST {
-        return false;
-    }
-    at <= room - Room::MOST
+    Room::MOST <= room && at <= room - Room::MOST
 }
 
 // Whether a tag is a frame's.
+#[tactic(auto, unfolding(crate::specs::Coming::is_frame))]
 pub fn is_frame(tag: u8) -> bool
     ensures { result ≡ is_frame tag }
 {
@@ -47,47 +43,35 @@ pub fn is_frame(tag: u8) -> bool
 }
 
 // Whether there is a window, of that many rows, and a frame or an item for a slot comes at a place: such an item is done in place.
+#[tactic(auto, using(crate::proofs::Coming::none_past), unfolding(crate::specs::Coming::comes))]
 pub fn comes(rows: u16, bytes: &[u8], i: usize) -> bool
     ensures { result ≡ comes rows bytes.now i }
 {
-    if bytes.len() < i {
+    if bytes.len() < i || rows < Window::SMALLEST || Window::LARGEST < rows {
         return false;
     }
-    if rows < Window::SMALLEST {
-        return false;
-    }
-    if Window::LARGEST < rows {
-        return false;
-    }
-    if frame_comes(bytes, i) {
-        return true;
-    }
-    slot_comes(bytes, i)
+    frame_comes(bytes, i) || slot_comes(bytes, i)
 }
 
 // Whether a frame comes at a place, without a time or with one.
+#[tactic(auto, unfolding(crate::specs::Coming::frame_comes))]
 fn frame_comes(bytes: &[u8], i: usize) -> bool
     requires { i ≤ length bytes.now }
     ensures { result ≡ frame_comes bytes.now i }
 {
-    if item_comes(bytes, i, Item::FRAME, Item::FRAME_SIZE) {
-        return true;
-    }
-    item_comes(bytes, i, Item::TIMED, Item::TIMED_SIZE)
+    item_comes(bytes, i, Item::FRAME, Item::FRAME_SIZE)
+        || item_comes(bytes, i, Item::TIMED, Item::TIMED_SIZE)
 }
 
 // Whether a whole item of that tag and length stands at a place.
+#[tactic(auto, unfolding(crate::specs::Coming::item_comes))]
 fn item_comes(bytes: &[u8], i: usize, tag: u8, size: usize) -> bool
     requires { (i ≤ length bytes.now) × (size ≤ 16) }
     ensures { result ≡ item_comes bytes.now i tag size }
 {
-    if bytes.len() - i < Field::HEAD + size {
-        return false;
-    }
-    if wire::byte(bytes, i) != tag {
-        return false;
-    }
-    (wire::read16(bytes, i + 1) as usize) == size
+    Field::HEAD + size <= bytes.len() - i
+        && wire::byte(bytes, i) == tag
+        && wire::read16(bytes, i + 1) as usize == size
 }
 
 // Whether an item for a slot that there is comes at a place.
@@ -95,36 +79,25 @@ fn slot_comes(bytes: &[u8], i: usize) -> bool
     requires { i ≤ length bytes.now }
     ensures { result ≡ slot_comes bytes.now i }
 {
-    if Board::SLOTS <= wire::byte(bytes, i + Field::HEAD) {
-        return false;
-    }
     let tag = wire::byte(bytes, i);
     let size = slot_size(tag);
     if size == 0 {
         return false;
     }
-    item_comes(bytes, i, tag, size)
+    wire::byte(bytes, i + Field::HEAD) < Board::SLOTS && item_comes(bytes, i, tag, size)
 }
 
 // The length of an item of that tag, if it is for a slot; 0, where it isn't.
+#[tactic(auto, unfolding(crate::specs::Inner::slot_size))]
 fn slot_size(tag: u8) -> usize
     ensures { result ≡ slot_size tag }
 {
-    if tag == Item::SHOW {
-        return Item::SHOW_SIZE;
-    }
-    if tag == Item::REMOVE {
-        return Item::REMOVE_SIZE;
-    }
-    if tag == Item::SET {
-        return Item::SET_SIZE;
-    }
-    if tag == Item::SET_HEAT {
-        return Item::SET_HEAT_SIZE;
-    }
-    if tag == Item::SET_TIES {
-        Item::SET_TIES_SIZE
-    } else {
-        0
+    match tag {
+        Item::SHOW => Item::SHOW_SIZE,
+        Item::REMOVE => Item::REMOVE_SIZE,
+        Item::SET => Item::SET_SIZE,
+        Item::SET_HEAT => Item::SET_HEAT_SIZE,
+        Item::SET_TIES => Item::SET_TIES_SIZE,
+        _ => 0,
     }
 }

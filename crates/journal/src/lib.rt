@@ -293,11 +293,11 @@ impl Log {
 }
 
 // The number of the item behind that many.
+#[tactic(auto, unfolding(crate::specs::Log::next_item))]
 pub fn next_item(items: u64) -> u64
     ensures { result ≡ next_item items }
 {
-    let most: u64 = 18446744073709551615;
-    if items < most { items + 1 } else { most }
+    items.saturating_add(1)
 }
 
 // The rule of a question that is to be set.

@@ -1,7 +1,7 @@
 // A log that comes in pieces of any size: what has come of the next item waits, and whole items are done as they come.
 #![tactic(auto)]
 
-ghost use Rattle.std.specs.Prelude.{◌≡◌, ◌&&◌, ◌+◌, min, ltb, eqb, get_or, drop};
+ghost use Rattle.std.specs.Prelude.{◌≡◌, ◌&&◌, ltb, eqb, get_or, drop};
 ghost use Rattle.std.proofs.lemmas.List.Edits.{sets};
 ghost use Rattle.text.specs.Text.{behind};
 ghost use Rattle.journal.specs.Log.{Stores, item_done};
@@ -44,14 +44,16 @@ impl Waiting {
     }
 
     // One byte more.
+    #[tactic(auto, unfolding(crate::specs::Machine::with_byte))]
     fn with_byte(self, b: u8) -> Waiting
         ensures { result ≡ with_byte self b }
     {
-        let have = self.have;
         let mut bytes = self.bytes;
-        wire::put(&mut bytes, have as usize, b);
-        let more = one_more(have);
-        Waiting { bytes, have: more }
+        wire::put(&mut bytes, self.have as usize, b);
+        Waiting {
+            bytes,
+            have: self.have.saturating_add(1).min(Waiting::LONGEST),
+        }
     }
 
     // Whether the item has come whole.
@@ -137,38 +139,19 @@ fn value_end(size: u16) -> usize
 fn behind_head(s: &[u8]) -> &[u8]
     ensures { result.now ≡ drop 3 s.now }
 {
-    if s.len() < Field::HEAD {
-        return &s[s.len()..];
-    }
-    &s[Field::HEAD..]
-}
-
-fn one_more(have: u32) -> u32
-    ensures { result ≡ min (have + 1) 65538 }
-{
-    if have < Waiting::LONGEST {
-        have + 1
-    } else {
-        Waiting::LONGEST
-    }
+    &s[Field::HEAD.min(s.len())..]
 }
 
 // Whether a piece of that length has a byte more, and a room of that length space for what one item prints.
 fn goes_on(len: usize, i: usize, room: usize, at: usize) -> bool
     ensures { result ≡ (ltb i len && has_room room at) }
 {
-    if i < len {
-        return coming::has_room(room, at);
-    }
-    false
+    i < len && coming::has_room(room, at)
 }
 
 // Whether nothing waits, and the bytes start with an item that is done where the log stands.
 fn starts(have: u32, rows: u16, bytes: &[u8]) -> bool
     ensures { result ≡ (eqb have 0 && comes rows bytes.now 0) }
 {
-    if have != 0 {
-        return false;
-    }
-    coming::comes(rows, bytes, 0)
+    have == 0 && coming::comes(rows, bytes, 0)
 }

@@ -19,7 +19,7 @@ use Rattle.ranking.specs.Standing.{Held}
 use Rattle.laws.proofs.Tests.{Tested, passed, failed, tested, clash, if_so}
 use Rattle.window.specs.declared.Window.{Window}
 use Rattle.window.specs.declared.Place.{Place}
-use Rattle.window.specs.Rows.{sized, values_at, report_at, standing, added, place_for}
+use Rattle.window.specs.Rows.{sized, values_at, report_at, rows_with, standing, added, place_for}
 use Rattle.window.proofs.Fitness.{size_range, added-taken}
 use Rattle.question.specs.declared.Question.{Question}
 use Rattle.question.specs.Lines.{in_rows}
@@ -206,7 +206,7 @@ module _ (log : Log) (window : sized log.board.window.counts.size ≡ true) (tag
 
     -- The report's row takes it.
     pub row_takes : {p : Place} → p ≡ place_for log.board.window.counts
-        → record { rows = record { losses = set log.board.window.rows.losses p.row b.row.loss; shakes = set log.board.window.rows.shakes p.row b.row.shake; names = set log.board.window.rows.names p.row b.row.name }; counts = record { size = log.board.window.counts.size; entered = b.number; held = p.held } } ≡ added log.board.window (values b)
+        → record { rows = rows_with log.board.window.rows p.row b.row; counts = record { size = log.board.window.counts.size; entered = b.number; held = p.held } } ≡ added log.board.window (values b)
     unfolding place_for
     row_takes placed =
         let w = log.board.window in

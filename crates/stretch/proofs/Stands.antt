@@ -209,7 +209,7 @@ module _ (log₀ : Log) (bytes out₀ : List ℕ) (at₀ : ℕ) where
           → Turns b (window_of (record { size = w.counts.size; entered = b.number; held = r.held }) new) items₁ rows₁ slots used out₁ at₁ 0 slots gauges at₁ out₁
       turns-begin {r} e-r {rows₁ = rows₁} st p =
           turns-none l.gauged l.all_slots (omega (arith, kept (put p), l.same, small)) (place_fits (put p))
-          (subst (λ (ns : List ℕ). Rowed ns rows₁) (sym st.names) (rowed_with l.rowed r.row b.row.name (row_there e-r) st.used))
+          (subst (λ (ns : List ℕ). Rowed ns rows₁) (sym (ap (λ (r : Rows). r.names) st.rows)) (rowed_with l.rowed r.row b.row.name (row_there e-r) st.used))
 
       -- It brings no report.
       pub stands_none : b.number ≡ 0 → {at₁ i₁ : ℕ} {out₁ : List ℕ} → (at₁ ≡ behind at (cond b.refused (r_line items₁ b.code) [])) × (out₁ ≡ sets out at (cond b.refused (r_line items₁ b.code) [])) → i₁ ≡ i + (3 + frame_size tag)
@@ -233,7 +233,7 @@ module _ (log₀ : Log) (bytes out₀ : List ℕ) (at₀ : ℕ) where
       stands_enters positive {r} e-r {new} {rows₁} st {at₁} {i₁} {out₁} p e-i {n} {at₂} {slots₂} {gauges₂} {out₂} m end_of_lem =
           let fuller : Window = window_of (record { size = w.counts.size; entered = b.number; held = r.held }) new in
           let grown : fuller ≡ added w (values b) =
-          (λ j. record { rows = record { losses = st.losses j; shakes = st.shakes j; names = st.names j }; counts = record { size = w.counts.size; entered = b.number; held = r.held } })
+          (λ j. record { rows = st.rows j; counts = record { size = w.counts.size; entered = b.number; held = r.held } })
           ∙ row_takes log window tag v (frame_of tag v) done e-items left brings positive e-r in
           let idle : (k : ℕ) → n ≤ k → k < length slots → record { searched = false; steps = 0; question = get_or slots k no_question } ≡ turn b fuller (get_or slots k no_question) =
           λ k h f. turn_idle b fuller (get_or slots k no_question) (l.gauged.idle k (omega (arith, m.within)) (omega (arith, l.all_slots))) in

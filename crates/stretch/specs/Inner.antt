@@ -1,10 +1,11 @@
 -- What the inner functions of `stretch` answer, and what its proofs speak of; no public contract and no promise cites it.
-use Rattle.std.specs.Prelude.{ℕ, ◌+◌, Bool, true, false, not, cond, ◌≡◌, ◌⊎◌, List, set, length, leb, eqb}
+use Rattle.std.specs.Prelude.{ℕ, ◌+◌, Bool, true, false, not, cond, ◌≡◌, ◌⊎◌, List, length, leb, eqb}
 use Rattle.std.proofs.lemmas.List.Edits.{sets}
 use Rattle.window.specs.declared.Counts.{Counts}
 use Rattle.window.specs.declared.Row.{Row}
 use Rattle.window.specs.declared.Rows.{Rows}
 use Rattle.window.specs.declared.Window.{Window}
+use Rattle.window.specs.Rows.{rows_with}
 use Rattle.slot.specs.Gauges.{up_to_last}
 use Rattle.board.specs.Work.{arrival}
 use Rattle.text.specs.Text.{behind}
@@ -34,9 +35,7 @@ with_row rows row = cond (leb rows row) (row + 1) rows
 -- A report is stored in its row, and so many rows are in use then.
 pub record Stored (rows₀ : Rows) (filled row : ℕ) (report : Row) (n : ℕ) (rows₁ : Rows) : Type 0 where
   pub used : n ≡ with_row filled row
-  pub losses : rows₁.losses ≡ set rows₀.losses row report.loss
-  pub shakes : rows₁.shakes ≡ set rows₀.shakes row report.shake
-  pub names : rows₁.names ≡ set rows₀.names row report.name
+  pub rows : rows₁ ≡ rows_with rows₀ row report
 
 -- No report, and the line of a refusal or none.
 abbrev pub not_brought : Bool → ℕ → Brought

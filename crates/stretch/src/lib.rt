@@ -212,30 +212,24 @@ fn value_at(bytes: &[u8], i: usize) -> &[u8]
 }
 
 // How many rows there are up to the last one with a name.
-fn rows_in<'a>(names: &'a [u32; Window::ROWS]) -> usize
+fn rows_in(names: &[u32; Window::ROWS]) -> usize
     ensures { result ≡ rows_used row_count names.now }
 {
-    let mut rows = Window::ROWS;
-    while 0 < rows {
-        let last = rows - 1;
-        if names[last] != 0 {
-            return rows;
+    for at in (0..Window::ROWS).rev() {
+        if names[at] != 0 {
+            return at + 1;
         }
-        rows = last;
     }
     0
 }
 
 // Stores a report in its row: how many rows there are then up to the last one with a name.
 fn put_row(rows: &mut Rows, filled: usize, place: Place, report: Row) -> usize
-    requires { place.row < row_count }
     ensures { Stored rows.old filled place.row report result rows.new }
 {
     let row = place.row as usize;
-    rows.losses[row] = report.loss;
-    rows.shakes[row] = report.shake;
-    rows.names[row] = report.name;
-    if filled <= row { row + 1 } else { filled }
+    rows.put(row, report);
+    filled.max(row + 1)
 }
 
 // Begins with the frame at a place: a time in it is met.

@@ -17,23 +17,21 @@ no_slot {s} {n} e h = le-ltb n 32 (omega arith)
 a_slot : {s n : ℕ} → s ≡ n → s < 32 → ltb n 32 ≡ true
 a_slot {s} {n} e h = lt-ltb n 32 (omega arith)
 
-pub returns-then-byte-ge-SLOTS : goal.returns-then-byte-ge-SLOTS
-unfolding slot_comes
-returns-then-byte-ge-SLOTS c = rw (no_slot c.byte.ensures c.if-byte-ge-SLOTS.true, and-false)
-
 pub returns-then-size-eq0 : goal.returns-then-size-eq0
 returns-then-size-eq0 c =
-    let a = c.args in
     let size = c.slot_size-size.ensures ∙ ap slot_size c.byte-tag.ensures in
     rw (slot_tag c.args.bytes.now c.args.i, eq-eqb _ 0 (sym size ∙ c.if-size-eq0.true))
 
 pub item_comes-requires : goal.item_comes-requires
 item_comes-requires c = (c.requires, rw c.slot_size-size.ensures (slot_small c.byte-tag.result))
 
-pub returns : goal.returns
-returns c =
-    let a = c.args in
+pub returns-then-byte-lt-SLOTS : goal.returns-then-byte-lt-SLOTS
+returns-then-byte-lt-SLOTS c =
     let tag = c.byte-tag.ensures in
     let size = c.slot_size-size.ensures ∙ ap slot_size tag in
-    rw (slot_tag c.args.bytes.now c.args.i, ne_eqb _ 0 (λ e. c.if-size-eq0.false (size ∙ e)), a_slot c.byte.ensures c.if-byte-ge-SLOTS.false, and-true)
+    rw (slot_tag c.args.bytes.now c.args.i, ne_eqb _ 0 (λ e. c.if-size-eq0.false (size ∙ e)), a_slot c.byte.ensures c.if-byte-lt-SLOTS.true, and-true)
     (c.item_comes.ensures ∙ ap₂ (item_comes c.args.bytes.now c.args.i) tag size)
+
+pub returns-else-byte-lt-SLOTS : goal.returns-else-byte-lt-SLOTS
+unfolding slot_comes
+returns-else-byte-lt-SLOTS c = rw (no_slot c.byte.ensures c.if-byte-lt-SLOTS.false, and-false) (le-ltb _ _ c.if-byte-lt-SLOTS.false)

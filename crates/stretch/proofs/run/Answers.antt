@@ -18,7 +18,7 @@ use Rattle.coming.proofs.Coming.{Framed, Slot}
 use Rattle.stretch.proofs.Going.{went_none}
 use Rattle.stretch.proofs.Gauging.{gauged_of}
 use Rattle.stretch.proofs.Rowing.{rowed_of}
-use Rattle.stretch.proofs.Stands.{turns_quiet, turns_more, item_there, slot_there, frame_there, row_there, stands_slot, stands_none, turns-begin, stands_enters, stands_runs}
+use Rattle.stretch.proofs.Stands.{turns_quiet, turns_more, item_there, slot_there, frame_there, stands_slot, stands_none, turns-begin, stands_enters, stands_runs}
 use borrow.Author.Rules.{rules}
 use Rattle.coming.specs.Inner.{frame_size}
 use Rattle.stretch.specs.Inner.{frame_of, log_in}
@@ -194,16 +194,6 @@ loop-gauges-preserved-then-brought-eq0 c =
       due,
     )
 
-pub put_row-filled-requires : goal.put_row-filled-requires
-put_row-filled-requires c =
-    let small : length c.args.out.now < 2 ^ 64 = search rules in
-    let a_frame : is_frame ((get_or c.args.bytes.now c.loop-gauges.i 0)) ≡ true = sym c.is_frame.ensures ∙ not-false _ (ap not c.if-not-is_frame.false) in
-    let frame-comes : Framed c.args.bytes.now c.loop-gauges.i ((get_or c.args.bytes.now c.loop-gauges.i 0)) = frame_there _ _ _ _ (small) c.loop-gauges.invariant.0 c.goes_on.ensures c.loop-gauges-test.true refl c.next_item-items.ensures (a_frame) in
-    let frame_is : (frame_in (part (c.begin-begun.result.place + 3) 12 c.args.bytes.now)).frame
-    ≡ (frame_of ((get_or c.args.bytes.now c.loop-gauges.i 0)) (part (c.loop-gauges.i + 3) (frame_size ((get_or c.args.bytes.now c.loop-gauges.i 0))) c.args.bytes.now)).frame = times.frame_there (frame-comes).which _ _ _ c.begin-begun.ensures.ends in
-    row_there _ _ _ _ (small) c.loop-gauges.invariant.0 c.goes_on.ensures c.loop-gauges-test.true refl c.next_item-items.ensures (a_frame)
-    refl (hears_then c.begin-begun.ensures c.if-begun-ne0.false (frame_is) c.hear-brought.ensures) c.place-place.ensures
-
 pub loop-slot-init : goal.loop-slot-init
 loop-slot-init c =
     let small : length c.args.out.now < 2 ^ 64 = search rules in
@@ -236,49 +226,8 @@ loop-gauges-preserved c =
       due,
     )
 
-pub bounds-gauges-slot : goal.bounds-gauges-slot
-bounds-gauges-slot c =
-    let in_array : c.loop-slot.slot < 32 = omega (arith, c.loop-slot.invariant.few) in
-    in_array
-
-pub overflow_step-slot : goal.overflow_step-slot
-overflow_step-slot c =
-    let in_array : c.loop-slot.slot < 32 = omega (arith, c.loop-slot.invariant.few) in
-    omega (arith, in_array)
-
-pub loop-slot-smaller-then-quiet : goal.loop-slot-smaller-then-quiet
-loop-slot-smaller-then-quiet c = omega arith
-
 pub loop-slot-preserved-then-quiet : goal.loop-slot-preserved-then-quiet
 loop-slot-preserved-then-quiet c = turns_quiet c.loop-slot.invariant (omega arith) _ c.values-values.ensures c.quiet.ensures c.if-quiet.true
-
-pub bounds-slots-slot : goal.bounds-slots-slot
-bounds-slots-slot c =
-    let in_array : c.loop-slot.slot < 32 = omega (arith, c.loop-slot.invariant.few) in
-    in_array
-
-pub overflow_cast-slot : goal.overflow_cast-slot
-overflow_cast-slot c =
-    let in_array : c.loop-slot.slot < 32 = omega (arith, c.loop-slot.invariant.few) in
-    omega (arith, in_array)
-
-pub bounds-slots-slot-in-loop-slot : goal.bounds-slots-slot-in-loop-slot
-bounds-slots-slot-in-loop-slot c =
-    let in_array : c.loop-slot.slot < 32 = omega (arith, c.loop-slot.invariant.few) in
-    in_array
-
-pub bounds-gauges-slot-in-loop-slot : goal.bounds-gauges-slot-in-loop-slot
-bounds-gauges-slot-in-loop-slot c =
-    let in_array : c.loop-slot.slot < 32 = omega (arith, c.loop-slot.invariant.few) in
-    in_array
-
-pub overflow_step-slot-in-loop-slot : goal.overflow_step-slot-in-loop-slot
-overflow_step-slot-in-loop-slot c =
-    let in_array : c.loop-slot.slot < 32 = omega (arith, c.loop-slot.invariant.few) in
-    omega (arith, in_array)
-
-pub loop-slot-smaller : goal.loop-slot-smaller
-loop-slot-smaller c = omega (arith, c.loop-slot.invariant.within)
 
 pub loop-slot-preserved : goal.loop-slot-preserved
 loop-slot-preserved c = turns_more c.loop-slot.invariant (omega arith) c.turn-turned.ensures (c.put_search-at.ensures.value, c.put_search-at.ensures.out_after) c.of-in-loop-slot.ensures
