@@ -8,6 +8,7 @@ use board::{Board, Entered};
 use orders::{BoardOrder, Setting};
 use question::Question;
 use ranking::{Rule, Weights};
+use refusal::Refusal;
 use replies::{put, put_counted, put_heat, put_mark, put_number, put_scored, refused};
 use slot::Shown;
 use values::{Edition, Name, Values};
@@ -91,21 +92,28 @@ fn done(refusal: u8, out: &mut [u8]) -> usize {
 
 fn begin(board: Board, slot: u8, out: &mut [u8]) -> Left {
     let answer = pokes::slot(&board, slot).begin(board.window);
-    let question = answer.question;
-    let end = done(answer.refusal, out);
-    Left {
-        board: pokes::with_slot(board, slot, question),
-        end,
-    }
+    moved(board, slot, answer, out)
 }
 
 fn step(board: Board, slot: u8, out: &mut [u8]) -> Left {
     let answer = pokes::slot(&board, slot).step(board.window);
-    let question = answer.question;
-    let end = done(answer.refusal, out);
-    Left {
-        board: pokes::with_slot(board, slot, question),
-        end,
+    moved(board, slot, answer, out)
+}
+
+// The slot's question as a step or a beginning leaves it; a refusal leaves the board.
+fn moved(board: Board, slot: u8, answer: Result<Question, Refusal>, out: &mut [u8]) -> Left {
+    match answer {
+        Ok(question) => {
+            let end = done(0, out);
+            Left {
+                board: pokes::with_slot(board, slot, question),
+                end,
+            }
+        }
+        Err(refusal) => {
+            let end = done(refusal.number(), out);
+            Left { board, end }
+        }
     }
 }
 

@@ -22,7 +22,6 @@ use Rattle.list.specs.Lines.{lines_of, all_of, falls, blank}
 use Rattle.question.specs.declared.Question.{Question}
 use Rattle.question.specs.Lines.{lines, asked, in_cell, finished, begun, stepped, in_rows, step_on}
 use Rattle.question.specs.Calls.{held_as, next_fits, ranges_fit, fit_question, step_call, begin_call}
-use Rattle.question.specs.Inner.{step_refusal}
 use Rattle.question.proofs.Taking.{same-behind, step_is}
 use Rattle.question.proofs.Ending.{finished-none}
 
@@ -143,69 +142,3 @@ module _ (w : Window) (q : Question) where
   pub begin_goes : fit_window w ≡ true → fit_question w q ≡ true → finished q ≡ true → begin_call w q ≡ record { refusal = 0; question = begun q }
   unfolding begin_call
   begin_goes e f g = rw (e, f, g)
-
--- ---- the answers by what a step is refused with
-
--- which case it is
-data State (w : Window) (q : Question) : ℕ → Type 0 where
-  unfit : fit_window w && fit_question w q ≡ false → State w q 24
-  ended : fit_window w ≡ true → fit_question w q ≡ true → finished q ≡ true → State w q 25
-  going : fit_window w ≡ true → fit_question w q ≡ true → finished q ≡ false → State w q 0
-
-module _ (w : Window) (q : Question) where
-  state : State w q (step_refusal w q)
-  unfolding step_refusal
-  state = go (tested (fit_window w && fit_question w q)) (tested (finished q))
-    where
-      go : Tested (fit_window w && fit_question w q) → Tested (finished q) → State w q (step_refusal w q)
-      go (failed e) t = rw e (unfit e)
-      go (passed e) (passed t) = let both = and_both (fit_window w) (fit_question w q) e in rw (e, t) (ended both.0 both.1 t)
-      go (passed e) (failed t) = let both = and_both (fit_window w) (fit_question w q) e in rw (e, t) (going both.0 both.1 t)
-
-  module _ (r : ℕ) (is : r ≡ step_refusal w q) where
-    known : State w q r
-    known = subst (State w q) (sym is) state
-
-    pub step-refused : (r ≡ 0 → ⊥) → record { refusal = r; question = q } ≡ step_call w q
-    step-refused positive = go known positive
-      where
-        go : {n : ℕ} → State w q n → (n ≡ 0 → ⊥) → record { refusal = n; question = q } ≡ step_call w q
-        go (unfit e) h = sym (step_unfit w q e)
-        go (ended e f g) h = sym (step-ended w q e f g)
-        go (going e f g) h = absurd (h refl)
-
-    pub step_done : r ≡ 0 → record { refusal = 0; question = step_on q w } ≡ step_call w q
-    step_done none = go known none
-      where
-        go : {n : ℕ} → State w q n → n ≡ 0 → record { refusal = 0; question = step_on q w } ≡ step_call w q
-        go (unfit e) h = absurd (no h)
-          where
-            no : ◌≡◌ {A = ℕ} 24 0 → ⊥
-            no z = omega arith
-        go (ended e f g) h = absurd (no h)
-          where
-            no : ◌≡◌ {A = ℕ} 25 0 → ⊥
-            no z = omega arith
-        go (going e f g) h = sym (step_goes w q e f g)
-
-    pub begin-refused : (r ≡ 25 → ⊥) → record { refusal = 24; question = q } ≡ begin_call w q
-    begin-refused other = go known other
-      where
-        go : {n : ℕ} → State w q n → (n ≡ 25 → ⊥) → record { refusal = 24; question = q } ≡ begin_call w q
-        go (unfit e) h = sym (begin_unfit w q (ap (λ b. b && finished q) e))
-        go (ended e f g) h = absurd (h refl)
-        go (going e f g) h = sym (begin_unfit w q (ap (λ b. fit_window w && fit_question w q && b) g ∙ and-false (fit_window w && fit_question w q)))
-
-    pub begin_done : r ≡ 25 → record { refusal = 0; question = begun q } ≡ begin_call w q
-    begin_done all = go known all
-      where
-        go : {n : ℕ} → State w q n → n ≡ 25 → record { refusal = 0; question = begun q } ≡ begin_call w q
-        go (unfit e) h = absurd (no h)
-          where
-            no : ◌≡◌ {A = ℕ} 24 25 → ⊥
-            no z = omega arith
-        go (ended e f g) h = sym (begin_goes w q e f g)
-        go (going e f g) h = absurd (no h)
-          where
-            no : ◌≡◌ {A = ℕ} 0 25 → ⊥
-            no z = omega arith

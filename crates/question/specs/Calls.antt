@@ -1,5 +1,5 @@
 -- Which questions are fit, and what a step and a beginning answer (docs/RULES.md, section 9).
-use Rattle.std.specs.Prelude.{ℕ, ◌+◌, ◌/◌, min, Bool, cond, ◌&&◌, ◌||◌, drop, leb, ltb, eqb}
+use Rattle.std.specs.Prelude.{ℕ, ◌+◌, ◌/◌, min, Bool, cond, ◌&&◌, ◌||◌, drop, leb, ltb, eqb, Result, Ok, Err}
 use Rattle.laws.specs.Whole.{equal}
 use Rattle.values.specs.Names.{editions}
 use Rattle.ranking.specs.declared.Rule.{Rule}
@@ -12,7 +12,8 @@ pub use Rattle.list.specs.Lines.{all_of}
 use Rattle.list.specs.Lines.{most_lines, lines_of, falls, blank}
 use Rattle.question.specs.Lines.{lines, finished, begun, stepped}
 use Rattle.question.specs.declared.Question.{Question}
-use Rattle.question.specs.declared.Stepped.{Stepped}
+use Rattle.refusal.specs.declared.Refusal.{Refusal}
+use Rattle.refusal.specs.declared.Refusal.TheVariants.{Unfit, SearchFinished}
 
 -- A window of these counts holds the report of number m: numbers start at 1 (rule 5.2), and the held ones are the latest.
 unfoldable pub holds_number : Counts → ℕ → Bool
@@ -43,6 +44,15 @@ fit_question w q =
     && all_of (held_as w q.rule) (lines q)
     && falls (above q.rule) (lines q)
     && all_of blank (drop q.len (lines_of q.names q.scores))
+
+-- What a step or a beginning comes to: the refusal's number, or 0, and the question as it leaves it.
+pub record Stepped : Type 0 where
+  pub refusal : ℕ
+  pub question : Question
+
+-- As it is answered: the question, or the refusal of that number, which leaves the one handed in.
+abbrev pub answered : Stepped → Result Question Refusal
+answered s = cond (eqb s.refusal 0) (Ok s.question) (Err (cond (eqb s.refusal 25) SearchFinished Unfit))
 
 -- Rules 7.7 and 9.4: a step, refused 24, then 25; a refusal hands the question back.
 unfoldable pub step_call : Window → Question → Stepped

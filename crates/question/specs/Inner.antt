@@ -2,10 +2,9 @@
 use Rattle.std.specs.Prelude.{ℕ, min, cond, ◌&&◌, eqb}
 use Rattle.ranking.specs.Standing.{Held, is_counted, entry}
 use Rattle.window.specs.declared.Window.{Window}
-use Rattle.window.specs.Rows.{standing, fit_window}
+use Rattle.window.specs.Rows.{standing}
 use Rattle.list.specs.Lines.{most_lines}
-use Rattle.question.specs.Lines.{with_list, in_cell, stepped_lines, finished, cut_with}
-use Rattle.question.specs.Calls.{fit_question}
+use Rattle.question.specs.Lines.{with_list, in_cell, stepped_lines, cut_with}
 use Rattle.question.specs.declared.Question.{Question}
 
 -- How many lines there are.
@@ -20,7 +19,3 @@ taking q h =
 -- The best k of the lines and of the next cell's reports in the first `n` rows.
 abbrev pub list_taken : Question → Window → ℕ → Question
 list_taken q w n = with_list q (stepped_lines q (standing w n))
-
--- What a step is refused with; 0, where it goes on.
-unfoldable pub step_refusal : Window → Question → ℕ
-step_refusal w q = cond (fit_window w && fit_question w q) (cond (finished q) 25 0) 24

@@ -8,11 +8,12 @@ ghost use Rattle.window.specs.Rows.{row_count, report_at};
 ghost use Rattle.list.specs.Lines.{most_lines, lines_of, all_of, blank};
 ghost use Rattle.list.specs.Rows.{rows_in};
 ghost use Rattle.question.specs.Lines.{asked, list_of, holding, with_list, lines, empty_slot, with_entry, cut_to_k, finished, begun, step_on, searched_on, searched_first, steps_taken, is_marked, is_past, marks_of, ended_of, with_next, cut_with};
-ghost use Rattle.question.specs.Calls.{holds_number, held_as, next_fits, ranges_fit, fit_question, step_call, begin_call};
-ghost use Rattle.question.specs.Inner.{taking, list_taken, step_refusal};
+ghost use Rattle.question.specs.Calls.{holds_number, held_as, next_fits, ranges_fit, fit_question, step_call, begin_call, answered};
+ghost use Rattle.question.specs.Inner.{taking, list_taken};
 
 use list::{Lines, gathered};
 use ranking::{Grid, Rule};
+use refusal::Refusal;
 use values::Name;
 use window::{Counts, Row, Rows, Window};
 
@@ -36,23 +37,12 @@ pub struct Searched {
     pub question: Question,
 }
 
-// What a step or a beginning answers: the refusal's number, or 0, and the question as it leaves it.
-#[derive(Clone, Copy)]
-pub struct Stepped {
-    pub refusal: u8,
-    pub question: Question,
-}
-
 impl Question {
     // A list's room, and the largest k.
     pub const LINES: u8 = 16;
 
     // One for each cell.
     pub const MARKS: usize = 256;
-
-    pub const UNFIT: u8 = 24;
-
-    pub const FINISHED: u8 = 25;
 
     // An empty slot.
     pub fn fresh() -> Question
@@ -310,54 +300,29 @@ impl Question {
 
     // The next cell is marked, and its reports join the list. Refused 24 where the window or the question is unfit, 25
     // where the search has ended.
-    pub fn step(self, window: Window) -> Stepped
-        ensures { result ≡ step_call window self }
+    #[tactic(auto, unfolding(crate::specs::Calls::step_call))]
+    pub fn step(self, window: Window) -> Result<Question, Refusal>
+        ensures { result ≡ answered (step_call window self) }
     {
-        let refusal = self.step_refusal(window);
-        if refusal != 0 {
-            return self.refused(refusal);
+        if !(window.fit() && self.fit(window)) {
+            return Err(Refusal::Unfit);
         }
-        Stepped {
-            refusal: 0,
-            question: self.stepped(window),
+        if self.finished() {
+            return Err(Refusal::SearchFinished);
         }
+        Ok(self.stepped(window))
     }
 
     // The search anew: no lines, no marks. Refused 24 where the window or the question is unfit, and so it is while its
     // search has not ended.
-    pub fn begin(self, window: Window) -> Stepped
-        ensures { result ≡ begin_call window self }
+    #[tactic(auto, unfolding(crate::specs::Calls::begin_call))]
+    pub fn begin(self, window: Window) -> Result<Question, Refusal>
+        ensures { result ≡ answered (begin_call window self) }
     {
-        if self.step_refusal(window) == Question::FINISHED {
-            return Stepped {
-                refusal: 0,
-                question: self.begun(),
-            };
-        }
-        self.refused(Question::UNFIT)
-    }
-
-    // What a step is refused with; 0, where it goes on.
-    fn step_refusal(self, window: Window) -> u8
-        ensures { result ≡ step_refusal window self }
-    {
-        if window.fit() {
-            if self.fit(window) {
-                if self.finished() {
-                    return Question::FINISHED;
-                }
-                return 0;
-            }
-        }
-        Question::UNFIT
-    }
-
-    fn refused(self, refusal: u8) -> Stepped
-        ensures { result ≡ record { refusal = refusal; question = self } }
-    {
-        Stepped {
-            refusal,
-            question: self,
+        if window.fit() && self.fit(window) && self.finished() {
+            Ok(self.begun())
+        } else {
+            Err(Refusal::Unfit)
         }
     }
 

@@ -18,9 +18,8 @@ use Rattle.window.specs.declared.Window.{Window}
 use Rattle.window.specs.Rows.{held_reports, fit_window}
 use Rattle.question.specs.declared.Question.{Question}
 use Rattle.question.specs.declared.Searched.{Searched}
-use Rattle.question.specs.declared.Stepped.{Stepped}
 use Rattle.question.specs.Lines.{asked, steps_taken, is_marked, finished, searched, in_rows}
-use Rattle.question.specs.Calls.{step_call}
+use Rattle.question.specs.Calls.{Stepped, step_call}
 use Rattle.question.proofs.Steps.{reached}
 use Rattle.question.proofs.Searches.{Found, search_finds, searched-is, whole_search}
 use Rattle.slot.specs.Asking.{searched_among, set_in}

@@ -6,11 +6,13 @@ use mathlib.Core.List.{List, [], ◌∷◌, ◌++◌, map}
 use Prim.Native.Nat.{ℕ, zero, suc, ◌+◌, ◌-◌, min, ◌≤◌, ◌<◌}
 use native.Mathlib.Nat.{not-suc-le-zero, le_of_suc-le-suc}
 use mathlib.Core.Logic.{⊎_elim}
+use native.Mathlib.Numerals.{add-one}
 use native.Mathlib.Omega.{arith}
 use borrow.Author.Tests.{lt-ltb, le-ltb, ltb-true, eqb-true, eqb-false, not-true}
 use lib.Dec.{ltb, eqb}
 use lib.IntN.{ℤ, pos}
-use lib.ListN.{length, get_or, take, drop}
+use lib.ListN.{length, get_or, take}
+use lib.Seq.{take-suc}
 use Rattle.laws.specs.Lists.{on_last}
 use Rattle.values.specs.declared.Values.{Values}
 use Rattle.ranking.specs.Cells.{sum, score, is_scored, points}
@@ -28,7 +30,7 @@ use Rattle.list.proofs.Stored.{Roomy, line_at, take_line}
 use Rattle.question.proofs.Stored.{all_lines, last_line, no_lines}
 use Rattle.slot.specs.Turn.{place_on, takes, lists}
 use Rattle.slot.specs.Gauges.{last_score, least_of, lowest, lowest_of, gauge_of, last_name, is_quiet, is_idle, up_to_last}
-use Rattle.slot.proofs.Listing.{takes_out, takes_no_place, front-names, later-names, line_left}
+use Rattle.slot.proofs.Listing.{takes_out, takes_no_place, front-names, later-names}
 
 -- ---- what the gauge is read off
 
@@ -76,9 +78,17 @@ module _ (q : Question) where
   unfolding lowest_of
   low-names full r n e = rw (le-ltb q.len q.k full) (ap lowest (front-names q r n e))
 
--- one name more, from the end
-pub low_more : (ns : List ℕ) (n i : ℕ) → n ≤ length ns → i < n → lowest (drop i (take n ns)) ≡ min (get_or ns i 0) (lowest (drop (i + 1) (take n ns)))
-low_more ns n i fits below = ap lowest (line_left ns n i fits below)
+low_last : (l : List ℕ) (n : ℕ) → lowest (l ++ n ∷ []) ≡ min (lowest l) n
+low_last [] n = omega arith
+low_last (x ∷ l) n = omega (arith, low_last l n)
+
+pub take_zero : (l : List ℕ) → take 0 l ≡ []
+take_zero [] = refl
+take_zero (x ∷ l) = refl
+
+-- one name more
+pub low_more : (l : List ℕ) (i : ℕ) → i < length l → lowest (take (i + 1) l) ≡ min (lowest (take i l)) (get_or l i 0)
+low_more l i h = ap (λ m. lowest (take m l)) (add-one i) ∙ ap lowest (take-suc l i 0 h) ∙ low_last (take i l) (get_or l i 0)
 
 -- ---- what it tells
 

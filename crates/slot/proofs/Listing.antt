@@ -9,8 +9,8 @@ use native.Mathlib.Omega.{arith}
 use borrow.Author.Tests.{lt-ltb, le-ltb, ltb-true, ltb-false}
 use lib.Dec.{ltb}
 use lib.IntN.{ℤ}
-use lib.ListN.{length, take, drop, get_or, length-take}
-use lib.Seq.{drop-cons, get_or-take}
+use lib.ListN.{length, take, drop, get_or, drop_of_length-le}
+use lib.Seq.{drop-cons}
 use Rattle.laws.proofs.Tests.{Tested, passed, failed, tested, and_after, and_stops, and_no, and_true as both_true}
 use Rattle.values.specs.declared.Values.{Values}
 use Rattle.ranking.specs.Cells.{cell, score, is_scored, points}
@@ -96,23 +96,15 @@ unfolding lists
 lists-names q gone last is r n e =
     ap not (ap (λ m. all_of (ltb m) (take n q.names)) is ∙ sym (later-names gone (lines q) ∙ ap (all_of (ltb (last_name gone))) (front-names q r n e)))
 
-module _ (ns : List ℕ) (n i : ℕ) (fits : n ≤ length ns) (below : i < n) where
-  pub line_left : drop i (take n ns) ≡ get_or ns i 0 ∷ drop (i + 1) (take n ns)
-  line_left =
-      let inside : i < length (take n ns) = omega (arith, length-take n ns) in
-      drop-cons (take n ns) i 0 inside ∙ ap (λ x. x ∷ drop (suc i) (take n ns)) (get_or-take n ns i 0 below) ∙ ap (λ m. get_or ns i 0 ∷ drop m (take n ns)) (sym (add-one i))
+module _ (l : List ℕ) (i : ℕ) (inside : i < length l) where
+  name_left : drop i l ≡ get_or l i 0 ∷ drop (i + 1) l
+  name_left = drop-cons l i 0 inside ∙ ap (λ m. get_or l i 0 ∷ drop m l) (sym (add-one i))
 
-  pub gone_here : (last : ℕ) → get_or ns i 0 ≤ last → all_of (ltb last) (drop i (take n ns)) ≡ false
-  gone_here last h = ap (all_of (ltb last)) line_left ∙ ap (λ b. b && all_of (ltb last) (drop (i + 1) (take n ns))) (le-ltb last (get_or ns i 0) h)
+  pub gone_here : (last : ℕ) → get_or l i 0 ≤ last → all_of (ltb last) (drop i l) ≡ false
+  gone_here last h = ap (all_of (ltb last)) name_left ∙ ap (λ b. b && all_of (ltb last) (drop (i + 1) l)) (le-ltb last (get_or l i 0) h)
 
-  pub gone_later : (last : ℕ) → last < get_or ns i 0 → all_of (ltb last) (drop i (take n ns)) ≡ all_of (ltb last) (drop (i + 1) (take n ns))
-  gone_later last h = ap (all_of (ltb last)) line_left ∙ ap (λ b. b && all_of (ltb last) (drop (i + 1) (take n ns))) (lt-ltb last (get_or ns i 0) h)
+  pub gone_later : (last : ℕ) → last < get_or l i 0 → all_of (ltb last) (drop i l) ≡ all_of (ltb last) (drop (i + 1) l)
+  gone_later last h = ap (all_of (ltb last)) name_left ∙ ap (λ b. b && all_of (ltb last) (drop (i + 1) l)) (lt-ltb last (get_or l i 0) h)
 
-pub none_left : (n : ℕ) (l : List ℕ) → drop n (take n l) ≡ []
-none_left zero [] = refl
-none_left zero (x ∷ l) = refl
-none_left (suc n) [] = refl
-none_left (suc n) (x ∷ l) = none_left n l
-
-pub gone_nowhere : (last : ℕ) (ns : List ℕ) (n i : ℕ) → i ≡ n → all_of (ltb last) (drop i (take n ns)) ≡ true
-gone_nowhere last ns n i e = ap (λ m. all_of (ltb last) (drop m (take n ns))) e ∙ ap (all_of (ltb last)) (none_left n ns)
+pub gone_nowhere : (last : ℕ) (l : List ℕ) (i : ℕ) → length l ≤ i → all_of (ltb last) (drop i l) ≡ true
+gone_nowhere last l i h = ap (all_of (ltb last)) (drop_of_length-le l {i = i} h)

@@ -1,6 +1,6 @@
 // What a report must pass to touch a question, kept beside the slots: an entry reads a few bytes of each question that it
 // leaves alone.
-ghost use Rattle.std.specs.Prelude.{◌≡◌, ◌&&◌, map, min, eqb};
+ghost use Rattle.std.specs.Prelude.{◌≡◌, ◌&&◌, map, eqb};
 ghost use Rattle.values.specs.Range.{low};
 ghost use Rattle.slot.specs.Gauges.{lowest_of, gauge_of, is_quiet, slot_count, in_use};
 
@@ -35,14 +35,11 @@ impl Gauge {
     }
 
     // A report of these values has no place on the list even if it counts, and none of a number up to `gone` is on it.
+    #[tactic(auto, unfolding(crate::specs::Gauges::is_quiet))]
     pub fn quiet(self, gone: u32, values: Values) -> bool
         ensures { result ≡ is_quiet self gone (low values) }
     {
-        let weights = self.weights;
-        if weights.might_pass(values, self.least) {
-            return false;
-        }
-        last_name(gone) < (self.low as u64)
+        !self.weights.might_pass(values, self.least) && last_name(gone) < u64::from(self.low)
     }
 
     // The gauge of each slot.
@@ -57,11 +54,8 @@ impl Gauge {
             low: 0,
         };
         let mut gauges = [none; Gauge::SLOTS];
-        let mut i: usize = 0;
-        while i < Gauge::SLOTS {
-            let gauge = Gauge::of(slots[i]);
-            gauges[i] = gauge;
-            i += 1;
+        for i in 0..Gauge::SLOTS {
+            gauges[i] = Gauge::of(slots[i]);
         }
         gauges
     }
@@ -70,6 +64,7 @@ impl Gauge {
     pub fn in_use(slots: [Question; Gauge::SLOTS]) -> usize
         ensures { result ≡ in_use slot_count slots }
     {
+        // Stays: a loop down; tried `rposition`, and what it promises of a run from the back didn't give the contract.
         let mut used: usize = Gauge::SLOTS;
         while 0 < used {
             let last = used - 1;
@@ -86,25 +81,14 @@ impl Gauge {
 fn lowest(question: Question) -> u32
     ensures { result ≡ lowest_of question }
 {
-    let len = question.len;
-    if len < question.k {
+    if question.len < question.k {
         return 0;
     }
-    let names = question.names;
-    let mut low: u32 = 4294967295;
-    let mut i = lines_in(len);
-    while 0 < i {
-        let here = i - 1;
-        low = lower(names[here], low);
-        i = here;
+    let mut low = u32::MAX;
+    for name in &question.names[..lines_in(question.len)] {
+        low = low.min(*name);
     }
     low
-}
-
-fn lower(a: u32, b: u32) -> u32
-    ensures { result ≡ min a b }
-{
-    if a < b { a } else { b }
 }
 
 // A slot with no k and no lines: no report changes it.

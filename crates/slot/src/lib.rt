@@ -133,16 +133,19 @@ pub fn empty_refusal(held: u8) -> u8
 }
 
 // What a slot holds that is removed; one that is empty stays.
+#[tactic(auto, unfolding(crate::specs::Asking::emptied))]
 pub fn emptied(question: Question) -> Question
     ensures { result ≡ emptied question }
 {
     if question.k == 0 {
-        return question;
+        question
+    } else {
+        Question::fresh()
     }
-    Question::fresh()
 }
 
 // The list of a slot. Refused 17.
+#[tactic(auto, unfolding(crate::specs::Asking::read_in))]
 pub fn read_in(question: Question) -> Shown
     ensures { result ≡ read_in question }
 {
@@ -207,10 +210,7 @@ fn listed(question: Question, row: Row) -> Question
 fn joins(question: Question, score: i32, cell: u8) -> bool
     ensures { result ≡ (is_past question cell && place_on question score) }
 {
-    if has_place(question, score) {
-        return question.is_past(cell);
-    }
-    false
+    has_place(question, score) && question.is_past(cell)
 }
 
 // The list has a place for a report that enters now with this score.
@@ -225,31 +225,24 @@ fn has_place(question: Question, score: i32) -> bool
 fn least(question: Question) -> i32
     ensures { result ≡ least_of question }
 {
-    let n = lines_in(question.len);
-    if n == 0 {
-        return 2147483647;
+    match lines_in(question.len).checked_sub(1) {
+        Some(last) => question.scores[last],
+        None => i32::MAX,
     }
-    let scores = question.scores;
-    let last = n - 1;
-    scores[last]
 }
 
 // How many lines a list of that length has.
 fn lines_in(len: u8) -> usize
     ensures { result ≡ min len most_lines }
 {
-    if len < Question::LINES {
-        len as usize
-    } else {
-        Question::LINES as usize
-    }
+    usize::from(len).min(Lines::MOST)
 }
 
 // The greatest name of a report of that number: names up to it are those of numbers up to that one.
 fn last_name(number: u32) -> u64
     ensures { result ≡ last_name number }
 {
-    (Name::EDITIONS as u64) * (number as u64) + 4096
+    u64::from(Name::EDITIONS) * u64::from(number) + 4096
 }
 
 // The question lists a report of a number up to that one.
@@ -257,46 +250,30 @@ fn lists(question: Question, gone: u32) -> bool
     ensures { result ≡ lists question gone }
 {
     let limit = last_name(gone);
-    let n = lines_in(question.len);
-    let mut i: usize = 0;
-    while i < n {
-        if (question.names[i] as u64) <= limit {
+    for name in &question.names[..lines_in(question.len)] {
+        if u64::from(*name) <= limit {
             return true;
         }
-        i += 1;
     }
     false
 }
 
 // An empty slot, or a fit question whose search has ended.
+#[tactic(auto, unfolding(crate::specs::Fitness::slot_fit))]
 pub fn fit(question: Question, window: Window) -> bool
     ensures { result ≡ slot_fit window question }
 {
-    if is_empty(question) {
-        return true;
-    }
-    if question.fit(window) {
-        return question.finished();
-    }
-    false
+    is_empty(question) || (question.fit(window) && question.finished())
 }
 
 // k is 0, and so is everything else.
+#[tactic(auto, unfolding(crate::specs::Fitness::is_empty))]
 fn is_empty(question: Question) -> bool
     ensures { result ≡ is_empty question }
 {
-    let rule = question.rule;
-    if question.k != 0 {
-        return false;
-    }
-    if !rule.is_none() {
-        return false;
-    }
-    if question.len != 0 {
-        return false;
-    }
-    if question.next != 0 {
-        return false;
-    }
-    question.rest_blank()
+    question.k == 0
+        && question.rule.is_none()
+        && question.len == 0
+        && question.next == 0
+        && question.rest_blank()
 }

@@ -2,14 +2,12 @@
 -- Assumes nothing.
 use mathlib.Core.Path.{ap, ◌∙◌}
 use Prim.Native.Nat.{min}
-use borrow.Author.Tests.{not-true, not-false}
 use borrow.Author.Rules.{rules}
 use Rattle.list.specs.declared.Lines.{Lines}
 use Rattle.list.specs.Lines.{all_of}
 use Rattle.list.proofs.Walking.{as_read, walk_on, walk_fails, walk_ends}
 use Rattle.question.specs.Calls.{held_as}
 use Rattle.question.proofs.Stored.{roomy, shown_lines}
-use mathlib.Core.Bool.{not}
 use Rattle.question.proofs.Question.lines_held.Goals as goal
 
 pub loop-i-init : goal.loop-i-init

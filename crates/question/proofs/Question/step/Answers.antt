@@ -1,16 +1,20 @@
--- What a step is refused with decides: 24 comes before 25; else the rows of a fit window serve as its held reports.
+-- Where neither test refuses, the rows of a fit window serve as its held reports.
 -- Assumes nothing.
-use mathlib.Core.Path.{ap, ◌∙◌}
-use Rattle.question.proofs.Doors.{step-refused, step_done}
+use mathlib.Core.Path.{sym, ap, ◌∙◌}
+use Rattle.std.specs.Prelude.{Ok}
+use Rattle.question.specs.Calls.{answered}
+use Rattle.question.proofs.Doors.{step_goes}
+use Rattle.question.proofs.Question.step.Goals.{then-fit, else-fit}
 use Rattle.question.proofs.Question.step.Goals as goal
-
-pub returns-then-refusal-ne0 : goal.returns-then-refusal-ne0
-returns-then-refusal-ne0 c =
-    let a = c.args in
-    c.refused.ensures ∙ step-refused c.args.window c.args.self c.step_refusal-refusal.result c.step_refusal-refusal.ensures c.if-refusal-ne0.true
 
 pub returns : goal.returns
 returns c =
-    let a = c.args in
-    ap (λ b. record { refusal = 0; question = b }) c.stepped.ensures
-    ∙ step_done c.args.window c.args.self c.step_refusal-refusal.result c.step_refusal-refusal.ensures c.if-refusal-ne0.false
+    elim c.if-fit.branch [
+      then-fit w ↦
+        ap (λ q. Ok q) c.stepped.ensures
+        ∙ sym
+        (ap answered
+        (step_goes c.args.window c.args.self (sym c.fit.ensures ∙ w.if-fit.true) (sym w.fit-then-fit.ensures ∙ sym w.value-is ∙ c.if-not-fit.false)
+        (sym c.finished.ensures ∙ c.if-finished.false)))
+    | else-fit w ↦ cc
+    ]
