@@ -36,7 +36,13 @@ fn write(rt: &impl Print, request: &[u8; REQUEST]) {
     let length = usize::from(wire::byte(request, 10));
     let note = wire::front(&request[11..], length);
     let sender = wire::byte(request, 0);
-    if let Written::Bytes(n) = Bench::send(&mut space, sender, report, wire::byte(request, 9) != 0, note) {
+    if let Written::Bytes(n) = Bench::send(
+        &mut space,
+        sender,
+        report,
+        wire::byte(request, 9) != 0,
+        note,
+    ) {
         let _ = rt.write_all(wire::front(&space, n));
     }
 }

@@ -32,8 +32,8 @@ fn main(rt: HostRuntime) {
 fn every_case(rt: &impl Print, text: &[u8]) {
     let mut room = [0u8; Bus::ROOM];
     let mut session = Session::fresh();
-    for line in cases::lines(text) {
-        session = case(rt, session, &mut room, line);
+    for line in text.split_inclusive(|b| *b == b'\n') {
+        session = case(rt, session, &mut room, cases::without_end(line));
     }
 }
 

@@ -22,8 +22,8 @@ fn main(rt: HostRuntime) {
 }
 
 fn every_case(rt: &impl Print, text: &[u8]) {
-    for line in cases::lines(text) {
-        case(rt, line);
+    for line in text.split_inclusive(|b| *b == b'\n') {
+        case(rt, cases::without_end(line));
     }
 }
 
@@ -54,7 +54,13 @@ fn write(rt: &impl Print, line: &[u8]) {
     let words: &[u8] = b"The left sieve lets more grain by than before, since the belt was";
     let note = wire::front(words, usize::from(cases::byte(line, 6)));
     if size <= space.len() {
-        written(rt, &mut space[..size], line, cases::byte(line, 5) == 1, note);
+        written(
+            rt,
+            &mut space[..size],
+            line,
+            cases::byte(line, 5) == 1,
+            note,
+        );
     }
 }
 
