@@ -7,7 +7,6 @@ use Rattle.lines.specs.Words.{run_length}
 use Rattle.lines.specs.declared.Run.TheVariants.{Until}
 use Rattle.lines.proofs.Words.{run_within}
 use Rattle.input.specs.declared.Input.{Input}
-use Rattle.input.specs.declared.ReadFailed.{ReadFailed}
 use Rattle.input.specs.declared.Source.{Source}
 use Rattle.input.specs.declared.Source.TheVariants.{Open, Ended, Failed}
 use Rattle.input.specs.Lines.{line_size, first_line, has_line_end, behind_line, unread, line_taken}
