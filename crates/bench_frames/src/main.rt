@@ -5,46 +5,44 @@
 
 use bench::Bench;
 use report::{Report, Written};
-use std::io::Read;
 use values::{Edition, Values};
 
-// Requests until the input ends; the turns are counted down, from a number that no run uses up, so that the loop ends.
+// The bytes of a request.
+const REQUEST: usize = 77;
+
+// Answers request after request, until the input ends.
 fn main(rt: HostRuntime) {
     let mut reader = rt.stdin();
-    let mut turns = u64::MAX;
-    while turns > 0 && one(&mut reader, &rt) {
-        turns -= 1;
+    let mut request = [0u8; REQUEST];
+    for _ in 0..u64::MAX {
+        if input::read_full(&mut reader, &mut request) < REQUEST {
+            break;
+        }
+        write(&rt, &request);
     }
-}
-
-// Answers a request, and whether there was one.
-fn one(reader: &mut impl Read, rt: &impl Print) -> bool {
-    let mut space = [0u8; 77];
-    let n = input::read_full(reader, &mut space);
-    if n < 77 {
-        return false;
-    }
-    write(rt, &space);
-    true
 }
 
 // Writes a request's frames; a refused one has none.
-fn write(rt: &impl Print, request: &[u8; 77]) {
+fn write(rt: &impl Print, request: &[u8; REQUEST]) {
     let mut space = [0u8; Bench::LARGEST];
-    let room: &mut [u8] = &mut space;
-    let asked: &[u8] = request;
     let report = Report {
         values: Values {
-            loss: wire::read16(asked, 1),
-            shake: wire::read16(asked, 3),
-            edition: Edition::of(wire::read16(asked, 75)),
+            loss: wire::read16(request, 1),
+            shake: wire::read16(request, 3),
+            edition: Edition::of(wire::read16(request, 75)),
         },
-        own: wire::read32(asked, 5),
+        own: wire::read32(request, 5),
     };
-    let length = wire::byte(asked, 10) as usize;
-    let note = wire::front(&asked[11..], length);
-    let sender = wire::byte(asked, 0);
-    if let Written::Bytes(n) = Bench::send(room, sender, report, wire::byte(asked, 9) != 0, note) {
-        let _ = rt.write_all(wire::front(room, n));
+    let length = usize::from(wire::byte(request, 10));
+    let note = wire::front(&request[11..], length);
+    let sender = wire::byte(request, 0);
+    if let Written::Bytes(n) = Bench::send(
+        &mut space,
+        sender,
+        report,
+        wire::byte(request, 9) != 0,
+        note,
+    ) {
+        let _ = rt.write_all(wire::front(&space, n));
     }
 }

@@ -5,7 +5,7 @@
 #![tactic(auto)]
 
 use capture::Sort;
-use input::{Input, Next};
+use input::{Input, ReadFailed};
 use items::Item;
 use stamps::{Since, Stamp};
 use std::env::Env;
@@ -84,7 +84,7 @@ fn run(reader: &mut impl Read, out: &impl Print, err: &impl Print, asked: Asked,
     while turns > 0 {
         turns -= 1;
         let next = input.next(reader, &mut line, &mut space);
-        let Next::Line(found) = next else {
+        let Ok(Some(found)) = next else {
             let counts = state.counts;
             stopped(err, next, asked, counts);
             break;
@@ -98,8 +98,13 @@ fn run(reader: &mut impl Read, out: &impl Print, err: &impl Print, asked: Asked,
 }
 
 // Why no line comes: the text has ended, with so many lines of each sort, or it can't be read.
-fn stopped(err: &impl Print, next: Next, asked: Asked, counts: Counts) {
-    if let Next::Failed = next {
+fn stopped(
+    err: &impl Print,
+    next: Result<Option<Input>, ReadFailed>,
+    asked: Asked,
+    counts: Counts,
+) {
+    if next.is_err() {
         say(err, b"cart candump: the input can't be read\n");
         return;
     }

@@ -2,82 +2,49 @@
 // numbers. A number that isn't there is 0.
 #![tactic(auto)]
 
-ghost use Rattle.std.specs.Prelude.{◌-◌, ◌≤◌, length};
+use lines::Number;
 
-use lines::{Number, Run};
-
-// The line that starts at `at`.
-pub fn line(text: &[u8], at: usize) -> &[u8] {
-    if text.len() <= at {
-        return text;
-    }
-    let rest = &text[at..];
-    wire::front(rest, Run::Until(b'\n').length(rest))
-}
-
-// Where the next line starts, so that less is left of the text.
-pub fn next(text: &[u8], at: usize) -> usize
-    ensures { length text.now - result ≤ length text.now - at - 1 }
-{
-    if text.len() <= at {
-        return at;
-    }
-    at + Run::Until(b'\n').length(&text[at..]) + 1
+// A line without its end, which the last one may lack.
+pub fn without_end(line: &[u8]) -> &[u8] {
+    line.strip_suffix(b"\n").unwrap_or(line)
 }
 
 pub fn byte(line: &[u8], n: u8) -> u8 {
-    (Number::read(lines::word(line, n), 10, 255).value % 256) as u8
+    read(lines::word(line, n), 10, u8::MAX)
 }
 
 pub fn short(line: &[u8], n: u8) -> u16 {
-    (Number::read(lines::word(line, n), 10, 65535).value % 65536) as u16
+    read(lines::word(line, n), 10, u16::MAX)
 }
 
 pub fn number(line: &[u8], n: u8) -> u32 {
-    Number::read(lines::word(line, n), 10, 4294967295).value
-}
-
-// A number of two bytes, with a minus before a negative one.
-pub fn weight(line: &[u8], n: u8) -> i16 {
-    signed((Number::short(lines::word(line, n)).value % 65536) as u16)
-}
-
-// The signed number that two bytes hold.
-fn signed(n: u16) -> i16 {
-    if n < 32768 {
-        n as i16
-    } else {
-        ((n as i32) - 65536) as i16
-    }
-}
-
-// A number of four bytes; a negative one is -32,768 at least.
-pub fn score(line: &[u8], n: u8) -> i32 {
-    let negative = weight(line, n);
-    if negative < 0 {
-        wide(negative)
-    } else {
-        (number(line, n) % 2147483648) as i32
-    }
-}
-
-pub fn wide(z: i16) -> i32 {
-    z as i32
+    read(lines::word(line, n), 10, u32::MAX)
 }
 
 // A number in hexadecimal digits.
 pub fn hex(line: &[u8], n: u8) -> u32 {
-    Number::read(lines::word(line, n), 16, 4294967295).value
+    read(lines::word(line, n), 16, u32::MAX)
 }
 
-// Stores the words from `from` on, each a byte in hexadecimal digits; how many there are.
+// Stores the words from `from` on, each a byte in hexadecimal digits; how many there are, as far as the room goes.
 pub fn bytes(line: &[u8], from: u8, room: &mut [u8]) -> usize {
-    let mut n = from;
-    let mut at: usize = 0;
-    while n < 255 && lines::word(line, n).len() != 0 {
-        wire::put(room, at, (hex(line, n) % 256) as u8);
-        at += 1;
-        n += 1;
+    let words = lines::tail(line, from)
+        .split(u8::is_ascii_whitespace)
+        .filter(|word| !word.is_empty());
+    let mut n = 0;
+    for (k, (byte, word)) in room.iter_mut().zip(words).enumerate() {
+        *byte = read(word, 16, u8::MAX);
+        n = k + 1;
     }
-    at
+    n
+}
+
+// The number in a word, of at most `most`.
+fn read<T: TryFrom<u32> + Default + Copy>(word: &[u8], base: u8, most: T) -> T
+where
+    u32: From<T>,
+    T::Error: Drop,
+{
+    let n = Number::read(word, base, u32::from(most));
+    T::try_from(n.value).unwrap_or_default()
 }

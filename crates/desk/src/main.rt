@@ -3,7 +3,7 @@
 
 use board::Board;
 use desk_bus::Senders;
-use input::{Input, Next};
+use input::Input;
 use orders::{BoardOrder, Order};
 use replies::{put, refused};
 use std::io::IsTerminal;
@@ -29,13 +29,15 @@ fn main(rt: HostRuntime) {
     };
     greet(rt);
     for _ in 0..u64::MAX {
-        let next = input.next(&mut reader, &mut line, &mut space);
-        let Next::Line(found) = next else {
-            stopped(&err, next);
-            break;
-        };
-        input = found;
-        let end = desk.answer(found, &line, &mut out);
+        match input.next(&mut reader, &mut line, &mut space) {
+            Ok(Some(found)) => input = found,
+            Ok(None) => break,
+            Err(_) => {
+                say(&err, b"cart desk: the input can't be read\n");
+                break;
+            }
+        }
+        let end = desk.answer(input, &line, &mut out);
         if !written(&rt, &err, &mut out, end) {
             break;
         }
@@ -48,13 +50,6 @@ fn greet(rt: HostRuntime) {
         let _ = rt.write_all(
             b"The desk: a line is a call, and its answer comes below it.\nhelp lists all lines; window 3 is a start. Ctrl-D ends.\n",
         );
-    }
-}
-
-// Why no line comes, where that isn't the end of the text.
-fn stopped(err: &impl Print, next: Next) {
-    if let Next::Failed = next {
-        say(err, b"cart desk: the input can't be read\n");
     }
 }
 

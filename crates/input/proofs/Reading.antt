@@ -1,13 +1,12 @@
 -- The line that is read is the first of the text that came: each turn adds the next piece's bytes to it, and nothing is lost between two pieces.
 -- Assumes nothing.
-use Rattle.std.proofs.Common.{◌≡◌, ℕ, ◌+◌, ◌%◌, ◌^◌, ◌≤◌, min, Bool, true, false, cond, ltb, List, [], ◌++◌, length, take, drop, sym, refl, ap, ◌∙◌, subst, ap₂, append_assoc, append-nil, zero-add, arith, length-append, length-take-le, ltb-false, ltb-true}
+use Rattle.std.proofs.Common.{◌≡◌, ℕ, ◌+◌, ◌%◌, ◌^◌, ◌≤◌, min, Bool, true, false, cond, ltb, List, [], ◌++◌, length, take, drop, sym, refl, ap, ◌∙◌, subst, ap₂, append_assoc, append-nil, zero-add, arith, length-append, length-take-le, ltb-false, ltb-true, Some, Ok}
 use lib.Seq.{sets, sets-eq, length-sets, take-append_seam}
 use Rattle.wire.proofs.Stores.{sets-append, sets_past}
 use Rattle.lines.specs.Words.{run_length}
 use Rattle.lines.specs.declared.Run.TheVariants.{Until}
 use Rattle.lines.proofs.Words.{run_within}
 use Rattle.input.specs.declared.Input.{Input}
-use Rattle.input.specs.declared.Next.TheVariants.{Line}
 use Rattle.input.specs.declared.Source.{Source}
 use Rattle.input.specs.declared.Source.TheVariants.{Open, Ended, Failed}
 use Rattle.input.specs.Lines.{line_size, first_line, has_line_end, behind_line, unread, line_taken}
@@ -141,7 +140,7 @@ comes from line space line' space' i {s} e h n = by_test i.whole (ltb 0 i.size) 
     same =
         (subst (λ (x : Input). Handed (unread x space) line i line' (unread i space')) e h, n ∙ ap (λ (x : Input). x.number) e)
 
-    by_test : (w b : Bool) (source : Source) → Comes from line space (cond w (Line i) (cond b (Line i) (without source))) line' space'
+    by_test : (w b : Bool) (source : Source) → Comes from line space (cond w (Ok (Some i)) (cond b (Ok (Some i)) (without source))) line' space'
     by_test true b source = same
     by_test false true source = same
     by_test false false Open = tt

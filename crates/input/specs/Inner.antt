@@ -1,8 +1,7 @@
 -- What the inner functions of `input` answer, and what its proofs speak of; no public contract and no promise cites it.
-use Rattle.std.specs.Prelude.{◌≡◌, ◌+◌, ◌%◌, ◌^◌, false, cond, nat_lt}
+use Rattle.std.specs.Prelude.{◌≡◌, ◌+◌, ◌%◌, ◌^◌, false, cond, nat_lt, Option, Some, None, Result, Ok, Err}
 use Rattle.input.specs.declared.Input.{Input}
-use Rattle.input.specs.declared.Next.{Next}
-use Rattle.input.specs.declared.Next.TheVariants.{End, Failed, Line}
+use Rattle.input.specs.declared.ReadFailed.{ReadFailed}
 use Rattle.input.specs.declared.Source.{Source}
 use Rattle.input.specs.declared.Source.TheVariants as source
 
@@ -17,11 +16,11 @@ pub record SameLine (i r : Input) : Type 0 where
   pub number : r.number ≡ i.number
 
 -- Why there is no line.
-abbrev pub without : Source → Next
-without source.Open = End
-without source.Ended = End
-without source.Failed = Failed
+abbrev pub without : Source → Result (Option Input) ReadFailed
+without source.Open = Ok None
+without source.Ended = Ok None
+without source.Failed = Err (record {})
 
 -- A line, perhaps the last one and without an end; or why there is none.
-unfoldable pub answer_of : Input → Next
-answer_of i = cond i.whole (Line i) (cond (nat_lt 0 i.size) (Line i) (without i.source))
+unfoldable pub answer_of : Input → Result (Option Input) ReadFailed
+answer_of i = cond i.whole (Ok (Some i)) (cond (nat_lt 0 i.size) (Ok (Some i)) (without i.source))

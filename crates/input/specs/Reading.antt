@@ -1,10 +1,9 @@
 -- A line that is read. What the operating system hands over is some text, `come`, which no contract settles; the line is the first one of
 -- what was not taken yet with that text behind it.
-use Rattle.std.specs.Prelude.{◌≡◌, ℕ, ◌+◌, ◌%◌, ◌^◌, min, Bool, true, false, cond, List, ◌++◌, length}
+use Rattle.std.specs.Prelude.{◌≡◌, ℕ, ◌+◌, ◌%◌, ◌^◌, min, Bool, true, false, cond, List, ◌++◌, length, Option, Some, None, Result, Ok, Err}
 use Rattle.std.proofs.lemmas.List.Edits.{sets}
 use Rattle.input.specs.declared.Input.{Input}
-use Rattle.input.specs.declared.Next.{Next}
-use Rattle.input.specs.declared.Next.TheVariants.{Line, End, Failed}
+use Rattle.input.specs.declared.ReadFailed.{ReadFailed}
 use Rattle.input.specs.declared.Source.{Source}
 use Rattle.input.specs.declared.Source.TheVariants as source
 use Rattle.input.specs.Lines.{line_size, first_line, has_line_end, behind_line, unread}
@@ -40,10 +39,10 @@ pub record Handed (text line : List ℕ) (r : Input) (line' after : List ℕ) : 
   pub size : r.size ≡ min (length found) (length line + 1)
 
 -- What `next` answers: a line, and its number.
-unfoldable pub Comes : Input → List ℕ → List ℕ → Next → List ℕ → List ℕ → Type 0
-Comes i line space (Line r) line' space' = Handed (unread i space) line r line' (unread r space') × (r.number ≡ (i.number + 1) % 2 ^ 64)
-Comes i line space End line' space' = Unit {0}
-Comes i line space Failed line' space' = Unit {0}
+unfoldable pub Comes : Input → List ℕ → List ℕ → Result (Option Input) ReadFailed → List ℕ → List ℕ → Type 0
+Comes i line space (Ok (Some r)) line' space' = Handed (unread i space) line r line' (unread r space') × (r.number ≡ (i.number + 1) % 2 ^ 64)
+Comes i line space (Ok None) line' space' = Unit {0}
+Comes i line space (Err e) line' space' = Unit {0}
 
 -- Whether a read failed.
 abbrev pub failed : Source → Bool

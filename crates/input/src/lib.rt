@@ -1,7 +1,7 @@
 // What a reader gives, such as standard input, a line at a time. The line, and what was read of the lines behind it, stand in bytes that the caller lends.
 #![tactic(auto)]
 
-ghost use Rattle.std.specs.Prelude.{◌≡◌, ◌+◌, ◌-◌, ◌<◌, ◌≤◌, min, false, length, take, drop, nat_le};
+ghost use Rattle.std.specs.Prelude.{◌≡◌, ◌-◌, ◌≤◌, length, take, drop, nat_le};
 ghost use Rattle.std.specs.Io.KnownBytes.{Consumes};
 ghost use Rattle.std.proofs.lemmas.List.Edits.{sets};
 ghost use Rattle.input.specs.Lines.{longest, fresh_input, first_line, unread, line_taken};
@@ -46,13 +46,9 @@ pub struct Input {
     pub number: u64,
 }
 
-// What comes next.
+// The reader can't be read.
 #[derive(Clone, Copy)]
-pub enum Next {
-    Line(Input),
-    End,
-    Failed,
-}
+pub struct ReadFailed;
 
 impl Input {
     // The longest line that a program takes.
@@ -73,16 +69,22 @@ impl Input {
     }
 
     // Reads on to the end of the next line, into the bytes lent for it; the last line may have no end. `space` holds what was read ahead, so it is
-    // the same at every call. Where no line comes, the text has ended or reading failed, and nothing is read from then on.
-    // A proved loop has to end, so it counts its turns down from a number that no run uses up.
-    pub fn next<R: Read>(self, reader: &mut R, line: &mut [u8], space: &mut [u8]) -> Next
+    // the same at every call. None is the end of the text. Where no line comes, nothing is read from then on.
+    // A proved loop has to end, so it counts to a number that no run reaches.
+    pub fn next<R: Read>(
+        self,
+        reader: &mut R,
+        line: &mut [u8],
+        space: &mut [u8],
+    ) -> Result<Option<Input>, ReadFailed>
         ensures { Comes self line.old space.old result line.new space.new }
     {
         let mut s = self.next_line();
-        let mut turns = u64::MAX;
-        while turns > 0 {
+        for _ in 0..u64::MAX {
             s = s.take_and_read(reader, line, space);
-            turns = s.turns_left(turns);
+            if s.whole || s.left == 0 {
+                return s.answer();
+            }
         }
         s.answer()
     }
@@ -98,20 +100,6 @@ impl Input {
         s.read(reader, space)
     }
 
-    // One turn less; none where the line is whole, or nothing more came.
-    fn turns_left(self, turns: u64) -> u64
-        requires { 0 < turns }
-        ensures { (result < turns) × (0 < result → self.whole ≡ false) }
-    {
-        if self.whole {
-            return 0;
-        }
-        if self.left == 0 {
-            return 0;
-        }
-        turns - 1
-    }
-
     // Whether the line is not too long.
     pub fn fits(self) -> bool
         ensures { result ≡ nat_le self.size longest }
@@ -120,18 +108,11 @@ impl Input {
     }
 
     // Whether a read failed inside the line: what has come of it stands for nothing.
+    #[tactic(auto, unfolding(crate::specs::Reading::is_cut))]
     pub fn is_cut(self) -> bool
         ensures { result ≡ is_cut self }
     {
-        let source = self.source;
-        if self.whole {
-            return false;
-        }
-        match source {
-            Source::Open => false,
-            Source::Ended => false,
-            Source::Failed => true,
-        }
+        !self.whole && matches!(self.source, Source::Failed)
     }
 
     // Takes the line's next bytes from those that were read: up to the line's end, or all of them.
@@ -142,8 +123,8 @@ impl Input {
         let piece = back(wire::front(space, self.held), self.left);
         let n = Run::Until(b'\n').length(piece);
         wire::put_all(line, size, wire::front(piece, n));
-        self.left = rest(piece.len(), n + 1);
-        self.size = sum_at_most(size, n, line.len() + 1);
+        self.left = piece.len().saturating_sub(n + 1);
+        self.size = size.saturating_add(n).min(line.len() + 1);
         self.whole = n < piece.len();
         self
     }
@@ -162,8 +143,7 @@ impl Input {
     fn read<R: Read>(self, reader: &mut R, space: &mut [u8]) -> Input
         ensures { SameLine self result }
     {
-        let source = self.source;
-        let Source::Open = source else {
+        let Source::Open = self.source else {
             return self;
         };
         let got = reader.read(space);
@@ -173,27 +153,21 @@ impl Input {
             source,
             held: n,
             left: n,
-            size: self.size,
-            whole: self.whole,
-            number: self.number,
+            ..self
         }
     }
 
     // A line, perhaps the last one and without an end; or why there is none.
-    fn answer(self) -> Next
+    #[tactic(auto, unfolding(crate::specs::Inner::answer_of))]
+    fn answer(self) -> Result<Option<Input>, ReadFailed>
         ensures { result ≡ answer_of self }
     {
-        let source = self.source;
-        if self.whole {
-            return Next::Line(self);
+        if self.whole || 0 < self.size {
+            return Ok(Some(self));
         }
-        if 0 < self.size {
-            return Next::Line(self);
-        }
-        match source {
-            Source::Open => Next::End,
-            Source::Ended => Next::End,
-            Source::Failed => Next::Failed,
+        match self.source {
+            Source::Open | Source::Ended => Ok(None),
+            Source::Failed => Err(ReadFailed),
         }
     }
 }
@@ -202,28 +176,7 @@ impl Input {
 fn back(s: &[u8], n: usize) -> &[u8]
     ensures { result.now ≡ drop (length s.now - n) s.now }
 {
-    let at = rest(s.len(), n);
-    &s[at..]
-}
-
-// How many are left of `all` without n of them.
-fn rest(all: usize, n: usize) -> usize
-    ensures { result ≡ all - n }
-{
-    if n < all { all - n } else { 0 }
-}
-
-// A size and n more, and never over `most`.
-fn sum_at_most(size: usize, n: usize, most: usize) -> usize
-    ensures { result ≡ min (size + n) most }
-{
-    if most <= size {
-        return most;
-    }
-    if most - size <= n {
-        return most;
-    }
-    size + n
+    &s[s.len().saturating_sub(n)..]
 }
 
 // Reads until the lent bytes are full, the text ends or a read fails; how many bytes were put at their start.

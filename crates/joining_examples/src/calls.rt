@@ -32,7 +32,7 @@ pub fn fit(rt: &impl Print, session: Session) {
 pub fn sender(rt: &impl Print, id: u32, data: &[u8]) {
     text(rt, b"\n  sender");
     match Frame::sender(id, data) {
-        Sender::Of(n) => number(rt, n as u64),
+        Sender::Of(n) => number(rt, u64::from(n)),
         Sender::Refused(n) => refused(rt, n),
     }
 }
@@ -48,17 +48,14 @@ pub fn lend(rt: &impl Print, session: Session, id: u32, data: &[u8]) -> Session 
 }
 
 fn shown(rt: &impl Print, taken: Taken) -> Session {
-    let left = taken.session;
-    let said = taken.answer;
-    print::answer(rt, said);
-    print::session(rt, left);
-    left
+    print::answer(rt, taken.answer);
+    print::session(rt, taken.session);
+    taken.session
 }
 
 // The payload that a finished session holds, and the note in it.
 pub fn payload(rt: &impl Print, session: Session) {
-    let bytes = session.bytes;
-    let payload = Session::payload(&bytes);
+    let payload = Session::payload(&session.bytes);
     number(rt, payload.len() as u64);
     if Payload::has_note(payload) {
         text(rt, b" note");
@@ -69,9 +66,7 @@ pub fn payload(rt: &impl Print, session: Session) {
 }
 
 pub fn fresh(room: &mut [u8; Bus::ROOM]) {
-    let bus = Bus::fresh();
-    let sessions = bus.sessions;
-    Bus::fill(room, sessions);
+    Bus::fill(room, Bus::fresh().sessions);
 }
 
 pub fn heard(rt: &impl Print, room: &mut [u8; Bus::ROOM], id: u32, data: &[u8]) {
@@ -81,35 +76,20 @@ pub fn heard(rt: &impl Print, room: &mut [u8; Bus::ROOM], id: u32, data: &[u8]) 
 // The sessions that are not fresh.
 pub fn left(rt: &impl Print, room: &[u8; Bus::ROOM]) {
     let sessions = Bus::read(room);
-    let mut k: usize = 0;
-    while k < 254 {
-        one_left(rt, k, sessions[k]);
-        k += 1;
+    for (sender, session) in sessions.iter().enumerate() {
+        if session.size != 0 || print::used(&session.bytes) != 0 {
+            text(rt, b"\n ");
+            number(rt, sender as u64);
+            print::session(rt, *session);
+        }
     }
-}
-
-fn one_left(rt: &impl Print, k: usize, session: Session) {
-    if touched(session) {
-        text(rt, b"\n ");
-        number(rt, k as u64);
-        print::session(rt, session);
-    }
-}
-
-fn touched(session: Session) -> bool {
-    if session.size != 0 {
-        return true;
-    }
-    let bytes = session.bytes;
-    print::used(&bytes) != 0
 }
 
 pub fn write(rt: &impl Print, line: &[u8]) {
     let mut space = [238u8; 169];
-    let room: &mut [u8] = &mut space;
-    let size = cases::byte(line, 1) as usize;
-    if size <= room.len() {
-        write_in(rt, &mut room[..size], line);
+    let size = usize::from(cases::byte(line, 1));
+    if size <= space.len() {
+        write_in(rt, &mut space[..size], line);
     }
 }
 
@@ -124,7 +104,7 @@ fn write_in(rt: &impl Print, room: &mut [u8], line: &[u8]) {
         own: cases::number(line, 5),
     };
     let words: &[u8] = b"The left sieve lets more grain by than before, since the belt was";
-    let note = wire::front(words, cases::byte(line, 7) as usize);
+    let note = wire::front(words, usize::from(cases::byte(line, 7)));
     let noted = cases::byte(line, 6) == 1;
     print::written(
         rt,

@@ -32,10 +32,8 @@ fn main(rt: HostRuntime) {
 fn every_case(rt: &impl Print, text: &[u8]) {
     let mut room = [0u8; Bus::ROOM];
     let mut session = Session::fresh();
-    let mut at: usize = 0;
-    while at < text.len() {
-        session = case(rt, session, &mut room, cases::line(text, at));
-        at = cases::next(text, at);
+    for line in text.split_inclusive(|b| *b == b'\n') {
+        session = case(rt, session, &mut room, cases::without_end(line));
     }
 }
 
@@ -64,17 +62,17 @@ fn tried(
     id: u32,
     data: &[u8],
 ) -> Session {
-    match wire::byte(line, 0) {
-        b's' => return asked(rt, line),
-        b'f' => return take(rt, session, id, data),
-        b'a' => return calls::lend(rt, session, id, data),
-        b'e' => each(rt, id, data),
-        b'p' => calls::payload(rt, session),
-        b'b' => calls::fresh(room),
-        b't' => calls::heard(rt, room, id, data),
-        b'l' => calls::left(rt, room),
-        b'w' => calls::write(rt, line),
-        _ => text(rt, b""),
+    match lines::word(line, 0) {
+        b"session" => return asked(rt, line),
+        b"frame" => return take(rt, session, id, data),
+        b"advance" => return calls::lend(rt, session, id, data),
+        b"each" => each(rt, id, data),
+        b"payload" => calls::payload(rt, session),
+        b"bus" => calls::fresh(room),
+        b"take" => calls::heard(rt, room, id, data),
+        b"left" => calls::left(rt, room),
+        b"write" => calls::write(rt, line),
+        _ => {}
     }
     session
 }
@@ -84,7 +82,7 @@ fn asked(rt: &impl Print, line: &[u8]) -> Session {
         cases::byte(line, 1),
         cases::byte(line, 2),
         cases::byte(line, 3),
-        cases::byte(line, 4) as usize,
+        usize::from(cases::byte(line, 4)),
     );
     calls::fit(rt, session);
     session

@@ -15,36 +15,28 @@ pub fn answer(rt: &impl Print, a: Answer) {
 
 fn report(rt: &impl Print, r: Report) {
     text(rt, b" report");
-    number(rt, r.values.loss as u64);
-    number(rt, r.values.shake as u64);
-    number(rt, r.own as u64);
-    let values = r.values;
-    let edition = values.edition;
-    if let Edition::Second(heat) = edition {
+    number(rt, u64::from(r.values.loss));
+    number(rt, u64::from(r.values.shake));
+    number(rt, u64::from(r.own));
+    if let Edition::Second(heat) = r.values.edition {
         text(rt, b" heat");
-        number(rt, heat as u64);
+        number(rt, u64::from(heat));
     }
 }
 
 // The size, the count and the next packet, and the payload bytes up to the last that isn't 255.
 pub fn session(rt: &impl Print, s: Session) {
     text(rt, b" |");
-    number(rt, s.size as u64);
-    number(rt, s.count as u64);
-    number(rt, s.next as u64);
+    number(rt, u64::from(s.size));
+    number(rt, u64::from(s.count));
+    number(rt, u64::from(s.next));
     text(rt, b":");
-    let space = s.bytes;
-    let held: &[u8] = &space;
-    bytes(rt, wire::front(held, used(held)));
+    bytes(rt, wire::front(&s.bytes, used(&s.bytes)));
 }
 
 // How many bytes there are up to the last that isn't 255.
 pub fn used(s: &[u8]) -> usize {
-    let mut n = s.len();
-    while 0 < n && wire::byte(s, n - 1) == 255 {
-        n -= 1;
-    }
-    n
+    s.iter().rposition(|b| *b != 255).map_or(0, |last| last + 1)
 }
 
 pub fn written(rt: &impl Print, answer: Written) {

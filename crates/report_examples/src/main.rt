@@ -22,10 +22,8 @@ fn main(rt: HostRuntime) {
 }
 
 fn every_case(rt: &impl Print, text: &[u8]) {
-    let mut at: usize = 0;
-    while at < text.len() {
-        case(rt, cases::line(text, at));
-        at = cases::next(text, at);
+    for line in text.split_inclusive(|b| *b == b'\n') {
+        case(rt, cases::without_end(line));
     }
 }
 
@@ -33,31 +31,36 @@ fn every_case(rt: &impl Print, text: &[u8]) {
 fn case(rt: &impl Print, line: &[u8]) {
     let mut space = [0u8; 96];
     text(rt, line);
-    match wire::byte(line, 0) {
-        b'w' => write(rt, line),
-        b'h' => written(rt, &mut space, line, true, &[0u8; 65536]),
-        b'r' => {
+    match lines::word(line, 0) {
+        b"write" => write(rt, line),
+        b"huge" => written(rt, &mut space, line, true, &[0u8; 65536]),
+        b"read" => {
             let n = cases::bytes(line, 1, &mut space);
             read(rt, wire::front(&space, n));
         }
-        b'l' => long(rt, line),
-        b'c' => {
+        b"long" => long(rt, line),
+        b"count" => {
             let n = cases::bytes(line, 2, &mut space);
-            count(rt, &mut space, n, cases::byte(line, 1) as usize);
+            count(rt, &mut space, n, usize::from(cases::byte(line, 1)));
         }
-        _ => text(rt, b""),
+        _ => {}
     }
     end(rt);
 }
 
 fn write(rt: &impl Print, line: &[u8]) {
     let mut space = [255u8; 90];
-    let room: &mut [u8] = &mut space;
-    let size = cases::byte(line, 1) as usize;
+    let size = usize::from(cases::byte(line, 1));
     let words: &[u8] = b"The left sieve lets more grain by than before, since the belt was";
-    let note = wire::front(words, cases::byte(line, 6) as usize);
-    if size <= room.len() {
-        written(rt, &mut room[..size], line, cases::byte(line, 5) == 1, note);
+    let note = wire::front(words, usize::from(cases::byte(line, 6)));
+    if size <= space.len() {
+        written(
+            rt,
+            &mut space[..size],
+            line,
+            cases::byte(line, 5) == 1,
+            note,
+        );
     }
 }
 
@@ -94,45 +97,33 @@ fn read(rt: &impl Print, p: &[u8]) {
 
 fn accepted(rt: &impl Print, r: Report) {
     text(rt, b" accepted");
-    number(rt, r.values.loss as u64);
-    number(rt, r.values.shake as u64);
-    number(rt, r.own as u64);
-    let values = r.values;
-    let edition = values.edition;
-    if let Edition::Second(heat) = edition {
+    number(rt, u64::from(r.values.loss));
+    number(rt, u64::from(r.values.shake));
+    number(rt, u64::from(r.own));
+    if let Edition::Second(heat) = r.values.edition {
         text(rt, b" heat");
-        number(rt, heat as u64);
+        number(rt, u64::from(heat));
     }
 }
 
 fn long(rt: &impl Print, line: &[u8]) {
     let mut space = [0u8; 65556];
-    let p: &mut [u8] = &mut space;
-    let start: &[u8] = b"\x01\x02\x00\x64\x00\x02\x02\x00\xc8\x00\x03\x04\x00\x07\x00\x00\x00\x04";
-    wire::put_all(p, 0, start);
-    wire::put16(p, 18, cases::short(line, 2));
-    read(rt, wire::front(p, cases::number(line, 1) as usize));
+    let start = b"\x01\x02\x00\x64\x00\x02\x02\x00\xc8\x00\x03\x04\x00\x07\x00\x00\x00\x04";
+    wire::put_all(&mut space, 0, start);
+    wire::put16(&mut space, 18, cases::short(line, 2));
+    read(rt, wire::front(&space, cases::number(line, 1) as usize));
 }
 
 // How many of the 255 other bytes at a place the reader takes.
 fn count(rt: &impl Print, p: &mut [u8; 96], size: usize, at: usize) {
-    let mut count: u64 = 0;
-    let mut more: u8 = 0;
-    while more < 255 {
-        more += 1;
-        count = std::num::wrapping_add_u64(count, reads_with(p, size, at, more));
-    }
-    number(rt, count);
-}
-
-// 1 where the reader takes the byte that is `more` above the one at a place, else 0; that one is put back.
-fn reads_with(p: &mut [u8; 96], size: usize, at: usize, more: u8) -> u64 {
     let found = wire::byte(p, at);
-    wire::put(p, at, std::num::wrapping_add_u8(found, more));
-    let answer = Payload::read(wire::front(p, size));
-    wire::put(p, at, found);
-    match answer {
-        Reading::Accepted(_) => 1,
-        Reading::Refused(_) => 0,
+    let mut count: u64 = 0;
+    for more in 1..=u8::MAX {
+        wire::put(p, at, found.wrapping_add(more));
+        if let Reading::Accepted(_) = Payload::read(wire::front(p, size)) {
+            count = count.saturating_add(1);
+        }
     }
+    wire::put(p, at, found);
+    number(rt, count);
 }

@@ -11,13 +11,14 @@ pub overflow_add-n : goal.overflow_add-n
 overflow_add-n c = omega (arith, c.length-n.ensures, run_within (Until 10) c.back-piece.result.now)
 
 -- The piece is what was read and not taken.
-piece_so : (c : goal.After-sum_at_most) → c.back-piece.result.now ≡ unread c.args.self c.args.space.now
+piece_so : (c : goal.After-min) → c.back-piece.result.now ≡ unread c.args.self c.args.space.now
 unfolding unread
 piece_so c = rw (c.back-piece.ensures, c.front.ensures)
 
 pub returns : goal.returns
 unfolding first_line
 returns c = (
-  took (length c.args.line.now) c.args.self c.args.space.now (piece_so c) c.length-n.ensures c.rest.ensures (c.sum_at_most.ensures ∙ rw (c.put_all.ensures, length-sets)),
+  took (length c.args.line.now) c.args.self c.args.space.now (piece_so c) c.length-n.ensures c.saturating_sub.ensures
+      (let same : length c.put_all.new.buf ≡ length c.args.line.now = rw (c.put_all.ensures, length-sets) in omega arith),
   c.put_all.ensures ∙ rw (c.front-2.ensures, c.length-n.ensures, piece_so c),
 )

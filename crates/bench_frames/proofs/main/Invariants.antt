@@ -1,5 +1,0 @@
--- `main` ends: its turns are counted down.
-use Rattle.bench_frames.proofs.main.Given as goal
-
-abbrev pub decreases-loop-turns : goal.decreases-loop-turns
-decreases-loop-turns l = l.turns
