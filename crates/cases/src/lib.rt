@@ -4,7 +4,7 @@
 
 ghost use Rattle.std.specs.Prelude.{◌-◌, ◌≤◌, length};
 
-use lines::{Number, Run};
+use lines::Run;
 
 // The line that starts at `at`.
 pub fn line(text: &[u8], at: usize) -> &[u8] {
@@ -26,29 +26,20 @@ pub fn next(text: &[u8], at: usize) -> usize
 }
 
 pub fn byte(line: &[u8], n: u8) -> u8 {
-    (Number::read(lines::word(line, n), 10, 255).value % 256) as u8
+    (lines::number(lines::word(line, n), 10, 255).unwrap_or(0) % 256) as u8
 }
 
 pub fn short(line: &[u8], n: u8) -> u16 {
-    (Number::read(lines::word(line, n), 10, 65535).value % 65536) as u16
+    (lines::number(lines::word(line, n), 10, 65535).unwrap_or(0) % 65536) as u16
 }
 
 pub fn number(line: &[u8], n: u8) -> u32 {
-    Number::read(lines::word(line, n), 10, 4294967295).value
+    lines::number(lines::word(line, n), 10, u32::MAX).unwrap_or(0)
 }
 
 // A number of two bytes, with a minus before a negative one.
 pub fn weight(line: &[u8], n: u8) -> i16 {
-    signed((Number::short(lines::word(line, n)).value % 65536) as u16)
-}
-
-// The signed number that two bytes hold.
-fn signed(n: u16) -> i16 {
-    if n < 32768 {
-        n as i16
-    } else {
-        ((n as i32) - 65536) as i16
-    }
+    lines::short(lines::word(line, n)).unwrap_or(0)
 }
 
 // A number of four bytes; a negative one is -32,768 at least.
@@ -67,7 +58,7 @@ pub fn wide(z: i16) -> i32 {
 
 // A number in hexadecimal digits.
 pub fn hex(line: &[u8], n: u8) -> u32 {
-    Number::read(lines::word(line, n), 16, 4294967295).value
+    lines::number(lines::word(line, n), 16, u32::MAX).unwrap_or(0)
 }
 
 // Stores the words from `from` on, each a byte in hexadecimal digits; how many there are.

@@ -1,8 +1,6 @@
 // The numbers of a line, each with a range that a letter names.
 #![tactic(auto)]
 
-use lines::Number;
-
 // The numbers that were read, whether all are right, and the word behind them. One that may be below zero is held as 32 bits hold it.
 #[derive(Clone, Copy)]
 pub struct Numbers {
@@ -44,9 +42,9 @@ impl Numbers {
         let number = number(word, letter, at);
         let mut numbers = self;
         if place < Numbers::MOST {
-            numbers.values[place] = number.value;
+            numbers.values[place] = number.unwrap_or(0);
         }
-        if !number.known {
+        if number.is_none() {
             numbers.right = false;
         }
         numbers.at = behind(word, letter, at);
@@ -70,61 +68,45 @@ pub fn behind_bytes(word: &[u8], at: u8) -> u8 {
     at
 }
 
-fn unknown() -> Number {
-    Number {
-        known: false,
-        value: 0,
-    }
-}
-
 // The number in the word `at`, in the range of the letter.
-fn number(word: &[u8], letter: u8, at: u8) -> Number {
+fn number(word: &[u8], letter: u8, at: u8) -> Option<u32> {
     match letter {
-        b'b' => Number::read(word, 10, 255),
-        b's' => Number::read(word, 10, 31),
-        b'h' => Number::read(word, 10, 65535),
-        b'n' => Number::read(word, 10, 4294967295),
-        b'u' => Number::read(word, 10, 253),
-        b'r' => Number::read(word, 10, 1023),
-        b'p' => Number::read(word, 10, 15),
-        b'y' => Number::read(word, 10, 88),
-        b'e' => Number::read(word, 10, 4095),
-        b'm' => Number::read(word, 10, 1048319),
-        b'w' => Number::short(word),
+        b'b' => lines::number(word, 10, 255),
+        b's' => lines::number(word, 10, 31),
+        b'h' => lines::number(word, 10, 65535),
+        b'n' => lines::number(word, 10, 4294967295),
+        b'u' => lines::number(word, 10, 253),
+        b'r' => lines::number(word, 10, 1023),
+        b'p' => lines::number(word, 10, 15),
+        b'y' => lines::number(word, 10, 88),
+        b'e' => lines::number(word, 10, 4095),
+        b'm' => lines::number(word, 10, 1048319),
+        b'w' => Some(u32::from(lines::short(word)?.cast_unsigned())),
         b'z' => long(word),
         b'x' => identifier(word),
-        b'd' => Number {
-            known: true,
-            value: at as u32,
-        },
-        _ => unknown(),
+        b'd' => Some(u32::from(at)),
+        _ => None,
     }
 }
 
 // A number from -2147483648 to 2147483647, decimal with a minus before a negative one, as four bytes hold it.
-fn long(word: &[u8]) -> Number {
+fn long(word: &[u8]) -> Option<u32> {
     if wire::byte(word, 0) != b'-' {
-        return Number::read(word, 10, 2147483647);
+        return lines::number(word, 10, 2147483647);
     }
     let size = word.len();
     if size == 0 {
-        return unknown();
+        return None;
     }
-    let n = Number::read(&word[1..size], 10, 2147483648);
-    if !n.known {
-        return unknown();
-    }
-    Number {
-        known: true,
-        value: std::num::wrapping_sub_u32(0, n.value),
-    }
+    let n = lines::number(&word[1..size], 10, 2147483648)?;
+    Some(n.wrapping_neg())
 }
 
-fn identifier(word: &[u8]) -> Number {
+fn identifier(word: &[u8]) -> Option<u32> {
     if 8 < word.len() {
-        return unknown();
+        return None;
     }
-    Number::read(word, 16, 4294967295)
+    lines::number(word, 16, 4294967295)
 }
 
 // Whether a text is bytes of two hexadecimal digits each; no text is no bytes.
@@ -134,7 +116,7 @@ pub fn is_bytes(s: &[u8]) -> bool {
     }
     let mut k: usize = 0;
     while k < s.len() / 2 {
-        if !pair(s, 2 * k).known {
+        if pair(s, 2 * k).is_none() {
             return false;
         }
         k += 1;
@@ -149,22 +131,22 @@ pub fn bytes(s: &[u8], room: &mut [u8]) -> usize {
     }
     let mut k: usize = 0;
     while k < s.len() / 2 {
-        wire::put(room, k, byte(pair(s, 2 * k).value));
+        wire::put(room, k, byte(pair(s, 2 * k).unwrap_or(0)));
         k += 1;
     }
     k
 }
 
 // The byte of the two digits from `at` on.
-fn pair(s: &[u8], at: usize) -> Number {
+fn pair(s: &[u8], at: usize) -> Option<u32> {
     if s.len() < 2 {
-        return unknown();
+        return None;
     }
     if s.len() - 2 < at {
-        return unknown();
+        return None;
     }
     let end = at + 2;
-    Number::read(&s[at..end], 16, 255)
+    lines::number(&s[at..end], 16, 255)
 }
 
 // A number of one byte, of two, of two with a sign, and of four with a sign.

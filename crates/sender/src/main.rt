@@ -2,7 +2,7 @@
 // named on standard error with what is expected, and nothing of it is written.
 #![tactic(auto)]
 
-use commands::{Answer, Command, Fault, Kind, Time};
+use commands::{Command, Fault, Kind, Trouble};
 use input::{Input, Next};
 
 // Sends line after line, to the end of the text; or to a read or a write that fails, which is said. A proved loop has to end, so it
@@ -13,7 +13,7 @@ fn main(rt: HostRuntime) {
     let mut input = Input::fresh();
     let mut line = [0u8; Input::LONGEST];
     let mut space = [0u8; 4096];
-    let mut time = Time::Untimed;
+    let mut time: Option<u32> = None;
     let mut turns = u64::MAX;
     while turns > 0 {
         turns -= 1;
@@ -43,11 +43,11 @@ fn stopped(err: &impl Print, next: Next) {
 #[derive(Clone, Copy)]
 struct Sent {
     fine: bool,
-    time: Time,
+    time: Option<u32>,
 }
 
 // Writes a line's items, its frames at this time, or what is wrong with it.
-fn send(out: &impl Print, err: &impl Print, found: Input, line: &[u8], time: Time) -> Sent {
+fn send(out: &impl Print, err: &impl Print, found: Input, line: &[u8], time: Option<u32>) -> Sent {
     if found.is_cut() {
         return Sent { fine: true, time };
     }
@@ -73,18 +73,18 @@ fn answered(
     out: &impl Print,
     err: &impl Print,
     number: u64,
-    answer: Answer,
+    answer: Result<usize, Trouble>,
     line: &[u8],
     room: &[u8],
 ) -> bool {
     match answer {
-        Answer::Items(n) => written(out, err, wire::front(room, n)),
-        Answer::Wrong(fault) => {
+        Ok(n) => written(out, err, wire::front(room, n)),
+        Err(Trouble::Wrong(fault)) => {
             wrong(err, number);
             faulty(err, fault);
             true
         }
-        Answer::Refused(code) => {
+        Err(Trouble::Refused(code)) => {
             wrong(err, number);
             refused(err, code, line);
             true
