@@ -12,7 +12,7 @@ use std::env::Env;
 use std::io::Read;
 
 // How many lines were of each sort, and how many frames were written without a time.
-#[derive(Clone, Copy)]
+#[derive(Clone, Copy, Default)]
 struct Counts {
     frames: u64,
     untimed: u64,
@@ -44,8 +44,8 @@ struct Reader {
     going: bool,
     first: usize,
     told: bool,
-    start: Stamp,
-    last: Stamp,
+    start: Option<Stamp>,
+    last: Option<Stamp>,
     back: bool,
 }
 
@@ -111,36 +111,15 @@ fn stopped(
     summary(err, asked, counts);
 }
 
-fn none() -> Counts {
-    Counts {
-        frames: 0,
-        untimed: 0,
-        marked: 0,
-        foreign: 0,
-        elsewhere: 0,
-        short: 0,
-        remote: 0,
-        error: 0,
-        fd: 0,
-        length: 0,
-        beyond: 0,
-        dropped: 0,
-        broken: 0,
-    }
-}
-
 impl Reader {
     fn fresh() -> Reader {
-        let counts = none();
-        let start = Stamp::none();
-        let last = Stamp::none();
         Reader {
-            counts,
+            counts: Counts::default(),
             going: true,
             first: 0,
             told: false,
-            start,
-            last,
+            start: None,
+            last: None,
             back: false,
         }
     }
@@ -164,8 +143,7 @@ impl Reader {
         }
         let text = wire::front(line, found.size);
         let stamp = stamp_of(text, asked.timed);
-        let start = self.start;
-        let time = capture::since(start, stamp);
+        let time = capture::since(self.start, stamp);
         let mut room = [0u8; Item::TIMED_BYTES];
         let sort = capture::write(text, asked.ours, name, time, &mut room);
         let reader = self.count(err, found.number, sort).started(stamp, sort);
@@ -179,27 +157,20 @@ impl Reader {
     }
 
     // Keeps where times count from.
-    fn started(mut self, stamp: Stamp, sort: Sort) -> Reader {
-        let start = self.start;
-        let next = capture::started(start, stamp, sort);
-        self.start = next;
+    fn started(mut self, stamp: Option<Stamp>, sort: Sort) -> Reader {
+        self.start = capture::started(self.start, stamp, sort);
         self
     }
 
     // Counts a written frame that has no time, keeps the time of one that has, and names the first that is before the last.
-    fn timed(mut self, err: &impl Print, number: u64, stamp: Stamp) -> Reader {
-        if !stamp.known {
-            let mut counts = self.counts;
-            counts.untimed = one_more(counts.untimed);
-            self.counts = counts;
+    fn timed(mut self, err: &impl Print, number: u64, stamp: Option<Stamp>) -> Reader {
+        let Some(time) = stamp else {
+            self.counts.untimed = one_more(self.counts.untimed);
             return self;
-        }
-        let last = self.last;
+        };
+        let last = self.last.map_or(0, |last| last.nanos);
         self.last = stamp;
-        if self.back {
-            return self;
-        }
-        if stamp.nanos < last.nanos {
+        if !self.back && time.nanos < last {
             goes_back(err, number);
             self.back = true;
         }
@@ -209,8 +180,7 @@ impl Reader {
     // Counts a line of a sort, and names it where it is broken.
     fn count(mut self, err: &impl Print, number: u64, sort: Sort) -> Reader {
         say_sort(err, number, sort);
-        let counts = counted(self.counts, sort);
-        self.counts = counts;
+        self.counts = counted(self.counts, sort);
         self
     }
 
@@ -230,10 +200,7 @@ impl Reader {
             self.first = name.len();
             return self;
         }
-        if self.told {
-            return self;
-        }
-        if !lines::same(wire::front(bus, first), name) {
+        if !self.told && !lines::same(wire::front(bus, first), name) {
             second(err, number, name);
             self.told = true;
         }
@@ -242,12 +209,8 @@ impl Reader {
 }
 
 // The time of a line, where times are asked for.
-fn stamp_of(text: &[u8], timed: bool) -> Stamp {
-    if timed {
-        dump::time(text)
-    } else {
-        Stamp::none()
-    }
+fn stamp_of(text: &[u8], timed: bool) -> Option<Stamp> {
+    if timed { dump::time(text) } else { None }
 }
 
 // The bytes of an item with this time.
@@ -260,11 +223,7 @@ fn size_of(time: Since) -> usize {
 
 // Whether a line of this sort has an item.
 fn is_item(sort: Sort) -> bool {
-    match sort {
-        Sort::Frame => true,
-        Sort::Marked => true,
-        _ => false,
-    }
+    matches!(sort, Sort::Frame | Sort::Marked)
 }
 
 // The cart takes no frame before its sender's last one.
@@ -331,14 +290,14 @@ fn counted(counts: Counts, sort: Sort) -> Counts {
         Sort::Length => c.length = one_more(c.length),
         Sort::Beyond => c.beyond = one_more(c.beyond),
         Sort::Dropped => c.dropped = one_more(c.dropped),
-        Sort::Nothing => c.frames = c.frames,
+        Sort::Nothing => {}
         Sort::Broken => c.broken = one_more(c.broken),
     }
     c
 }
 
 fn one_more(n: u64) -> u64 {
-    std::num::wrapping_add_u64(n, 1)
+    n.wrapping_add(1)
 }
 
 // A number and what it counts.

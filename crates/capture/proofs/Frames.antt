@@ -5,41 +5,36 @@ use mathlib.Core.Bool.{Bool, true, false, cond, not, ◌&&◌, true≢false}
 use mathlib.Core.List.{List, []}
 use Prim.Native.Nat.{ℕ, ◌+◌, ◌≤◌}
 use native.Mathlib.Omega.{arith}
-use borrow.Author.Tests.{eqb-true, eq-eqb, ne_eqb}
+use borrow.Author.Tests.{eqb-true}
 use lib.Dec.{eqb, ltb, leb}
 use lib.ListN.{length, get_or, take, drop, replicate}
 use lib.Seq.{sets, sets-eq, take_at}
 use Rattle.laws.proofs.Tests.{either}
-use Rattle.joining.specs.Frame.{frame_refusal}
 use Rattle.dump.proofs.Texts.{shown_most}
-use Rattle.lines.specs.declared.Number.{Number}
-use Rattle.lines.specs.declared.Run.TheVariants.{Until}
-use Rattle.lines.specs.Words.{run_length, word_at}
-use Rattle.dump.specs.Dump.{is_log, is_drop, logged_in, shown_in, frame_in}
+use Rattle.std.proofs.Common.{Option, Some, None}
+use Rattle.dump.specs.Dump.{shown_in}
 use Rattle.stamps.specs.declared.Since.{Since}
 use Rattle.capture.specs.declared.Sort.{Sort}
 use Rattle.capture.specs.declared.Sort.TheVariants as sort
-use Rattle.capture.specs.Capture.{id_size, data_text, id_in, hex_in, bytes_in, sort_of_frame, is_foreign, is, placed, is_elsewhere, frame_for, wanted, sort_for, sort_in, item_of, items_of_line}
+use Rattle.capture.specs.Capture.{id_size, data_text, id_in, hex_in, sort_by, sort_of_frame, is, placed, frame_for, wanted, sort_for, item_of}
 use Rattle.capture.specs.Inner.{items_for}
-
--- The identifier's digits stand before the first #.
-pub size : (w : List ℕ) {n : ℕ} → n ≡ run_length (Until 35) w → n ≡ id_size w
-unfolding id_size
-size w e = e
 
 -- ---- the sorts of a frame's text
 
 -- What holds of each sort, and of a frame that a log holds because it has 8 data bytes, holds of the sort of a frame's text.
 pub by_sort : (P : Sort → Type 0) (w : List ℕ) → P sort.Broken → P sort.Fd → P sort.Remote → P sort.Error → P sort.Short → (length (data_text w) ≡ 16 → P sort.Frame) → P sort.Length → P (sort_of_frame w)
-unfolding sort_of_frame
-by_sort P w broken fd remote error short frame other =
-    either P (not (id_in w).known) (λ e. broken)
-    (λ e. either P (eqb (get_or (data_text w) 0 0) 35) (λ e. fd)
-    (λ e. either P (eqb (get_or (data_text w) 0 0) 82) (λ e. remote)
-    (λ e. either P (ltb 16 (length (data_text w))) (λ e. broken)
-    (λ e. either P (not (hex_in (data_text w))) (λ e. broken)
-    (λ e. either P (leb 536870912 (id_in w).value) (λ e. error)
-    (λ e. either P (eqb (id_size w) 3) (λ e. short) (λ e. either P (eqb (length (data_text w)) 16) (λ e. frame (eqb-true (length (data_text w)) 16 e)) (λ e. other))))))))
+unfolding sort_of_frame sort_by
+by_sort P w broken fd remote error short frame other = go (id_in w)
+  where
+    go : (id : Option ℕ) → P (sort_by id w)
+    go None = broken
+    go (Some id) =
+        either P (eqb (get_or (data_text w) 0 0) 35) (λ e. fd)
+        (λ e. either P (eqb (get_or (data_text w) 0 0) 82) (λ e. remote)
+        (λ e. either P (ltb 16 (length (data_text w))) (λ e. broken)
+        (λ e. either P (not (hex_in (data_text w))) (λ e. broken)
+        (λ e. either P (leb 536870912 id) (λ e. error)
+        (λ e. either P (eqb (id_size w) 3) (λ e. short) (λ e. either P (eqb (length (data_text w)) 16) (λ e. frame (eqb-true (length (data_text w)) 16 e)) (λ e. other)))))))
 
 pub frame_sixteen : (w : List ℕ) → sort_of_frame w ≡ sort.Frame → length (data_text w) ≡ 16
 frame_sixteen w =
@@ -115,44 +110,6 @@ module _ (ours elsewhere : Bool) (t : Since) (w : List ℕ) {s : Sort} (sorted :
   pub other_items : (s ≡ sort.Frame → ⊥) → items_for ours elsewhere t w ≡ []
   unfolding items_for sort_for
   other_items h = rw (← sorted) (other h).1
-
--- What the code asks of the identifier and the bytes is what the definition asks of the text.
-pub foreign-is : (ours : Bool) (w : List ℕ) {n : Number} {bytes : List ℕ} {b : Bool} → n ≡ id_in w → bytes ≡ bytes_in (data_text w)
-    → b ≡ (ours && not (eqb (frame_refusal n.value bytes) 0)) → b ≡ is_foreign ours w
-unfolding is_foreign
-foreign-is ours w e f g = g ∙ rw (e, f)
-
--- ---- the line
-
-module _ (ours : Bool) (name : List ℕ) (time : Since) (line t : List ℕ) (first : t ≡ word_at 0 line) where
-  pub line_empty : length t ≡ 0 → sort.Nothing ≡ sort_in ours name time line
-  unfolding sort_in
-  line_empty h = rw (← first, eq-eqb (length t) 0 h)
-
-  pub line_drop : (length t ≡ 0 → ⊥) → is_drop line ≡ true → sort.Dropped ≡ sort_in ours name time line
-  unfolding sort_in
-  line_drop some h = rw (← first, ne_eqb (length t) 0 some, h)
-
-  pub line_frame : (length t ≡ 0 → ⊥) → is_drop line ≡ false → sort_for ours (is_elsewhere name line) time (frame_in line) ≡ sort_in ours name time line
-  unfolding sort_in
-  line_frame some h = rw (← first, ne_eqb (length t) 0 some, h)
-
-  pub line_items_lem : (length t ≡ 0 → ⊥) → is_drop line ≡ false → items_for ours (is_elsewhere name line) time (frame_in line) ≡ items_of_line ours name time line
-  unfolding items_for items_of_line
-  line_items_lem some h = rw (line_frame some h)
-
-pub none_written : (ours : Bool) (name : List ℕ) (time : Since) (line : List ℕ) {s : Sort} → s ≡ sort_in ours name time line → item_of time s (frame_in line) ≡ [] → items_of_line ours name time line ≡ []
-unfolding items_of_line
-none_written ours name time line e h = rw (← e) h
-
--- A frame's text is the log's third word, or what is made of a line on a screen.
-pub logged_frame : (line : List ℕ) → is_log line ≡ true → logged_in line ≡ frame_in line
-unfolding frame_in
-logged_frame line h = rw h
-
-pub shown_frame : (line : List ℕ) → is_log line ≡ false → shown_in line ≡ frame_in line
-unfolding frame_in
-shown_frame line h = rw h
 
 -- What was put to the front of the room for it.
 pub front_shown : (line : List ℕ) {n : ℕ} {text : List ℕ} → n ≡ length (shown_in line) → text ≡ sets (replicate 27 0) 0 (shown_in line) → take n text ≡ shown_in line

@@ -16,23 +16,23 @@ use Rattle.stamps.specs.declared.Since.{Since}
 use Rattle.stamps.specs.declared.Since.TheVariants as since
 use Rattle.stamps.specs.Stamps.{earliest, between, since_of}
 use Rattle.dump.specs.Dump.{is_drop, frame_in}
-use Rattle.lines.specs.Numbers.{no_number, number_in}
-use Rattle.lines.proofs.Numbers.{number_most}
+use Rattle.lines.specs.Numbers.{number_in}
+use Rattle.std.proofs.Common.{Option, Some, None, unwrap_or}
 use Rattle.capture.specs.declared.Sort.{Sort}
 use Rattle.capture.specs.declared.Sort.TheVariants as sort
 use Rattle.capture.specs.Capture.{id_size, raw_text, is_marked, data_text, id_in, sort_of_frame, is, placed, is_elsewhere, is_foreign, is_beyond, frame_for, wanted, sort_for, sort_in, item_of_word, item_of, items_of_line, start_after, stamp_in, since_in, items_of_lines}
-use Rattle.capture.proofs.Texts.{bytes_count}
+use Rattle.capture.proofs.Texts.{bytes_count, read_most}
 use Rattle.capture.proofs.Frames.{sixteen, never_marked}
 use Rattle.capture.specs.Inner.{items_for}
 
-id_most : (w : List ℕ) → (id_in w).value ≤ 1073741823
+id_most : (w : List ℕ) → unwrap_or (id_in w) 0 ≤ 1073741823
 unfolding id_in
 id_most w = go (ltb (id_size w) (length w)) (eqb (id_size w) 3) (eqb (id_size w) 8)
   where
     go : (a b c : Bool)
-        → (cond a (cond b (number_in 16 2047 (take (id_size w) w)) (cond c (number_in 16 1073741823 (take (id_size w) w)) no_number)) no_number).value ≤ 1073741823
-    go true true c = omega (arith, number_most 16 2047 (take (id_size w) w))
-    go true false true = number_most 16 1073741823 (take (id_size w) w)
+        → unwrap_or (cond a (cond b (number_in 16 2047 (take (id_size w) w)) (cond c (number_in 16 1073741823 (take (id_size w) w)) None)) None) 0 ≤ 1073741823
+    go true true c = omega (arith, read_most 16 2047 (take (id_size w) w))
+    go true false true = read_most 16 1073741823 (take (id_size w) w)
     go true false false = omega arith
     go false b c = omega arith
 
@@ -42,15 +42,14 @@ TimeFits since.Unknown = Unit
 TimeFits (since.At ms) = ms ≤ 4294967295
 TimeFits since.Beyond = Unit
 
-since_fits : (start s : Stamp) → TimeFits (since_in start s)
+since_fits : (start s : Option Stamp) → TimeFits (since_in start s)
 unfolding since_in since_of TimeFits
-since_fits start s = go (not s.known) (ltb 4294967295 (between (earliest start s) s)) refl
+since_fits start None = tt
+since_fits start (Some s) = go (between (earliest start (Some s)) s) (ltb 4294967295 (between (earliest start (Some s)) s)) refl
   where
-    go : (a b : Bool) → ltb 4294967295 (between (earliest start s) s) ≡ b
-        → TimeFits (cond a since.Unknown (cond b since.Beyond (since.At (between (earliest start s) s))))
-    go true b e = tt
-    go false true e = tt
-    go false false e = ltb-false 4294967295 (between (earliest start s) s) e
+    go : (n : ℕ) (b : Bool) → ltb 4294967295 n ≡ b → TimeFits (cond b since.Beyond (since.At n))
+    go n true e = tt
+    go n false e = ltb-false 4294967295 n e
 
 -- What is written is a frame with 8 data bytes.
 module _ (ours elsewhere : Bool) (t : Since) (in_time : TimeFits t) (w : List ℕ) where
@@ -97,7 +96,7 @@ all_fit ours name t in_time line = go (eqb (length (word_at 0 line)) 0) (is_drop
 
 -- The item that a log reads in what is written for a line is the one frame that the line holds, with its time if it has one, its identifier and data; none
 -- where it holds none.
-pub line_reads_back : (ours : Bool) (name : List ℕ) (start s : Stamp) (line : List ℕ)
+pub line_reads_back : (ours : Bool) (name : List ℕ) (start s : Option Stamp) (line : List ℕ)
     → read_items (run_bytes (items_of_line ours name (since_in start s) line)) ≡ items_of_line ours name (since_in start s) line
 line_reads_back ours name start s line = reads_back (items_of_line ours name (since_in start s) line) (all_fit ours name (since_in start s) (since_fits start s) line)
 
@@ -107,7 +106,7 @@ both_fit : (xs ys : List Meant) → AllFit xs → AllFit ys → AllFit (xs ++ ys
 both_fit [] ys f g = g
 both_fit (x ∷ xs) ys f g = (f.0, both_fit xs ys f.1 g)
 
-lines_fit : (ours : Bool) (name : List ℕ) (timed : Bool) (start : Stamp) (ls : List (List ℕ)) → AllFit (items_of_lines ours name timed start ls)
+lines_fit : (ours : Bool) (name : List ℕ) (timed : Bool) (start : Option Stamp) (ls : List (List ℕ)) → AllFit (items_of_lines ours name timed start ls)
 unfolding items_of_lines
 lines_fit ours name timed start [] = tt
 lines_fit ours name timed start (l ∷ ls) =
@@ -117,6 +116,6 @@ lines_fit ours name timed start (l ∷ ls) =
     (lines_fit ours name timed (start_after start (stamp_in timed l) (sort_in ours name (since_in start (stamp_in timed l)) l)) ls)
 
 -- The same of all lines of a capture.
-pub lines_read_back : (ours : Bool) (name : List ℕ) (timed : Bool) (start : Stamp) (ls : List (List ℕ))
+pub lines_read_back : (ours : Bool) (name : List ℕ) (timed : Bool) (start : Option Stamp) (ls : List (List ℕ))
     → read_items (run_bytes (items_of_lines ours name timed start ls)) ≡ items_of_lines ours name timed start ls
 lines_read_back ours name timed start ls = reads_back (items_of_lines ours name timed start ls) (lines_fit ours name timed start ls)

@@ -4,13 +4,14 @@ use mathlib.Core.Path.{◌≡◌, refl, sym, ◌∙◌}
 use mathlib.Core.Bool.{Bool, true, false, cond, not, ◌&&◌, ◌||◌, true≢false}
 use mathlib.Core.List.{List, [], ◌∷◌, ◌++◌}
 use Prim.Native.Nat.{ℕ}
+use Rattle.std.proofs.Common.{Option, Some, None}
 use lib.Dec.{eqb}
 use lib.ListN.{length}
 use Rattle.lines.specs.Words.{word_at}
 use Rattle.stamps.specs.declared.Stamp.{Stamp}
 use Rattle.stamps.specs.declared.Since.{Since}
 use Rattle.stamps.specs.declared.Since.TheVariants as since
-use Rattle.stamps.specs.Stamps.{no_stamp, earliest, since_of}
+use Rattle.stamps.specs.Stamps.{earliest, since_of}
 use Rattle.dump.specs.Dump.{is_drop, frame_in}
 use Rattle.capture.specs.declared.Sort.{Sort}
 use Rattle.capture.specs.declared.Sort.TheVariants as sort
@@ -74,48 +75,46 @@ same-frames ours name t line =
 -- ---- the start
 
 module _ (ours : Bool) (name : List ℕ) (timed : Bool) where
-  next : Stamp → List ℕ → Stamp
+  next : Option Stamp → List ℕ → Option Stamp
   next start l = start_after start (stamp_in timed l) (sort_in ours name (since_in start (stamp_in timed l)) l)
 
-  next-is : (start : Stamp) (l : List ℕ) → next start l ≡ cond (is_frame (sort_in false [] since.Unknown l)) (earliest start (stamp_in timed l)) start
+  next-is : (start : Option Stamp) (l : List ℕ) → next start l ≡ cond (is_frame (sort_in false [] since.Unknown l)) (earliest start (stamp_in timed l)) start
   unfolding next start_after
   next-is start l = rw (same-frames ours name (since_in start (stamp_in timed l)) l)
 
-  next_stays : (start : Stamp) (l : List ℕ) → start.known ≡ true → next start l ≡ start
+  next_stays : (start : Stamp) (l : List ℕ) → next (Some start) l ≡ Some start
   unfolding earliest
-  next_stays start l h = next-is start l ∙ both (is_frame (sort_in false [] since.Unknown l)) start.known (cond (stamp_in timed l).known (stamp_in timed l) start) h
+  next_stays start l = next-is (Some start) l ∙ both (is_frame (sort_in false [] since.Unknown l))
     where
-      both : (b k : Bool) (other : Stamp) → k ≡ true → cond b (cond k start other) start ≡ start
-      both true true other h = refl
-      both true false other h = absurd (true≢false (sym h))
-      both false k other h = refl
+      both : (b : Bool) → cond b (Some start) (Some start) ≡ Some start
+      both true = refl
+      both false = refl
 
-  stays : (start : Stamp) (ls : List (List ℕ)) → start.known ≡ true → start_after_lines ours name timed start ls ≡ start
+  stays : (start : Stamp) (ls : List (List ℕ)) → start_after_lines ours name timed (Some start) ls ≡ Some start
   unfolding start_after_lines next
-  stays start [] h = refl
-  stays start (l ∷ ls) h = rw (next_stays start l h) (stays start ls h)
+  stays start [] = refl
+  stays start (l ∷ ls) = rw (next_stays start l) (stays start ls)
 
   -- Behind any lines times count from the first frame among them that has a time; without `timed` there is none.
-  pub start_first : (ls : List (List ℕ)) → start_after_lines ours name timed no_stamp ls ≡ first_stamp timed ls
+  pub start_first : (ls : List (List ℕ)) → start_after_lines ours name timed None ls ≡ first_stamp timed ls
   unfolding start_after_lines first_stamp next earliest
   start_first [] = refl
-  start_first (l ∷ ls) = rw (next-is no_stamp l) (go (is_frame (sort_in false [] since.Unknown l)) (stamp_in timed l).known refl (start_first ls))
+  start_first (l ∷ ls) = rw (next-is None l) (go (is_frame (sort_in false [] since.Unknown l)) (stamp_in timed l) (start_first ls))
     where
-      go : (b k : Bool) → (stamp_in timed l).known ≡ k → start_after_lines ours name timed no_stamp ls ≡ first_stamp timed ls
-          → start_after_lines ours name timed (cond b (cond k (stamp_in timed l) no_stamp) no_stamp) ls
-          ≡ cond b (cond k (stamp_in timed l) (first_stamp timed ls)) (first_stamp timed ls)
-      go true true e h = stays (stamp_in timed l) ls e
-      go true false e h = h
-      go false k e h = h
+      go : (b : Bool) (s : Option Stamp) → start_after_lines ours name timed None ls ≡ first_stamp timed ls
+          → start_after_lines ours name timed (cond b s None) ls ≡ cond b (earliest s (first_stamp timed ls)) (first_stamp timed ls)
+      go true (Some s) h = stays s ls
+      go true None h = h
+      go false s h = h
 
 -- ---- without times
 
 -- What is written is what was written before times: each line by itself, without one.
 pub untimed-lines : (ours : Bool) (name l : List ℕ) (ls : List (List ℕ))
-    → items_of_lines ours name false no_stamp (l ∷ ls) ≡ items_of_line ours name since.Unknown l ++ items_of_lines ours name false no_stamp ls
+    → items_of_lines ours name false None (l ∷ ls) ≡ items_of_line ours name since.Unknown l ++ items_of_lines ours name false None ls
 unfolding items_of_lines stamp_in since_in since_of start_after earliest
 untimed-lines ours name l ls = rw (both (is_frame (sort_in ours name since.Unknown l)))
   where
-    both : (b : Bool) → cond b no_stamp no_stamp ≡ no_stamp
+    both : (b : Bool) → ◌≡◌ {A = Option Stamp} (cond b None None) None
     both true = refl
     both false = refl

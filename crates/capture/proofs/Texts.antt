@@ -1,63 +1,34 @@
 -- The parts of a captured line: each test of the code is a case of the definition.
 -- Assumes nothing.
 use mathlib.Core.Path.{◌≡◌, refl, sym, ◌∙◌, ap}
-use mathlib.Core.Logic.{⊎_elim}
 use mathlib.Core.Bool.{Bool, true, false, ◌&&◌}
 use mathlib.Core.List.{List, [], ◌∷◌, append-nil}
-use Prim.Native.Nat.{ℕ, zero, suc, ◌+◌, ◌-◌, ◌*◌, ◌/◌, ◌%◌, ◌≤◌, ◌<◌, min}
+use Prim.Native.Nat.{ℕ, zero, suc, ◌+◌, ◌-◌, ◌*◌, ◌/◌, ◌%◌, ◌≤◌, ◌<◌}
 use native.Mathlib.Omega.{arith}
-use borrow.Author.Tests.{lt-ltb, le-ltb, eq-eqb, ne_eqb}
-use lib.Dec.{ltb}
 use lib.ListN.{length, take, drop, replicate, length-drop, drop_of_length-le}
 use lib.Seq.{sets, drop-drop, sets-eq}
-use Rattle.text.proofs.Decimal.{below_or}
-use Rattle.lines.specs.declared.Number.{Number}
-use Rattle.lines.specs.declared.Run.TheVariants.{Until}
-use Rattle.lines.specs.Words.{run_length}
-use Rattle.lines.specs.Numbers.{no_number, number_in}
-use Rattle.lines.proofs.Words.{all-behind}
+use Rattle.std.proofs.Common.{Option, Some, None, is_some, unwrap_or}
+use Rattle.lines.specs.Numbers.{number_in}
 use Rattle.lines.proofs.Numbers.{number_most}
-use Rattle.capture.specs.Capture.{id_size, raw_text, id_in, hex_in, bytes_in}
-
--- ---- identifier and data
-
-module _ (w : List ℕ) (n : ℕ) (size : n ≡ run_length (Until 35) w) where
-  pub id_open : length w ≤ n → no_number ≡ id_in w
-  unfolding id_in id_size
-  id_open h = rw (← size, le-ltb n (length w) h)
-
-  pub id_short : n < length w → n ≡ 3 → number_in 16 2047 (take n w) ≡ id_in w
-  unfolding id_in id_size
-  id_short h e = rw (← size, lt-ltb n (length w) h, eq-eqb n 3 e)
-
-  pub id_long : n < length w → (n ≡ 3 → ⊥) → n ≡ 8 → number_in 16 1073741823 (take n w) ≡ id_in w
-  unfolding id_in id_size
-  id_long h ne e = rw (← size, lt-ltb n (length w) h, ne_eqb n 3 ne, eq-eqb n 8 e)
-
-  pub id_other : n < length w → (n ≡ 3 → ⊥) → (n ≡ 8 → ⊥) → no_number ≡ id_in w
-  unfolding id_in id_size
-  id_other h ne ne' = rw (← size, lt-ltb n (length w) h, ne_eqb n 3 ne, ne_eqb n 8 ne')
-
-  pub data_behind : (at : ℕ) → at ≡ min (n + 1) (length w) → take (length w - at) (drop at w) ≡ raw_text w
-  unfolding raw_text id_size
-  data_behind at e =
-      all-behind w at
-      ∙ ⊎_elim (λ s. let f : at ≡ n + 1 = omega arith in rw (← size, f))
-      (λ m. drop_of_length-le w {i = at} (omega arith) ∙ rw (← size) (sym (drop_of_length-le w {i = n + 1} (omega arith))))
-      (below_or n (length w) (ltb n (length w)) refl)
+use Rattle.capture.specs.Capture.{hex_in, bytes_in}
 
 -- ---- pairs of digits
 
-pub pair_most : (n : Number) (l : List ℕ) → n ≡ number_in 16 255 l → n.value ≤ 255
-pair_most n l e = rw e (number_most 16 255 l)
+-- What a text is read as, or 0, is at most the most.
+pub read_most : (base most : ℕ) (s : List ℕ) → unwrap_or (number_in base most s) 0 ≤ most
+read_most base most s = go (number_in base most s) refl
+  where
+    go : (n : Option ℕ) → number_in base most s ≡ n → unwrap_or n 0 ≤ most
+    go None e = omega arith
+    go (Some n) e = number_most base most s n e
 
-two_hex : (l : List ℕ) → 1 < length l → hex_in l ≡ ((number_in 16 255 (take 2 l)).known && hex_in (drop 2 l))
+two_hex : (l : List ℕ) → 1 < length l → hex_in l ≡ (is_some (number_in 16 255 (take 2 l)) && hex_in (drop 2 l))
 unfolding hex_in
 two_hex [] h = absurd (omega arith)
 two_hex (a ∷ []) h = absurd (omega arith)
 two_hex (a ∷ (b ∷ s)) h = refl
 
-two_bytes : (l : List ℕ) → 1 < length l → bytes_in l ≡ (number_in 16 255 (take 2 l)).value ∷ bytes_in (drop 2 l)
+two_bytes : (l : List ℕ) → 1 < length l → bytes_in l ≡ unwrap_or (number_in 16 255 (take 2 l)) 0 ∷ bytes_in (drop 2 l)
 unfolding bytes_in
 two_bytes [] h = absurd (omega arith)
 two_bytes (a ∷ []) h = absurd (omega arith)
@@ -67,23 +38,23 @@ pub hex_odd : (s : List ℕ) → (length s % 2 ≡ 0 → ⊥) → false ≡ hex_
 unfolding hex_in
 hex_odd [] h = absurd (h refl)
 hex_odd (a ∷ []) h = refl
-hex_odd (a ∷ (b ∷ s)) h = rest (number_in 16 255 (a ∷ b ∷ [])).known (hex_odd s (λ e. h (omega arith)))
+hex_odd (a ∷ (b ∷ s)) h = rest (is_some (number_in 16 255 (a ∷ b ∷ []))) (hex_odd s (λ e. h (omega arith)))
   where
     rest : (x : Bool) {y : Bool} → false ≡ y → false ≡ (x && y)
     rest true e = e
     rest false e = refl
 
-module _ (s : List ℕ) (k : ℕ) (n : Number) (pair : n ≡ number_in 16 255 (take 2 (drop (2 * k) s))) (inside : k < length s / 2) where
+module _ (s : List ℕ) (k : ℕ) (n : Option ℕ) (pair : n ≡ number_in 16 255 (take 2 (drop (2 * k) s))) (inside : k < length s / 2) where
   after : drop 2 (drop (2 * k) s) ≡ drop (2 * (k + 1)) s
   after = let e : 2 * k + 2 ≡ 2 * (k + 1) = omega arith in drop-drop 2 (2 * k) s ∙ rw e
 
-  pub hex_more : n.known ≡ true → hex_in (drop (2 * k) s) ≡ hex_in (drop (2 * (k + 1)) s)
+  pub hex_more : is_some n ≡ true → hex_in (drop (2 * k) s) ≡ hex_in (drop (2 * (k + 1)) s)
   hex_more h = two_hex (drop (2 * k) s) (rw length-drop (omega arith)) ∙ rw (← pair, h, after)
 
-  pub hex_stop : n.known ≡ false → hex_in (drop (2 * k) s) ≡ false
+  pub hex_stop : is_some n ≡ false → hex_in (drop (2 * k) s) ≡ false
   hex_stop h = two_hex (drop (2 * k) s) (rw length-drop (omega arith)) ∙ rw (← pair, h)
 
-  pub bytes_more : bytes_in (drop (2 * k) s) ≡ n.value ∷ bytes_in (drop (2 * (k + 1)) s)
+  pub bytes_more : bytes_in (drop (2 * k) s) ≡ unwrap_or n 0 ∷ bytes_in (drop (2 * (k + 1)) s)
   bytes_more = two_bytes (drop (2 * k) s) (rw length-drop (omega arith)) ∙ rw (← pair, after)
 
 pub hex_end : (s : List ℕ) (k : ℕ) → length s ≤ 2 * k → hex_in (drop (2 * k) s) ≡ true

@@ -1,18 +1,17 @@
 -- A captured frame in the log's form, ID#DATA, and what is written for the line that holds it.
-use Rattle.std.specs.Prelude.{ℕ, ◌+◌, List, [], ◌∷◌, ◌++◌, Bool, true, false, cond, not, ◌&&◌, length, get_or, take, drop, leb, ltb, eqb}
+use Rattle.std.specs.Prelude.{ℕ, ◌+◌, List, [], ◌∷◌, ◌++◌, Bool, true, false, cond, not, ◌&&◌, length, get_or, take, drop, leb, ltb, eqb, Option, Some, None, is_some, unwrap_or}
 use Rattle.wire.specs.Bytes.{same}
 use Rattle.items.specs.declared.Item.{Item}
 use Rattle.items.specs.declared.Item.TheVariants as item
 use Rattle.items.specs.Run.{Meant}
-use Rattle.lines.specs.declared.Number.{Number}
 use Rattle.lines.specs.declared.Run.TheVariants.{Until}
 use Rattle.lines.specs.Words.{run_length, word_at}
-use Rattle.lines.specs.Numbers.{no_number, number_in}
+use Rattle.lines.specs.Numbers.{number_in}
 use Rattle.joining.specs.Frame.{frame_refusal}
 use Rattle.stamps.specs.declared.Stamp.{Stamp}
 use Rattle.stamps.specs.declared.Since.{Since}
 use Rattle.stamps.specs.declared.Since.TheVariants as since
-use Rattle.stamps.specs.Stamps.{no_stamp, earliest, since_of}
+use Rattle.stamps.specs.Stamps.{earliest, since_of}
 use Rattle.dump.specs.Dump.{interface_in, time_in, is_drop, frame_in}
 use Rattle.capture.specs.declared.Sort.{Sort}
 use Rattle.capture.specs.declared.Sort.TheVariants as sort
@@ -26,45 +25,48 @@ raw_text w = drop (id_size w + 1) w
 
 -- Behind 8 bytes may stand a mark, _9 to _F, for a length over 8, which stands for 8 bytes too.
 unfoldable pub is_marked : List ℕ → Bool
-is_marked t = eqb (length t) 18 && (eqb (get_or t 16 0) 95 && ltb 8 (number_in 16 15 (drop 17 t)).value)
+is_marked t = eqb (length t) 18 && (eqb (get_or t 16 0) 95 && ltb 8 (unwrap_or (number_in 16 15 (drop 17 t)) 0))
 
 -- The data without the mark.
 unfoldable pub data_text : List ℕ → List ℕ
 data_text w = cond (is_marked (raw_text w)) (take 16 (raw_text w)) (raw_text w)
 
 -- The identifier: three hexadecimal digits for 11 bits, eight for 29 and the bit that marks an error frame.
-unfoldable pub id_in : List ℕ → Number
+unfoldable pub id_in : List ℕ → Option ℕ
 id_in w =
     cond (ltb (id_size w) (length w))
     (cond (eqb (id_size w) 3) (number_in 16 2047 (take (id_size w) w))
     (cond (eqb (id_size w) 8) (number_in 16 1073741823 (take (id_size w) w))
-    no_number))
-    no_number
+    None))
+    None
 
 -- Data are bytes of two hexadecimal digits each.
 unfoldable pub hex_in : List ℕ → Bool
 hex_in [] = true
 hex_in (a ∷ []) = false
-hex_in (a ∷ (b ∷ s)) = (number_in 16 255 (a ∷ b ∷ [])).known && hex_in s
+hex_in (a ∷ (b ∷ s)) = is_some (number_in 16 255 (a ∷ b ∷ [])) && hex_in s
 
 unfoldable pub bytes_in : List ℕ → List ℕ
 bytes_in [] = []
 bytes_in (a ∷ []) = []
-bytes_in (a ∷ (b ∷ s)) = (number_in 16 255 (a ∷ b ∷ [])).value ∷ bytes_in s
+bytes_in (a ∷ (b ∷ s)) = unwrap_or (number_in 16 255 (a ∷ b ∷ [])) 0 ∷ bytes_in s
 
 -- What a frame is. Two # mark CAN FD, and R a remote frame; of the others the data are at most 8 bytes. Bit 29 of the
 -- identifier marks an error frame, three digits an 11-bit one; a log holds the rest where the data are 8 bytes.
-unfoldable pub sort_of_frame : List ℕ → Sort
-sort_of_frame w =
-    cond (not (id_in w).known) sort.Broken
-    (cond (eqb (get_or (data_text w) 0 0) 35) sort.Fd
+unfoldable pub sort_by : Option ℕ → List ℕ → Sort
+sort_by None w = sort.Broken
+sort_by (Some id) w =
+    cond (eqb (get_or (data_text w) 0 0) 35) sort.Fd
     (cond (eqb (get_or (data_text w) 0 0) 82) sort.Remote
     (cond (ltb 16 (length (data_text w))) sort.Broken
     (cond (not (hex_in (data_text w))) sort.Broken
-    (cond (leb 536870912 (id_in w).value) sort.Error
+    (cond (leb 536870912 id) sort.Error
     (cond (eqb (id_size w) 3) sort.Short
     (cond (eqb (length (data_text w)) 16) sort.Frame
-    sort.Length)))))))
+    sort.Length))))))
+
+unfoldable pub sort_of_frame : List ℕ → Sort
+sort_of_frame w = sort_by (id_in w) w
 
 -- Sorts by their number.
 abbrev pub place : Sort → ℕ
@@ -95,7 +97,7 @@ placed elsewhere s = cond (elsewhere && not (is sort.Broken s)) sort.Elsewhere s
 
 -- Where only frames are asked for that a report can be joined from, those are left out that refusals 1 to 3 stand against (rule 9.4).
 unfoldable pub is_foreign : Bool → List ℕ → Bool
-is_foreign ours w = ours && not (eqb (frame_refusal (id_in w).value (bytes_in (data_text w))) 0)
+is_foreign ours w = ours && not (eqb (frame_refusal (unwrap_or (id_in w) 0) (bytes_in (data_text w))) 0)
 
 -- A time that a log can't hold.
 abbrev pub is_beyond : Since → Bool
@@ -127,7 +129,7 @@ frame_item (since.At ms) id = item.Timed ms id
 frame_item since.Beyond id = item.Frame id
 
 abbrev pub item_of_word : Since → List ℕ → Meant
-item_of_word t w = record { item = frame_item t (id_in w).value; data_bytes = bytes_in (data_text w) }
+item_of_word t w = record { item = frame_item t (unwrap_or (id_in w) 0); data_bytes = bytes_in (data_text w) }
 
 -- What is written: the item of a frame that a log holds, and nothing else.
 abbrev pub item_of : Since → Sort → List ℕ → List Meant
@@ -155,30 +157,30 @@ abbrev pub is_frame : Sort → Bool
 is_frame s = ltb (place s) 10
 
 -- Times count from the first frame that has one.
-unfoldable pub start_after : Stamp → Stamp → Sort → Stamp
+unfoldable pub start_after : Option Stamp → Option Stamp → Sort → Option Stamp
 start_after start s sort = cond (is_frame sort) (earliest start s) start
 
 -- The time of a line, where times are asked for, and the same in the log: the first one is 0.
-unfoldable pub stamp_in : Bool → List ℕ → Stamp
-stamp_in timed line = cond timed (time_in line) no_stamp
+unfoldable pub stamp_in : Bool → List ℕ → Option Stamp
+stamp_in timed line = cond timed (time_in line) None
 
-unfoldable pub since_in : Stamp → Stamp → Since
+unfoldable pub since_in : Option Stamp → Option Stamp → Since
 since_in start s = since_of (earliest start s) s
 
 -- What is written for the lines of a capture, where times count from `start`.
-unfoldable pub items_of_lines : Bool → List ℕ → Bool → Stamp → List (List ℕ) → List Meant
+unfoldable pub items_of_lines : Bool → List ℕ → Bool → Option Stamp → List (List ℕ) → List Meant
 items_of_lines ours name timed start [] = []
 items_of_lines ours name timed start (l ∷ ls) =
     items_of_line ours name (since_in start (stamp_in timed l)) l
     ++ items_of_lines ours name timed (start_after start (stamp_in timed l) (sort_in ours name (since_in start (stamp_in timed l)) l)) ls
 
 -- Where times count from behind those lines.
-unfoldable pub start_after_lines : Bool → List ℕ → Bool → Stamp → List (List ℕ) → Stamp
+unfoldable pub start_after_lines : Bool → List ℕ → Bool → Option Stamp → List (List ℕ) → Option Stamp
 start_after_lines ours name timed start [] = start
 start_after_lines ours name timed start (l ∷ ls) =
     start_after_lines ours name timed (start_after start (stamp_in timed l) (sort_in ours name (since_in start (stamp_in timed l)) l)) ls
 
 -- The time of a capture's first frame that has one, whatever is asked for.
-unfoldable pub first_stamp : Bool → List (List ℕ) → Stamp
-first_stamp timed [] = no_stamp
-first_stamp timed (l ∷ ls) = cond (is_frame (sort_in false [] since.Unknown l)) (cond (stamp_in timed l).known (stamp_in timed l) (first_stamp timed ls)) (first_stamp timed ls)
+unfoldable pub first_stamp : Bool → List (List ℕ) → Option Stamp
+first_stamp timed [] = None
+first_stamp timed (l ∷ ls) = cond (is_frame (sort_in false [] since.Unknown l)) (earliest (stamp_in timed l) (first_stamp timed ls)) (first_stamp timed ls)

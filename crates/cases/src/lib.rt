@@ -2,7 +2,6 @@
 // numbers. A number that isn't there is 0.
 #![tactic(auto)]
 
-use lines::Number;
 
 // A line without its end, which the last one may lack.
 pub fn without_end(line: &[u8]) -> &[u8] {
@@ -45,6 +44,6 @@ where
     u32: From<T>,
     T::Error: Drop,
 {
-    let n = Number::read(word, base, u32::from(most));
-    T::try_from(n.value).unwrap_or_default()
+    let n = lines::number(word, base, u32::from(most)).unwrap_or(0);
+    T::try_from(n).unwrap_or_default()
 }

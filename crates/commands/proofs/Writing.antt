@@ -1,8 +1,9 @@
 -- A report's frames, 12 bytes each, become items one after the other; they stand in the room in a row.
 -- Assumes nothing.
-use mathlib.Core.Path.{◌≡◌, refl, sym, ◌∙◌, ap, subst}
+use mathlib.Core.Path.{◌≡◌, refl, sym, ◌∙◌, ap}
 use mathlib.Core.Bool.{Bool, true, false, cond}
-use mathlib.Core.Option.{Option}
+use mathlib.Core.Option as sent_note
+use Rattle.std.proofs.Common.{Option, Some, None, Result, Ok, Err}
 use mathlib.Core.List.{List, [], ◌++◌, append_assoc, append-nil, map}
 use Prim.Native.Nat.{ℕ, zero, suc, ◌+◌, ◌*◌, ◌/◌, ◌≤◌}
 use native.Mathlib.Numerals.{add-one}
@@ -24,17 +25,14 @@ use Rattle.joining.specs.Frame as frame
 use Rattle.joining.specs.Joining.{packets}
 use Rattle.bench.specs.Bench.{frames, frames_in, frame_bytes, room_for, send_refusal, send_answer, sent}
 use Rattle.bench.proofs.RoundTrip.{frames_back}
-use Rattle.commands.specs.declared.Time.{Time}
-use Rattle.commands.specs.declared.Time.TheVariants as time
 use Rattle.commands.specs.declared.Sending.{Sending}
-use Rattle.commands.specs.declared.Command.{Command}
-use Rattle.commands.specs.declared.Answer.{Answer}
-use Rattle.commands.specs.declared.Answer.TheVariants as answer
-use Rattle.commands.specs.Items.{frame_item, item_of_frame, report_refusal, report_items, report_answer, items_of, answer_of}
+use Rattle.commands.specs.declared.Trouble.{Trouble}
+use Rattle.commands.specs.declared.Trouble.TheVariants as trouble
+use Rattle.commands.specs.Items.{frame_item, item_of_frame, report_refusal, report_items, report_answer}
 
 -- ---- one item more
 
-module _ (t : Time) where
+module _ (t : Option ℕ) where
   -- The items of the first n frames in bytes that hold them in a row.
   abbrev pub cut : ℕ → List ℕ → List ℕ
   cut n bs = run_bytes (map (item_of_frame t) (frames_in n bs))
@@ -64,14 +62,14 @@ module _ (t : Time) where
       rw (f, e, add-one n, frames-next n bs, sets-append room 0 (cut n bs) (item_at (12 * n) bs), place)
 
 -- A frame's item takes 15 bytes, or with a time 19.
-pub item_most : (t : Time) (at : ℕ) (bs : List ℕ) → length (item_at t at bs) ≤ 19
-item_most time.Untimed at bs = omega (arith, frame_long (number (part at 4 bs)) (part (at + 4) 8 bs), length-take 8 (drop (at + 4) bs))
-item_most (time.At ms) at bs = omega (arith, timed_long ms (number (part at 4 bs)) (part (at + 4) 8 bs), length-take 8 (drop (at + 4) bs))
+pub item_most : (t : Option ℕ) (at : ℕ) (bs : List ℕ) → length (item_at t at bs) ≤ 19
+item_most None at bs = omega (arith, frame_long (number (part at 4 bs)) (part (at + 4) 8 bs), length-take 8 (drop (at + 4) bs))
+item_most (Some ms) at bs = omega (arith, timed_long ms (number (part at 4 bs)) (part (at + 4) 8 bs), length-take 8 (drop (at + 4) bs))
 
 -- ---- the frames of a report
 
 -- What the bench sender takes has a session and fits its room.
-pub taken_facts : (room sender : ℕ) (r : Report) (note : Option (List ℕ)) → send_refusal room sender r note ≡ 0 → (sender ≤ 253) × (room_for r.values.edition note ≤ room)
+pub taken_facts : (room sender : ℕ) (r : Report) (note : sent_note.Option (List ℕ)) → send_refusal room sender r note ≡ 0 → (sender ≤ 253) × (room_for r.values.edition note ≤ room)
 unfolding send_refusal
 taken_facts room sender r note h = go (ltb 253 sender) (eqb (fault r note) 0) (leb (room_for r.values.edition note) room) refl refl refl h
   where
@@ -82,8 +80,12 @@ taken_facts room sender r note h = go (ltb 253 sender) (eqb (fault r note) 0) (l
     go false true false d e f h = absurd (omega arith)
     go false false c d e f h = absurd (eqb-false (fault r note) 0 e h)
 
-module _ (t : Time) (s : Sending) (note : List ℕ) where
-  abbrev with_note : Option (List ℕ)
+-- So many bytes, and no trouble.
+abbrev pub took : ℕ → Result ℕ Trouble
+took n = Ok n
+
+module _ (t : Option ℕ) (s : Sending) (note : List ℕ) where
+  abbrev with_note : sent_note.Option (List ℕ)
   with_note = given s.noted note
 
   abbrev needed : ℕ
@@ -120,13 +122,13 @@ module _ (t : Time) (s : Sending) (note : List ℕ) where
             taken = q;
           }
 
-  pub items_counted : {n : ℕ} {left : List ℕ} → Sent n left → answer.Items (length (cut t (n / 12) left)) ≡ report_answer t s note
+  pub items_counted : {n : ℕ} {left : List ℕ} → Sent n left → ◌≡◌ {A = Result ℕ Trouble} (Ok (length (cut t (n / 12) left))) (report_answer t s note)
   unfolding report_answer
-  items_counted sent = rw sent.taken (ap (λ (ms : List Meant). answer.Items (length (run_bytes ms))) sent.items)
+  items_counted sent = rw sent.taken (ap (λ (ms : List Meant). took (length (run_bytes ms))) sent.items)
 
   -- Or it refused the report.
   pub items_refused : (room : ℕ) (k : ℕ) → room ≡ 168 → send_answer room s.sender s.report with_note ≡ writing.Refused k
-      → (answer.Refused k ≡ report_answer t s note) × (report_items t s note ≡ [])
+      → (◌≡◌ {A = Result ℕ Trouble} (Err (trouble.Refused k)) (report_answer t s note)) × (report_items t s note ≡ [])
   unfolding send_answer report_refusal report_items report_answer
   items_refused room k h a = go (eqb (send_refusal 168 s.sender s.report with_note) 0) refl (rw h at a)
     where
@@ -134,11 +136,6 @@ module _ (t : Time) (s : Sending) (note : List ℕ) where
       code = send_refusal 168 s.sender s.report with_note
 
       go : (b : Bool) → eqb code 0 ≡ b → cond b (writing.Bytes needed) (writing.Refused code) ≡ writing.Refused k
-          → (answer.Refused k ≡ cond (eqb code 0) (answer.Items (length (run_bytes (cond (eqb code 0) (map (item_of_frame t) carried) [])))) (answer.Refused code)) × (cond (eqb code 0) (map (item_of_frame t) carried) [] ≡ [])
+          → (◌≡◌ {A = Result ℕ Trouble} (Err (trouble.Refused k)) (cond (eqb code 0) (Ok (length (run_bytes (cond (eqb code 0) (map (item_of_frame t) carried) [])))) (Err (trouble.Refused code)))) × (cond (eqb code 0) (map (item_of_frame t) carried) [] ≡ [])
       go true q b = let z : ◌≡◌ {A = ℕ} 0 1 = cc in absurd (omega arith)
       go false q b = let e : k ≡ code = cc in (rw (q, e), rw q)
-
--- A command is what its variant says.
-pub put_is : (t : Time) (self v : Command) (note room : List ℕ) {a : Answer} {left : List ℕ} → self ≡ v
-    → (a ≡ answer_of t v note) × (left ≡ sets room 0 (run_bytes (items_of t v note))) → (a ≡ answer_of t self note) × (left ≡ sets room 0 (run_bytes (items_of t self note)))
-put_is t self v note room {a} {left} e h = subst (λ (c : Command). (a ≡ answer_of t c note) × (left ≡ sets room 0 (run_bytes (items_of t c note)))) (sym e) h

@@ -1,18 +1,16 @@
 -- What a line of the bench sender's text stands for.
-use Rattle.std.specs.Prelude.{ℕ, suc, List, [], ◌∷◌, ◌++◌, Bool, true, false, cond, not, ◌&&◌, ◌||◌, length, get_or, eqb}
+use Rattle.std.specs.Prelude.{ℕ, ◌+◌, List, [], ◌∷◌, ◌++◌, Bool, true, false, cond, not, ◌&&◌, ◌||◌, length, get_or, eqb, ℤ, pos, Option, Some, None, is_some, ok_or, Result, Ok, Err}
 use Rattle.wire.specs.Bytes.{same}
-use Rattle.items.specs.Items.{signed16}
 use Rattle.items.specs.declared.Setting.{Setting}
 use Rattle.items.specs.declared.Item.{Item}
 use Rattle.items.specs.declared.Item.TheVariants as item
-use Rattle.lines.specs.declared.Number.{Number}
 use Rattle.lines.specs.Words.{tail_at, word_at}
-use Rattle.lines.specs.Numbers.{a_number, no_number, number_in, short_in}
+use Rattle.lines.specs.Numbers.{number_in, short_in}
+use Rattle.values.specs.declared.Edition.{Edition}
 use Rattle.values.specs.declared.Edition.TheVariants as edition
 use Rattle.commands.specs.declared.Kind.{Kind}
 use Rattle.commands.specs.declared.Kind.TheVariants as kind
-use Rattle.commands.specs.declared.Slot.{Slot}
-use Rattle.commands.specs.declared.Time.TheVariants as time
+use Rattle.commands.specs.declared.Fault.{Fault}
 use Rattle.commands.specs.declared.Command.{Command}
 use Rattle.commands.specs.declared.Command.TheVariants as command
 
@@ -71,147 +69,160 @@ kind_of w =
     (cond (same w heated_noted_word) kind.HeatedNoted
     kind.Unknown)))))))))))
 
--- The decimal number that is word n of a line, where it is at most `most`.
-unfoldable pub value_at : ℕ → ℕ → List ℕ → Number
-value_at n most line = number_in 10 most (word_at n line)
+-- What is wrong with a line of this kind: word n.
+abbrev pub wrong_at : Kind → ℕ → Fault
+wrong_at k n = record { kind = k; word = n }
 
--- The weight that is word n, as two bytes hold it; `signed16` is its number.
-unfoldable pub weight_at : ℕ → List ℕ → Number
-weight_at n line = short_in (word_at n line)
+-- What comes behind a word that is right; a word that is wrong ends it.
+abbrev pub and_next : {T U : Type 0} → (T → Result U Fault) → Result T Fault → Result U Fault
+and_next next (Ok x) = next x
+and_next next (Err f) = Err f
+
+-- The decimal number that is word n of a line, where it is at most `most`.
+unfoldable pub value_at : Kind → ℕ → ℕ → List ℕ → Result ℕ Fault
+value_at k n most line = ok_or (number_in 10 most (word_at n line)) (wrong_at k n)
+
+-- The weight that is word n.
+unfoldable pub weight_at : Kind → ℕ → List ℕ → Result ℤ Fault
+weight_at k n line = ok_or (short_in (word_at n line)) (wrong_at k n)
 
 -- Nothing stands behind the first n words.
 unfoldable pub no_more : ℕ → List ℕ → Bool
 no_more n line = eqb (length (tail_at n line)) 0
 
--- The place of the first test that fails, where the first place is n; 0 where none fails.
-unfoldable pub first_false : ℕ → List Bool → ℕ
-first_false n [] = 0
-first_false n (false ∷ ts) = n
-first_false n (true ∷ ts) = first_false (suc n) ts
-
--- The command, or which word of the line is wrong.
-abbrev pub unless : ℕ → Kind → Command → Command
-unless wrong k c = cond (eqb wrong 0) c (command.Wrong (record { kind = k; word = wrong }))
+unfoldable pub end_at : Kind → ℕ → List ℕ → Result (Unit {0}) Fault
+end_at k n line = cond (no_more n line) (Ok tt) (Err (wrong_at k n))
 
 -- `window N`: N fits two bytes.
-unfoldable pub window_line : List ℕ → Command
+unfoldable pub window_line : List ℕ → Result Command Fault
 window_line line =
-    unless (first_false 1 ((value_at 1 65535 line).known ∷ no_more 2 line ∷ true ∷ true ∷ true ∷ [])) kind.Window
-    (command.Item (item.Window (value_at 1 65535 line).value))
+    and_next (λ n. and_next (λ end. Ok (command.Item (item.Window n))) (end_at kind.Window 2 line)) (value_at kind.Window 1 65535 line)
 
 -- The tie rule that a word names (rule 18.1), and the one that is word n.
-unfoldable pub tie_rule_in : List ℕ → Number
-tie_rule_in w = cond (same w newest_word) (a_number 0) (cond (same w first_word) (a_number 1) no_number)
+unfoldable pub tie_rule_in : List ℕ → Option ℕ
+tie_rule_in w = cond (same w newest_word) (Some 0) (cond (same w first_word) (Some 1) None)
 
-unfoldable pub tie_rule_at : ℕ → List ℕ → Number
+unfoldable pub tie_rule_at : ℕ → List ℕ → Option ℕ
 tie_rule_at n line = tie_rule_in (word_at n line)
 
 -- The weight for heat, which is 0 where it isn't given: behind B stands nothing, or the tie rule.
-unfoldable pub heat_at : List ℕ → Number
-heat_at line = cond (no_more 5 line || (tie_rule_at 5 line).known) (a_number 0) (weight_at 5 line)
+unfoldable pub heat_at : List ℕ → Result ℤ Fault
+heat_at line = cond (no_more 5 line || is_some (tie_rule_at 5 line)) (Ok (pos 0)) (weight_at kind.Question 5 line)
 
 -- The tie rule: behind B, where nothing may follow it, or behind C. Where none is given it is newest (rule 18.1).
-unfoldable pub ties_at : List ℕ → Number
+unfoldable pub ties_at : List ℕ → Option ℕ
 ties_at line =
-    cond (tie_rule_at 5 line).known (record { known = no_more 6 line; value = (tie_rule_at 5 line).value })
-    (cond (no_more 6 line) (a_number 0) (tie_rule_at 6 line))
+    cond (is_some (tie_rule_at 5 line)) (cond (no_more 6 line) (tie_rule_at 5 line) None)
+    (cond (no_more 6 line) (Some 0) (tie_rule_at 6 line))
 
 -- No tie rule is given.
 unfoldable pub no_tie_rule : List ℕ → Bool
-no_tie_rule line = not (tie_rule_at 5 line).known && no_more 6 line
+no_tie_rule line = not (is_some (tie_rule_at 5 line)) && no_more 6 line
 
 -- The item that sets a question: without a weight for heat and a tie rule, with a weight (rule 17.7), or with a rule (rules 11.1 and 18.6).
 unfoldable pub question_item : List ℕ → Setting → Item
 question_item line s = cond (no_more 5 line) (item.Set s) (cond (no_tie_rule line) (item.SetHeat s) (item.SetTies s))
 
 -- `question SLOT K A B`, and perhaps C, and perhaps a tie rule: a slot and a k that fit a byte, weights that fit two.
-unfoldable pub question_line : List ℕ → Command
+unfoldable pub question_line : List ℕ → Result Command Fault
 question_line line =
-    unless
-    (first_false 1 ((value_at 1 255 line).known ∷ (value_at 2 255 line).known ∷ (weight_at 3 line).known ∷ (weight_at 4 line).known ∷ (heat_at line).known ∷ (ties_at line).known ∷ no_more 7 line ∷ []))
-    kind.Question
-    (command.Item (question_item line (record {
-      slot = (value_at 1 255 line).value;
-      k = (value_at 2 255 line).value;
-      loss = signed16 (weight_at 3 line).value;
-      shake = signed16 (weight_at 4 line).value;
-      heat = signed16 (heat_at line).value;
-      ties = (ties_at line).value;
+    and_next (λ slot. and_next (λ k. and_next (λ a. and_next (λ b. and_next (λ c. and_next (λ t. and_next (λ end.
+    Ok (command.Item (question_item line (record { slot = slot; k = k; loss = a; shake = b; heat = c; ties = t }))))
+    (end_at kind.Question 7 line))
+    (ok_or (ties_at line) (wrong_at kind.Question 6)))
+    (heat_at line))
+    (weight_at kind.Question 4 line))
+    (weight_at kind.Question 3 line))
+    (value_at kind.Question 2 255 line))
+    (value_at kind.Question 1 255 line)
+
+-- One slot that fits a byte, and nothing behind it: `remove SLOT`, and `show SLOT`.
+unfoldable pub slot_at : Kind → List ℕ → Result ℕ Fault
+slot_at k line = and_next (λ slot. and_next (λ end. Ok slot) (end_at k 2 line)) (value_at k 1 255 line)
+
+unfoldable pub remove_line : List ℕ → Result Command Fault
+remove_line line = and_next (λ slot. Ok (command.Item (item.Remove slot))) (slot_at kind.Remove line)
+
+unfoldable pub show_line : List ℕ → Result Command Fault
+show_line line = and_next (λ slot. Ok (command.Item (item.Show slot))) (slot_at kind.Show line)
+
+-- The kinds of a report with heat, and of one with a note also where nothing stands behind its number.
+abbrev pub is_heated : Kind → Bool
+is_heated kind.Nothing = false
+is_heated kind.Window = false
+is_heated kind.Question = false
+is_heated kind.Remove = false
+is_heated kind.Show = false
+is_heated kind.Report = false
+is_heated kind.Noted = false
+is_heated kind.Time = false
+is_heated kind.Untimed = false
+is_heated kind.Heated = true
+is_heated kind.HeatedNoted = true
+is_heated kind.Unknown = false
+
+abbrev pub is_noted : Kind → Bool
+is_noted kind.Nothing = false
+is_noted kind.Window = false
+is_noted kind.Question = false
+is_noted kind.Remove = false
+is_noted kind.Show = false
+is_noted kind.Report = false
+is_noted kind.Noted = true
+is_noted kind.Time = false
+is_noted kind.Untimed = false
+is_noted kind.Heated = false
+is_noted kind.HeatedNoted = true
+is_noted kind.Unknown = false
+
+-- The heat is word 4.
+unfoldable pub edition_at : Kind → List ℕ → Result Edition Fault
+edition_at k line = cond (is_heated k) (and_next (λ heat. Ok (edition.Second heat)) (value_at k 4 65535 line)) (Ok edition.First)
+
+-- The word that is the report's number.
+abbrev pub own_at : Kind → ℕ
+own_at k = cond (is_heated k) 5 4
+
+-- `report SENDER LOSS SHAKE NUMBER`, and what stands behind is its note; `noted` has a note also where nothing does. With heat these are
+-- `heated SENDER LOSS SHAKE HEAT NUMBER` and `heated-noted`.
+unfoldable pub report_line : Kind → List ℕ → Result Command Fault
+report_line k line =
+    and_next (λ sender. and_next (λ loss. and_next (λ shake. and_next (λ e. and_next (λ own.
+    Ok (command.Report (record {
+      sender = sender;
+      report = record { values = record { loss = loss; shake = shake; edition = e }; own = own };
+      noted = is_noted k || not (no_more (own_at k + 1) line);
     })))
-
--- One slot that fits a byte, and nothing behind it.
-unfoldable pub one_slot : List ℕ → Slot
-one_slot line =
-    record {
-      wrong = first_false 1 ((value_at 1 255 line).known ∷ no_more 2 line ∷ true ∷ true ∷ true ∷ []);
-      slot = (value_at 1 255 line).value;
-    }
-
--- `remove SLOT`, and `show SLOT`.
-unfoldable pub remove_line : List ℕ → Command
-remove_line line = unless (one_slot line).wrong kind.Remove (command.Item (item.Remove (one_slot line).slot))
-
-unfoldable pub show_line : List ℕ → Command
-show_line line = unless (one_slot line).wrong kind.Show (command.Item (item.Show (one_slot line).slot))
-
-abbrev pub report_kind : Bool → Kind
-report_kind always = cond always kind.Noted kind.Report
-
--- `report SENDER LOSS SHAKE NUMBER`, and what stands behind is its note; `noted` has a note also where nothing does.
-unfoldable pub report_line : Bool → List ℕ → Command
-report_line always line =
-    unless
-    (first_false 1 ((value_at 1 255 line).known ∷ (value_at 2 65535 line).known ∷ (value_at 3 65535 line).known ∷ (value_at 4 4294967295 line).known ∷ true ∷ []))
-    (report_kind always)
-    (command.Report (record {
-      sender = (value_at 1 255 line).value;
-      report = record { values = record { loss = (value_at 2 65535 line).value; shake = (value_at 3 65535 line).value; edition = edition.First }; own = (value_at 4 4294967295 line).value };
-      noted = always || not (no_more 5 line);
-    }))
-
-abbrev pub heated_kind : Bool → Kind
-heated_kind always = cond always kind.HeatedNoted kind.Heated
-
--- `heated SENDER LOSS SHAKE HEAT NUMBER` with its note, and `heated-noted`.
-unfoldable pub heated_line : Bool → List ℕ → Command
-heated_line always line =
-    unless
-    (first_false 1 ((value_at 1 255 line).known ∷ (value_at 2 65535 line).known ∷ (value_at 3 65535 line).known ∷ (value_at 4 65535 line).known ∷ (value_at 5 4294967295 line).known ∷ []))
-    (heated_kind always)
-    (command.Report (record {
-      sender = (value_at 1 255 line).value;
-      report = record {
-        values = record { loss = (value_at 2 65535 line).value; shake = (value_at 3 65535 line).value; edition = edition.Second (value_at 4 65535 line).value };
-        own = (value_at 5 4294967295 line).value;
-      };
-      noted = always || not (no_more 6 line);
-    }))
+    (value_at k (own_at k) 4294967295 line))
+    (edition_at k line))
+    (value_at k 3 65535 line))
+    (value_at k 2 65535 line))
+    (value_at k 1 255 line)
 
 -- `time MS`: MS fits four bytes. `untimed` stands alone.
-unfoldable pub time_line : List ℕ → Command
+unfoldable pub time_line : List ℕ → Result Command Fault
 time_line line =
-    unless (first_false 1 ((value_at 1 4294967295 line).known ∷ no_more 2 line ∷ true ∷ true ∷ true ∷ [])) kind.Time
-    (command.Time (time.At (value_at 1 4294967295 line).value))
+    and_next (λ ms. and_next (λ end. Ok (command.Time (Some ms))) (end_at kind.Time 2 line)) (value_at kind.Time 1 4294967295 line)
 
-unfoldable pub untimed_line : List ℕ → Command
-untimed_line line = unless (first_false 1 (no_more 1 line ∷ true ∷ true ∷ true ∷ true ∷ [])) kind.Untimed (command.Time time.Untimed)
+unfoldable pub untimed_line : List ℕ → Result Command Fault
+untimed_line line = and_next (λ end. Ok (command.Time None)) (end_at kind.Untimed 1 line)
 
-abbrev pub by_kind : Kind → List ℕ → Command
-by_kind kind.Nothing line = command.Nothing
+abbrev pub by_kind : Kind → List ℕ → Result Command Fault
+by_kind kind.Nothing line = Ok command.Nothing
 by_kind kind.Window line = window_line line
 by_kind kind.Question line = question_line line
 by_kind kind.Remove line = remove_line line
 by_kind kind.Show line = show_line line
-by_kind kind.Report line = report_line false line
-by_kind kind.Noted line = report_line true line
+by_kind kind.Report line = report_line kind.Report line
+by_kind kind.Noted line = report_line kind.Noted line
 by_kind kind.Time line = time_line line
 by_kind kind.Untimed line = untimed_line line
-by_kind kind.Heated line = heated_line false line
-by_kind kind.HeatedNoted line = heated_line true line
-by_kind kind.Unknown line = command.Wrong (record { kind = kind.Unknown; word = 0 })
+by_kind kind.Heated line = report_line kind.Heated line
+by_kind kind.HeatedNoted line = report_line kind.HeatedNoted line
+by_kind kind.Unknown line = Err (wrong_at kind.Unknown 0)
 
 -- What a line stands for.
-unfoldable pub command_of : List ℕ → Command
+unfoldable pub command_of : List ℕ → Result Command Fault
 command_of line = by_kind (kind_of (word_at 0 line)) line
 
 -- How many words a report's note stands behind, by the first of them.

@@ -9,26 +9,14 @@ use native.Mathlib.Numerals.{add-one}
 use native.Mathlib.Omega.{arith}
 use lib.Dec.{eqb, ltb, leb}
 use borrow.Author.Tests.{eqb-true, leb-true}
-use lib.ListN.{length, get_or, set, take, drop, length-append}
+use lib.ListN.{length, get_or, set, length-append}
 use lib.Seq.{sets}
 use Rattle.laws.proofs.Tests.{and_both}
 use Rattle.wire.proofs.Stores.{sets-append}
 use Rattle.lines.specs.Words.{word_at}
-use Rattle.lines.specs.Numbers.{no_number, number_in}
-use Rattle.lines.proofs.Numbers.{number_most}
 use Rattle.dump.specs.declared.Data.{Data}
 use Rattle.dump.specs.declared.Data.TheVariants as kind
-use Rattle.dump.specs.Dump.{behind_time, hash_at, fields_in, between, count_in, pair_of, pairs_in, data_of, mark_of, text_of, is_id, frame_of, shown_in}
-
--- A length is at most 15.
-pub count_most : (w : List ℕ) → (count_in w).value ≤ 15
-unfolding count_in
-count_most w = go (between 91 93 1 w) (between 123 125 1 w)
-  where
-    go : (a b : Bool) → (cond a (number_in 10 8 (take 1 (drop 1 w))) (cond b (number_in 16 15 (take 1 (drop 1 w))) no_number)).value ≤ 15
-    go true b = omega (arith, number_most 10 8 (take 1 (drop 1 w)))
-    go false true = number_most 16 15 (take 1 (drop 1 w))
-    go false false = omega arith
+use Rattle.dump.specs.Dump.{behind_time, hash_at, fields_in, pair_of, pairs_in, data_of, mark_of, text_of, is_id, frame_of, shown_in}
 
 -- A pair has two letters.
 pub pair_two : (w : List ℕ) → length (pair_of w) ≡ 2
@@ -58,11 +46,6 @@ pairs_turn f room at i k h e =
     let r : k - (i + 1) ≡ k - i - 1 = omega arith in
     rw (pairs_more f (2 + i) (k - i) (omega arith), sets-append, pair_two, e, p, q, r)
 
-pub pairs_end : (f : List ℕ) (at k : ℕ) → k ≡ 0 → pairs_in f at k ≡ []
-unfolding pairs_in
-pairs_end f at zero h = refl
-pairs_end f at (suc k) h = absurd (omega arith)
-
 pub mark_most : (n : ℕ) (f : List ℕ) → length (mark_of n f) ≤ 2
 unfolding mark_of
 mark_most n f = go (ltb 8 n) 95 (get_or (word_at 1 f) 1 0)
@@ -84,15 +67,6 @@ text_most kind.Unread f = omega arith
 pub id_most : (w : List ℕ) → is_id w ≡ true → length w ≤ 8
 unfolding is_id
 id_most w h = leb-true (length w) 8 (and_both (leb (length w) 8) (eqb (hash_at w) (length w)) h).0
-
-module _ (line f w : List ℕ) (fields : f ≡ fields_in (behind_time line)) (id : w ≡ word_at 0 f) where
-  pub shown_none : is_id w ≡ false → shown_in line ≡ []
-  unfolding shown_in
-  shown_none h = rw (← fields, ← id, h)
-
-  pub shown_is : is_id w ≡ true → shown_in line ≡ w ++ 35 ∷ text_of (data_of f) f
-  unfolding shown_in frame_of
-  shown_is h = rw (← fields, ← id, h)
 
 -- The identifier, #, the data, stored one behind the other.
 pub stored : (room w t : List ℕ) {a b d : List ℕ} → a ≡ sets room 0 w → b ≡ set a (length w) 35 → d ≡ sets b (length w + 1) t → d ≡ sets room 0 (w ++ 35 ∷ t)

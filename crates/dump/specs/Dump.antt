@@ -1,12 +1,11 @@
 -- A line of the text that can-utils' `candump` prints, into a log and on a screen: its interface, and its frame in the log's form, `ID#DATA`.
-use Rattle.std.specs.Prelude.{ℕ, zero, suc, ◌+◌, ◌-◌, min, List, [], ◌∷◌, ◌++◌, Bool, cond, not, ◌&&◌, ◌||◌, length, get_or, take, drop, leb, ltb, eqb}
+use Rattle.std.specs.Prelude.{ℕ, zero, suc, ◌+◌, ◌-◌, min, List, [], ◌∷◌, ◌++◌, Bool, cond, not, ◌&&◌, ◌||◌, length, get_or, take, drop, leb, ltb, eqb, Option, Some, None}
 use Rattle.wire.specs.Bytes.{same}
-use Rattle.lines.specs.declared.Number.{Number}
 use Rattle.lines.specs.declared.Run.TheVariants.{Until}
 use Rattle.lines.specs.Words.{run_length, word_at, tail_at}
-use Rattle.lines.specs.Numbers.{no_number, number_in}
+use Rattle.lines.specs.Numbers.{number_in}
 use Rattle.stamps.specs.declared.Stamp.{Stamp}
-use Rattle.stamps.specs.Stamps.{no_stamp, seconds_in, dated_in}
+use Rattle.stamps.specs.Stamps.{seconds_in, dated_in}
 use Rattle.dump.specs.declared.Data.{Data}
 use Rattle.dump.specs.declared.Data.TheVariants as kind
 
@@ -28,13 +27,13 @@ behind_time line =
     (tail_at 0 line)
 
 -- The time: seconds in one word, or a date and a time of day in two. None where there is none that can be read.
-unfoldable pub time_in : List ℕ → Stamp
+unfoldable pub time_in : List ℕ → Option Stamp
 time_in line =
     cond (opens (word_at 0 line))
     (cond (closes (word_at 0 line)) (seconds_in (word_at 0 line))
     (cond (closes (word_at 1 line)) (dated_in (word_at 0 line) (word_at 1 line))
-    no_stamp))
-    no_stamp
+    None))
+    None
 
 -- The interface is the first word there.
 unfoldable pub interface_in : List ℕ → List ℕ
@@ -69,11 +68,11 @@ unfoldable pub between : ℕ → ℕ → ℕ → List ℕ → Bool
 between first last n w = eqb (length w) (n + 2) && (eqb (get_or w 0 0) first && eqb (get_or w (n + 1) 0) last)
 
 -- The length of a frame: [0] to [8], or with `-8` {0} to {F}, where all from 8 on stand for 8 bytes; of CAN FD, two digits.
-unfoldable pub count_in : List ℕ → Number
+unfoldable pub count_in : List ℕ → Option ℕ
 count_in w =
     cond (between 91 93 1 w) (number_in 10 8 (take 1 (drop 1 w)))
     (cond (between 123 125 1 w) (number_in 16 15 (take 1 (drop 1 w)))
-    no_number)
+    None)
 
 -- Each byte is a word of two letters; in place of another stands ??, which is no byte.
 unfoldable pub pair_of : List ℕ → List ℕ
@@ -90,14 +89,17 @@ closed_at at f =
     eqb (length (word_at at f)) 0
     || (eqb (get_or (word_at at f) 0 0) 39 || same (word_at at f) (69 ∷ 82 ∷ 82 ∷ 79 ∷ 82 ∷ 70 ∷ 82 ∷ 65 ∷ 77 ∷ 69 ∷ []))
 
--- What the data are: of CAN FD, of a remote frame, so many bytes, or nothing that can be read.
+-- The data of a frame of such a length: of a remote frame, so many bytes, or nothing that can be read.
+unfoldable pub data_by : Option ℕ → List ℕ → Data
+data_by None f = kind.Unread
+data_by (Some n) f =
+    cond (same (word_at 2 f) (114 ∷ 101 ∷ 109 ∷ 111 ∷ 116 ∷ 101 ∷ [])) kind.Remote
+    (cond (not (closed_at (2 + min n 8) f)) kind.Unread
+    (kind.Bytes n))
+
+-- What the data are: of CAN FD, or by the length.
 unfoldable pub data_of : List ℕ → Data
-data_of f =
-    cond (between 91 93 2 (word_at 1 f)) kind.Flexible
-    (cond (not (count_in (word_at 1 f)).known) kind.Unread
-    (cond (same (word_at 2 f) (114 ∷ 101 ∷ 109 ∷ 111 ∷ 116 ∷ 101 ∷ [])) kind.Remote
-    (cond (not (closed_at (2 + min (count_in (word_at 1 f)).value 8) f)) kind.Unread
-    (kind.Bytes (count_in (word_at 1 f)).value))))
+data_of f = cond (between 91 93 2 (word_at 1 f)) kind.Flexible (data_by (count_in (word_at 1 f)) f)
 
 -- A length over 8 stands behind the data in a log: _E.
 unfoldable pub mark_of : ℕ → List ℕ → List ℕ

@@ -3,11 +3,11 @@
 // `INTERFACE ID [LENGTH] XX XX ..`, perhaps with a time before it (`-t`), marks before the identifier (`-x`), and letters behind the data (`-a`).
 #![tactic(auto)]
 
-ghost use Rattle.std.specs.Prelude.{◌≡◌, ◌+◌, ◌≤◌, min, length, take, drop};
+ghost use Rattle.std.specs.Prelude.{◌≡◌, ◌≤◌, length};
 ghost use Rattle.std.proofs.lemmas.List.Edits.{sets};
-ghost use Rattle.dump.specs.Dump.{opens, closes, behind_time, time_in, interface_in, is_log, ended, logged_in, fields_in, between, count_in, pair_of, pairs_in, mark_of, closed_at, data_of, text_of, is_id, shown_in, is_drop};
+ghost use Rattle.dump.specs.Dump.{opens, closes, behind_time, time_in, interface_in, is_log, ended, logged_in, fields_in, count_in, pair_of, pairs_in, mark_of, closed_at, data_of, text_of, is_id, shown_in, is_drop};
 
-use lines::{Number, Run};
+use lines::Run;
 use stamps::Stamp;
 
 // A frame in the log's form.
@@ -24,6 +24,7 @@ impl Text {
 }
 
 // The interface of a line.
+#[tactic(auto, unfolding(crate::specs::Dump::interface_in))]
 pub fn interface(line: &[u8]) -> &[u8]
     ensures { result.now ≡ interface_in line.now }
 {
@@ -31,12 +32,13 @@ pub fn interface(line: &[u8]) -> &[u8]
 }
 
 // The time of a line.
-pub fn time(line: &[u8]) -> Stamp
+#[tactic(auto, unfolding(crate::specs::Dump::time_in))]
+pub fn time(line: &[u8]) -> Option<Stamp>
     ensures { result ≡ time_in line.now }
 {
     let first = lines::word(line, 0);
     if !opens(first) {
-        return Stamp::none();
+        return None;
     }
     if closes(first) {
         return Stamp::seconds(first);
@@ -45,10 +47,11 @@ pub fn time(line: &[u8]) -> Stamp
     if closes(second) {
         return Stamp::dated(first, second);
     }
-    Stamp::none()
+    None
 }
 
 // Whether a line says only that frames were missed.
+#[tactic(auto, unfolding(crate::specs::Dump::is_drop))]
 pub fn is_drop(line: &[u8]) -> bool
     ensures { result ≡ is_drop line.now }
 {
@@ -56,32 +59,30 @@ pub fn is_drop(line: &[u8]) -> bool
 }
 
 // Whether a line has the log's form: its third word holds a #.
+#[tactic(auto, unfolding(crate::specs::Dump::is_log, crate::specs::Dump::hash_at))]
 pub fn is_log(line: &[u8]) -> bool
     ensures { result ≡ is_log line.now }
 {
     let time = lines::word(line, 0);
-    if !opens(time) {
-        return false;
-    }
-    if !closes(time) {
-        return false;
-    }
     let frame = lines::word(line, 2);
-    Run::Until(b'#').length(frame) < frame.len()
+    opens(time) && closes(time) && Run::Until(b'#').length(frame) < frame.len()
 }
 
 // The frame of a line in the log's form; nothing where something else stands behind it than R or T.
+#[tactic(auto, unfolding(crate::specs::Dump::logged_in))]
 pub fn logged(line: &[u8]) -> &[u8]
     ensures { result.now ≡ logged_in line.now }
 {
-    if !ends(line) {
-        return wire::front(line, 0);
+    if ends(line) {
+        lines::word(line, 2)
+    } else {
+        &[]
     }
-    lines::word(line, 2)
 }
 
 // Puts the frame of a line on a screen, in the log's form, to the front of `room`, and answers its size: at most
 // `Text::LONGEST`, and 0 where the line has none. What lies past the room's end is not stored.
+#[tactic(auto, using(crate::proofs::Texts::id_most, crate::proofs::Texts::text_most), unfolding(crate::specs::Dump::shown_in, crate::specs::Dump::frame_of))]
 pub fn shown(line: &[u8], room: &mut [u8]) -> usize
     ensures value { result ≡ length (shown_in line.now) }
     ensures room_after { room.new ≡ sets room.old 0 (shown_in line.now) }
@@ -99,22 +100,22 @@ pub fn shown(line: &[u8], room: &mut [u8]) -> usize
 }
 
 // Whether a word opens a bracket, and whether it closes one.
+#[tactic(auto, unfolding(crate::specs::Dump::opens))]
 fn opens(word: &[u8]) -> bool
     ensures { result ≡ opens word.now }
 {
-    wire::byte(word, 0) == b'('
+    matches!(word, [b'(', ..])
 }
 
+#[tactic(auto, unfolding(crate::specs::Dump::closes))]
 fn closes(word: &[u8]) -> bool
     ensures { result ≡ closes word.now }
 {
-    if word.len() == 0 {
-        return false;
-    }
-    wire::byte(word, word.len() - 1) == b')'
+    matches!(word, [.., b')'])
 }
 
 // What stands behind the time, of one word or two, where there is one.
+#[tactic(auto, unfolding(crate::specs::Dump::behind_time))]
 fn behind_time(line: &[u8]) -> &[u8]
     ensures { result.now ≡ behind_time line.now }
 {
@@ -128,108 +129,59 @@ fn behind_time(line: &[u8]) -> &[u8]
     if closes(lines::word(line, 1)) {
         return lines::tail(line, 2);
     }
-    wire::front(line, 0)
+    &[]
 }
 
 // Whether nothing stands behind the third word, or R, or T.
+#[tactic(auto, unfolding(crate::specs::Dump::ended))]
 fn ends(line: &[u8]) -> bool
     ensures { result ≡ ended line.now }
 {
-    let rest = lines::tail(line, 4);
-    if rest.len() != 0 {
-        return false;
-    }
     let mark = lines::word(line, 3);
-    if mark.len() == 0 {
-        return true;
-    }
-    if lines::same(mark, b"R") {
-        return true;
-    }
-    lines::same(mark, b"T")
+    lines::tail(line, 4).is_empty()
+        && (mark.is_empty() || lines::same(mark, b"R") || lines::same(mark, b"T"))
 }
 
 // The identifier and what stands behind it.
+#[tactic(auto, unfolding(crate::specs::Dump::fields_in))]
 fn fields(body: &[u8]) -> &[u8]
     ensures { result.now ≡ fields_in body.now }
 {
-    let word = lines::word(body, 1);
-    if lines::same(word, b"RX") {
-        return lines::tail(body, 4);
+    let way = lines::word(body, 1);
+    if lines::same(way, b"RX") || lines::same(way, b"TX") {
+        lines::tail(body, 4)
+    } else {
+        lines::tail(body, 1)
     }
-    if lines::same(word, b"TX") {
-        return lines::tail(body, 4);
-    }
-    lines::tail(body, 1)
 }
 
 // Whether a word could be an identifier.
+#[tactic(auto, unfolding(crate::specs::Dump::is_id, crate::specs::Dump::hash_at))]
 fn is_id(word: &[u8]) -> bool
     ensures { result ≡ is_id word.now }
 {
-    if Text::ID_DIGITS < word.len() {
-        return false;
-    }
-    Run::Until(b'#').length(word) == word.len()
-}
-
-// Whether a word is n bytes between two others.
-fn between(first: u8, last: u8, n: u8, word: &[u8]) -> bool
-    ensures { result ≡ between first last n word.now }
-{
-    let size = (n as usize) + 2;
-    if word.len() != size {
-        return false;
-    }
-    if wire::byte(word, 0) != first {
-        return false;
-    }
-    wire::byte(word, size - 1) == last
+    word.len() <= Text::ID_DIGITS && Run::Until(b'#').length(word) == word.len()
 }
 
 // The length of a frame, 0 to 15.
-fn count(word: &[u8]) -> Number
+#[tactic(auto, using(lines::proofs::Numbers::number_most), unfolding(crate::specs::Dump::count_in, crate::specs::Dump::between))]
+fn count(word: &[u8]) -> Option<u8>
     ensures { result ≡ count_in word.now }
 {
-    if between(b'[', b']', 1, word) {
-        return Number::read(inner(word), 10, 8);
+    match word {
+        [b'[', _, b']'] => Some(lines::number(&word[1..2], 10, 8)? as u8),
+        [b'{', _, b'}'] => Some(lines::number(&word[1..2], 16, 15)? as u8),
+        _ => None,
     }
-    if between(b'{', b'}', 1, word) {
-        return Number::read(inner(word), 16, 15);
-    }
-    Number {
-        known: false,
-        value: 0,
-    }
-}
-
-// What stands between the first byte of a word and its third.
-fn inner(word: &[u8]) -> &[u8]
-    requires { length word.now ≡ 3 }
-    ensures { result.now ≡ take 1 (drop 1 word.now) }
-{
-    &word[1..2]
 }
 
 // Whether the data end before a word: nothing stands there, or letters in quotes, or ERRORFRAME.
+#[tactic(auto, unfolding(crate::specs::Dump::closed_at))]
 fn closed(f: &[u8], at: u8) -> bool
     ensures { result ≡ closed_at at f.now }
 {
     let word = lines::word(f, at);
-    if word.len() == 0 {
-        return true;
-    }
-    if wire::byte(word, 0) == b'\'' {
-        return true;
-    }
-    lines::same(word, b"ERRORFRAME")
-}
-
-// At most 8 bytes.
-fn least(n: u8) -> u8
-    ensures { result ≡ min n 8 }
-{
-    if n < Text::DATA { n } else { Text::DATA }
+    matches!(word, [] | [b'\'', ..]) || lines::same(word, b"ERRORFRAME")
 }
 
 // What the data of a frame on a screen are: CAN FD's; a remote frame's, which has none; so many bytes, where a length over 8 stands for 8; or
@@ -243,28 +195,29 @@ pub enum Data {
 }
 
 impl Data {
+    #[tactic(auto, unfolding(crate::specs::Dump::data_of, crate::specs::Dump::data_by, crate::specs::Dump::between))]
     fn of(f: &[u8]) -> Data
         ensures { result ≡ data_of f.now }
     {
         let form = lines::word(f, 1);
-        if between(b'[', b']', 2, form) {
+        if matches!(form, [b'[', _, _, b']']) {
             return Data::Flexible;
         }
-        let n = count(form);
-        if !n.known {
+        let Some(size) = count(form) else {
             return Data::Unread;
-        }
+        };
         if lines::same(lines::word(f, 2), b"remote") {
             return Data::Remote;
         }
-        let size = n.value as u8;
-        if !closed(f, 2 + least(size)) {
-            return Data::Unread;
+        if closed(f, 2 + size.min(Text::DATA)) {
+            Data::Bytes(size)
+        } else {
+            Data::Unread
         }
-        Data::Bytes(size)
     }
 
     // Puts the data in the log's form at a place, and answers how long they are.
+    #[tactic(auto, using(crate::proofs::Texts::pairs_length, crate::proofs::Texts::mark_most), unfolding(crate::specs::Dump::text_of))]
     fn put(self, f: &[u8], room: &mut [u8], at: usize) -> usize
         requires { at ≤ 9 }
         ensures value { result ≡ length (text_of self f.now) }
@@ -284,9 +237,9 @@ impl Data {
                 1
             }
             Data::Bytes(n) => {
-                let k = least(n);
+                let k = n.min(Text::DATA);
                 put_pairs(f, room, at, k);
-                let size = 2 * (k as usize);
+                let size = 2 * usize::from(k);
                 size + put_mark(f, room, at + size, n)
             }
         }
@@ -294,28 +247,26 @@ impl Data {
 }
 
 // Puts the letters of k bytes at a place.
+#[tactic(auto, unfolding(crate::specs::Dump::pairs_in))]
 fn put_pairs(f: &[u8], room: &mut [u8], at: usize, k: u8)
     requires { (at ≤ 9) × (k ≤ 8) }
     ensures { room.new ≡ sets room.old at (pairs_in f.now 2 k) }
 {
-    let mut i: u8 = 0;
-    while i < k {
-        put_pair(lines::word(f, 2 + i), room, at + 2 * (i as usize));
-        i += 1;
+    for i in 0..k {
+        put_pair(lines::word(f, 2 + i), room, at + 2 * usize::from(i));
     }
 }
 
+#[tactic(auto, unfolding(crate::specs::Dump::pair_of))]
 fn put_pair(word: &[u8], room: &mut [u8], at: usize)
     ensures { room.new ≡ sets room.old at (pair_of word.now) }
 {
-    if word.len() == 2 {
-        wire::put_all(room, at, word);
-    } else {
-        wire::put_all(room, at, b"??");
-    }
+    let pair = if word.len() == 2 { word } else { b"??" };
+    wire::put_all(room, at, pair);
 }
 
 // Puts the mark of a length over 8, and answers how long it is.
+#[tactic(auto, unfolding(crate::specs::Dump::mark_of))]
 fn put_mark(f: &[u8], room: &mut [u8], at: usize, n: u8) -> usize
     requires { at ≤ 25 }
     ensures value { result ≡ length (mark_of n f.now) }

@@ -10,10 +10,10 @@ use Rattle.lines.proofs.word.Kinds as word-kinds
 use Rattle.lines.proofs.word.Reads as word-reads
 use Rattle.lines.proofs.same.Kinds as same-kinds
 use Rattle.lines.proofs.same.Reads as same_Reads
-use Rattle.lines.proofs.Number.read.Kinds as read-kinds
-use Rattle.lines.proofs.Number.read.Reads as read-reads
-use Rattle.lines.proofs.Number.short.Kinds as short-kinds
-use Rattle.lines.proofs.Number.short.Reads as short-reads
+use Rattle.lines.proofs.number.Kinds as number-kinds
+use Rattle.lines.proofs.number.Reads as number-reads
+use Rattle.lines.proofs.short.Kinds as short-kinds
+use Rattle.lines.proofs.short.Reads as short-reads
 
 length_once : OneAnswer 1 length-kinds.ps length-kinds.r length-reads.Post
 length_once κs a x y s t p q = p ∙ sym q
@@ -27,8 +27,8 @@ word_once κs a x y s t p q = p ∙ sym q
 same_once : OneAnswer 2 same-kinds.ps same-kinds.r same_Reads.Post
 same_once κs a x y s t p q = p ∙ sym q
 
-read_once : OneAnswer 1 read-kinds.ps read-kinds.r read-reads.Post
-read_once κs a x y s t p q = p ∙ sym q
+number_once : OneAnswer 1 number-kinds.ps number-kinds.r number-reads.Post
+number_once κs a x y s t p q = p ∙ sym q
 
 short_once : OneAnswer 1 short-kinds.ps short-kinds.r short-reads.Post
 short_once κs a x y s t p q = p ∙ sym q

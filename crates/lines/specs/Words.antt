@@ -1,5 +1,6 @@
 -- A line of text as words between blanks.
-use Rattle.std.specs.Prelude.{ℕ, zero, suc, List, [], ◌∷◌, Bool, cond, not, take, drop, leb, ltb, eqb}
+use Rattle.std.specs.Prelude.{ℕ, zero, suc, List, Bool, not, take, drop, leb, ltb, eqb}
+use Rattle.std.specs.List.{prefix_len}
 use Rattle.lines.specs.declared.Run.{Run}
 use Rattle.lines.specs.declared.Run.TheVariants.{Blanks, Letters, Until}
 
@@ -11,8 +12,7 @@ is_of_kind (Until end) b = not (eqb b end)
 
 -- How many bytes at the front are of the kind.
 unfoldable pub run_length : Run → List ℕ → ℕ
-run_length kind [] = 0
-run_length kind (b ∷ s) = cond (is_of_kind kind b) (suc (run_length kind s)) 0
+run_length kind s = prefix_len (is_of_kind kind) s
 
 -- Without the blanks at the front, and without the letters there.
 unfoldable pub trimmed : List ℕ → List ℕ

@@ -2,10 +2,10 @@
 // Words stand between blanks; a blank is the space or any byte below it, so tabs and carriage returns are blanks too.
 #![tactic(auto)]
 
-ghost use Rattle.std.specs.Prelude.{◌≡◌, ◌+◌, ◌*◌, ◌≤◌, drop, length};
+ghost use Rattle.std.specs.Prelude.{◌≡◌, drop};
 ghost use Rattle.wire.specs.Bytes.{same};
-ghost use Rattle.lines.specs.Words.{is_of_kind, run_length, tail_at, word_at, trimmed, behind_word};
-ghost use Rattle.lines.specs.Numbers.{no_number, digit_of, with_digit, number_on, number_in, short_in, negated};
+ghost use Rattle.lines.specs.Words.{is_of_kind, run_length, tail_at, word_at};
+ghost use Rattle.lines.specs.Numbers.{digit_of, with_digit, number_in, short_in};
 
 // Which bytes in a row are counted.
 #[derive(Clone, Copy)]
@@ -19,17 +19,19 @@ impl Run {
     pub const LAST_BLANK: u8 = 32;
 
     // How many bytes at the front are of this kind.
+    #[tactic(auto, unfolding(crate::specs::Words::run_length))]
     pub fn length(self, s: &[u8]) -> usize
         ensures { result ≡ run_length self s.now }
     {
-        let mut i: usize = 0;
-        while i < s.len() {
-            if !self.is_of_kind(s[i]) {
-                return i;
-            }
-            i += 1;
-        }
-        i
+        s.iter().take_while(|b| self.is_of_kind(**b)).count()
+    }
+
+    // What stands behind the bytes of this kind at the front.
+    #[tactic(auto, using(crate::proofs::Words::run_within))]
+    fn passed(self, s: &[u8]) -> &[u8]
+        ensures { result.now ≡ drop (run_length self s.now) s.now }
+    {
+        &s[self.length(s)..]
     }
 
     // Whether a byte is of this kind.
@@ -45,165 +47,84 @@ impl Run {
 }
 
 // What is left of a line behind its first n words, without blanks before it.
+#[tactic(auto, unfolding(crate::specs::Words::tail_at, crate::specs::Words::trimmed, crate::specs::Words::behind_word))]
 pub fn tail(s: &[u8], n: u8) -> &[u8]
     ensures { result.now ≡ tail_at n s.now }
 {
-    let at = start(s, n);
-    &s[at..]
+    let mut rest = Run::Blanks.passed(s);
+    for i in 0..n {
+        rest = Run::Blanks.passed(Run::Letters.passed(rest));
+    }
+    rest
 }
 
 // The word n of a line, counted from 0; no bytes where there is none.
+#[tactic(auto, unfolding(crate::specs::Words::word_at))]
 pub fn word(s: &[u8], n: u8) -> &[u8]
     ensures { result.now ≡ word_at n s.now }
 {
-    let at = start(s, n);
-    let size = Run::Letters.length(&s[at..]);
-    let end = at + size;
-    &s[at..end]
-}
-
-// Where the word n starts.
-fn start(s: &[u8], n: u8) -> usize
-    ensures { (result ≤ length s.now) × (drop result s.now ≡ tail_at n s.now) }
-{
-    let mut at = Run::Blanks.length(s);
-    let mut i: u8 = 0;
-    while i < n {
-        at += past_word(&s[at..]);
-        i += 1;
-    }
-    at
-}
-
-// Where the next word starts, behind the one at the front.
-fn past_word(s: &[u8]) -> usize
-    ensures { (result ≤ length s.now) × (drop result s.now ≡ trimmed (behind_word s.now)) }
-{
-    let word = Run::Letters.length(s);
-    word + Run::Blanks.length(&s[word..])
+    let rest = tail(s, n);
+    &rest[..Run::Letters.length(rest)]
 }
 
 // Whether two texts are the same.
 pub fn same(s: &[u8], t: &[u8]) -> bool
     ensures { result ≡ same s.now t.now }
 {
-    if s.len() != t.len() {
-        return false;
-    }
-    let mut i: usize = 0;
-    while i < s.len() {
-        if s[i] != t[i] {
-            return false;
-        }
-        i += 1;
-    }
-    true
+    s == t
 }
 
-// A number that was read, or that a text is none: then its value is 0.
-#[derive(Clone, Copy)]
-pub struct Number {
-    pub known: bool,
-    pub value: u32,
+// The number that the digits of a text stand for; none where there are no digits, or a byte is no digit of the base,
+// or the number is over `most`.
+#[tactic(auto, using(crate::proofs::Numbers::number_more), unfolding(crate::specs::Numbers::number_in, crate::specs::Numbers::number_on))]
+pub fn number(s: &[u8], base: u8, most: u32) -> Option<u32>
+    ensures { result ≡ number_in base most s.now }
+{
+    if s.is_empty() {
+        return None;
+    }
+    let mut n = 0;
+    for b in s {
+        n = with_digit(n, *b, base, most)?;
+    }
+    Some(n)
 }
 
-impl Number {
-    // No digit of any base.
-    pub const NO_DIGIT: u8 = 255;
-
-    fn unknown() -> Number
-        ensures { result ≡ no_number }
-    {
-        Number {
-            known: false,
-            value: 0,
-        }
+// The number with one digit more.
+#[tactic(auto, unfolding(crate::specs::Numbers::with_digit))]
+fn with_digit(n: u32, b: u8, base: u8, most: u32) -> Option<u32>
+    ensures { result ≡ with_digit base most n b }
+{
+    let d = digit(b)?;
+    if base <= d {
+        return None;
     }
-
-    // The number that the digits of a text stand for; unknown where there are none, or a byte is no digit of the base,
-    // or the number is over `most`.
-    pub fn read(s: &[u8], base: u8, most: u32) -> Number
-        ensures { result ≡ number_in base most s.now }
-    {
-        if s.len() == 0 {
-            return Number::unknown();
-        }
-        let mut n = Number {
-            known: true,
-            value: 0,
-        };
-        let mut i: usize = 0;
-        while i < s.len() {
-            n = n.with_digit(s[i], base, most);
-            i += 1;
-        }
-        n
-    }
-
-    // The number with one digit more.
-    fn with_digit(self, b: u8, base: u8, most: u32) -> Number
-        ensures { result ≡ with_digit base most self b }
-    {
-        let d = digit(b);
-        let next = shifted(self.value, base, d);
-        if !self.known {
-            return Number::unknown();
-        }
-        if base <= d {
-            return Number::unknown();
-        }
-        if (most as u64) < next {
-            return Number::unknown();
-        }
-        Number {
-            known: true,
-            value: next as u32,
-        }
-    }
-
-    // A number from -32,768 to 32,767, decimal with a minus before a negative one, as a two-byte field holds it.
-    pub fn short(s: &[u8]) -> Number
-        ensures { result ≡ short_in s.now }
-    {
-        if wire::byte(s, 0) == b'-' {
-            Number::read(&s[1..], 10, 32768).negative()
-        } else {
-            Number::read(s, 10, 32767)
-        }
-    }
-
-    // What two bytes hold for the number below zero.
-    fn negative(self) -> Number
-        ensures { result ≡ negated self }
-    {
-        let n = self.value;
-        if !self.known {
-            return Number::unknown();
-        }
-        if 32768 < n {
-            return Number::unknown();
-        }
-        Number {
-            known: true,
-            value: (65536 - n) % 65536,
-        }
-    }
+    let next = n.checked_mul(u32::from(base))?.checked_add(u32::from(d))?;
+    if most < next { None } else { Some(next) }
 }
 
 // What a byte stands for as a digit: 0 to 9, A to F or a to f.
-fn digit(b: u8) -> u8
+#[tactic(auto, unfolding(crate::specs::Numbers::digit_of))]
+fn digit(b: u8) -> Option<u8>
     ensures { result ≡ digit_of b }
 {
     match b {
-        b'0'..=b'9' => b - b'0',
-        b'A'..=b'F' => b - b'A' + 10,
-        b'a'..=b'f' => b - b'a' + 10,
-        _ => Number::NO_DIGIT,
+        b'0'..=b'9' => Some(b - b'0'),
+        b'A'..=b'F' => Some(b - b'A' + 10),
+        b'a'..=b'f' => Some(b - b'a' + 10),
+        _ => None,
     }
 }
 
-fn shifted(n: u32, base: u8, d: u8) -> u64
-    ensures { result ≡ n * base + d }
+// A number from -32,768 to 32,767, decimal with a minus before a negative one.
+#[tactic(auto, using(crate::proofs::Numbers::number_most), unfolding(crate::specs::Numbers::short_in))]
+pub fn short(s: &[u8]) -> Option<i16>
+    ensures { result ≡ short_in s.now }
 {
-    (n as u64) * (base as u64) + (d as u64)
+    if let [b'-', digits @ ..] = s {
+        let n = number(digits, 10, 32768)?;
+        return Some(-i64::from(n) as i16);
+    }
+    let n = number(s, 10, 32767)?;
+    Some(n as i16)
 }

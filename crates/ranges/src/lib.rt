@@ -1,7 +1,6 @@
 // The words of a line that are left, read one after another: each as a number of its range, or as bytes.
 #![tactic(auto)]
 
-use lines::Number;
 
 // What is left of a line.
 #[derive(Clone, Copy)]
@@ -121,11 +120,8 @@ where
     u32: From<T>,
     T::Error: Drop,
 {
-    let n = Number::read(word, base, u32::from(most));
-    if !n.known {
-        return Err(Wrong);
-    }
-    T::try_from(n.value).map_err(|_| Wrong)
+    let n = lines::number(word, base, u32::from(most)).ok_or(Wrong)?;
+    T::try_from(n).map_err(|_| Wrong)
 }
 
 // Whether a word is two hexadecimal digits for each byte.

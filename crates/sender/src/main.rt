@@ -4,7 +4,7 @@
 
 mod faults;
 
-use commands::{Answer, Command, Kind, Time};
+use commands::{Command, Kind, Trouble};
 use faults::Expected;
 use input::{Input, ReadFailed};
 use std::fmt;
@@ -44,7 +44,7 @@ fn run(reader: &mut impl Read, out: &impl Print, err: &impl Print) -> Result<(),
     let mut input = Input::fresh();
     let mut line = [0u8; Input::LONGEST];
     let mut space = [0u8; 4096];
-    let mut time = Time::Untimed;
+    let mut time = None;
     for _ in 0..u64::MAX {
         let Some(found) = input.next(reader, &mut line, &mut space)? else {
             break;
@@ -61,8 +61,8 @@ fn send(
     err: &impl Print,
     found: Input,
     line: &[u8],
-    time: Time,
-) -> Result<Time, Stop> {
+    time: Option<u32>,
+) -> Result<Option<u32>, Stop> {
     if found.is_cut() {
         return Ok(time);
     }
@@ -75,12 +75,12 @@ fn send(
     let text = wire::front(line, found.size);
     let outcome = commands::write(text, time, &mut room);
     match outcome.answer {
-        Answer::Items(n) => write(out, wire::front(&room, n))?,
-        Answer::Wrong(fault) => {
+        Ok(n) => write(out, wire::front(&room, n))?,
+        Err(Trouble::Wrong(fault)) => {
             let expected = Expected(fault);
             let _ = println!(err; "line {number}: {expected}");
         }
-        Answer::Refused(code) => {
+        Err(Trouble::Refused(code)) => {
             let refusal = refusal(code, Kind::of(lines::word(text, 0)));
             let _ = println!(err; "line {number}: {refusal}");
         }

@@ -2,10 +2,11 @@
 -- Assumes nothing.
 use mathlib.Core.Path.{◌≡◌, refl}
 use mathlib.Core.List.{[], ◌∷◌}
+use Rattle.std.proofs.Common.{None}
 use Rattle.lines.specs.Words.{run_length}
 use Rattle.lines.specs.Numbers.{digit_of, with_digit, number_on, number_in}
 use Rattle.stamps.specs.declared.Since.TheVariants.{At, Beyond}
-use Rattle.stamps.specs.Stamps.{a_stamp, no_stamp, bare, point_at, fraction_in, stamp_of, seconds_of, seconds_in, leap_day, day_of, is_date, day_in, is_clock, clock_in, seconds_from, dated_in, earliest, between, since_of}
+use Rattle.stamps.specs.Stamps.{a_stamp, bare, point_at, fraction_in, stamp_of, seconds_of, seconds_in, leap_day, day_of, is_date, day_in, is_clock, clock_in, seconds_from, dated_in, earliest, between, since_of}
 
 -- `(1436509052.249713)`, and a fraction of one digit, which is tenths: `(0.1)`.
 micros : seconds_in (40 ∷ 49 ∷ 52 ∷ 51 ∷ 54 ∷ 53 ∷ 48 ∷ 57 ∷ 48 ∷ 53 ∷ 50 ∷ 46 ∷ 50 ∷ 52 ∷ 57 ∷ 55 ∷ 49 ∷ 51 ∷ 41 ∷ []) ≡ a_stamp 1436509052249713000
@@ -18,12 +19,12 @@ unfolding bare point_at run_length fraction_in digit_of with_digit number_on num
 tenths = refl
 
 -- Ten digits behind the point are no time: `(0.0000000001)`.
-ten_digits : seconds_in (40 ∷ 48 ∷ 46 ∷ 48 ∷ 48 ∷ 48 ∷ 48 ∷ 48 ∷ 48 ∷ 48 ∷ 48 ∷ 48 ∷ 49 ∷ 41 ∷ []) ≡ no_stamp
+ten_digits : seconds_in (40 ∷ 48 ∷ 46 ∷ 48 ∷ 48 ∷ 48 ∷ 48 ∷ 48 ∷ 48 ∷ 48 ∷ 48 ∷ 48 ∷ 49 ∷ 41 ∷ []) ≡ None
 unfolding bare point_at run_length fraction_in digit_of with_digit number_on number_in stamp_of seconds_of seconds_in leap_day day_of is_date day_in is_clock clock_in seconds_from dated_in earliest between since_of
 ten_digits = refl
 
 -- `(x)`
-no_digits : seconds_in (40 ∷ 120 ∷ 41 ∷ []) ≡ no_stamp
+no_digits : seconds_in (40 ∷ 120 ∷ 41 ∷ []) ≡ None
 unfolding bare point_at run_length fraction_in digit_of with_digit number_on number_in stamp_of seconds_of seconds_in leap_day day_of is_date day_in is_clock clock_in seconds_from dated_in earliest between since_of
 no_digits = refl
 

@@ -1,5 +1,5 @@
 use mathlib.Core.Path.{◌≡◌}
-use Prim.Native.Nat.{◌≤◌, ◌-◌, ◌*◌}
+use Prim.Native.Nat.{◌≤◌, ◌*◌}
 use lib.ListN.{length}
 use lib.Seq.{sets}
 use Rattle.commands.proofs.Writing.{cut}
@@ -7,7 +7,4 @@ use Rattle.commands.proofs.put_frames.Given as goal
 
 abbrev pub invariant-loop-i : goal.invariant-loop-i
 invariant-loop-i l =
-    (l.i ≤ l.count) × (length l.room ≡ length l.initial.room) × (l.at ≡ length (cut l.time l.i l.frames)) × (l.at ≤ 19 * l.i) × (l.room ≡ sets l.initial.room 0 (cut l.time l.i l.frames))
-
-abbrev pub decreases-loop-i : goal.decreases-loop-i
-decreases-loop-i l = l.count - l.i
+    (l.at ≡ length (cut l.time l.i l.frames)) × (l.at ≤ 19 * l.i) × (l.room ≡ sets l.initial.room 0 (cut l.time l.i l.frames))
