@@ -7,8 +7,8 @@ use native.Mathlib.Omega.{arith}
 use lib.ListN.{length, drop, length-append}
 use lib.Seq.{take_at, drop_at}
 use Rattle.wire.specs.Bytes.{bytes, head, field, part, field_at}
-use Rattle.wire.specs.declared.Field.TheVariants.{Whole}
-use Rattle.wire.proofs.Fields.{length-field, written_stands, stands_facts, whole, cut_short}
+use Rattle.std.proofs.Common.{Some}
+use Rattle.wire.proofs.Fields.{field_of, length-field, written_stands, stands_facts, whole, cut_short}
 use Rattle.items.specs.declared.Item.{Item}
 use Rattle.items.specs.declared.Item.TheVariants.{Window, Set, Frame, Remove, Show, Timed, SetHeat, SetTies, Unknown}
 use Rattle.items.specs.Items.{setting_bytes, heat_bytes, ties_bytes, tag_of, value_of}
@@ -20,10 +20,10 @@ module _ (tag : ℕ) (v rest : List ℕ) (short : length v < 65536) where
   abbrev all : List ℕ
   all = field tag v ++ rest
 
-  found : field_at all 0 ≡ Whole tag 3 (length v)
+  found : field_at all 0 ≡ Some (field_of tag 3 (length v))
   found =
       let f = stands_facts all 0 tag (length v) (written_stands [] v rest 0 tag (length v) refl refl short) in
-      sym (whole all 0 f.0) ∙ ap₂ (λ (t n : ℕ). Whole t 3 n) f.1 f.2
+      sym (whole all 0 f.0) ∙ ap₂ (λ (t n : ℕ). Some (field_of t 3 n)) f.1 f.2
 
   value_there : part 3 (length v) all ≡ v
   unfolding field head bytes

@@ -1,8 +1,7 @@
 -- Items one after the other, as a log has them.
-use Rattle.std.specs.Prelude.{ℕ, zero, suc, ◌+◌, List, [], ◌∷◌, ◌++◌, length, drop}
+use Rattle.std.specs.Prelude.{ℕ, zero, suc, ◌+◌, List, [], ◌∷◌, ◌++◌, Option, Some, None, length, drop}
 use Rattle.wire.specs.Bytes.{part, field_at}
 use Rattle.wire.specs.declared.Field.{Field}
-use Rattle.wire.specs.declared.Field.TheVariants.{Whole, Cut}
 use Rattle.items.specs.declared.Item.{Item}
 use Rattle.items.specs.Items.{item_bytes, data_of, item_in}
 
@@ -21,9 +20,9 @@ run_bytes [] = []
 run_bytes (m ∷ ms) = item_bytes m.item m.data_bytes ++ run_bytes ms
 
 -- The first field's item, and then the others; a field that the bytes end in is no item.
-abbrev pub first_then : List ℕ → (List ℕ → List Meant) → Field → List Meant
-first_then bs others (Whole tag start size) = meant_by tag (part start size bs) ∷ others (drop (start + size) bs)
-first_then bs others Cut = []
+abbrev pub first_then : List ℕ → (List ℕ → List Meant) → Option Field → List Meant
+first_then bs others (Some f) = meant_by f.tag (part f.start f.size bs) ∷ others (drop (f.start + f.size) bs)
+first_then bs others None = []
 
 -- At most n of the items that bytes hold.
 unfoldable pub items_in : ℕ → List ℕ → List Meant

@@ -2,10 +2,10 @@
 // reading and their writing, for the log, the bench sender and captured frames alike.
 #![tactic(auto)]
 
-ghost use Rattle.std.specs.Prelude.{◌≡◌, ◌&&◌, [], ◌∷◌, ◌++◌, ◌≤◌, eqb, length, take};
+ghost use Rattle.std.specs.Prelude.{◌≡◌, ◌++◌, ◌≤◌, length};
 ghost use Rattle.std.proofs.lemmas.List.Edits.{sets};
 ghost use Rattle.wire.specs.Bytes.{bytes, part, field};
-ghost use Rattle.items.specs.Items.{signed16, unsigned16, setting_in, ties_bytes, data_of, item_in, item_bytes};
+ghost use Rattle.items.specs.Items.{signed16, setting_in, ties_bytes, data_of, item_in, item_bytes};
 
 use wire::Field;
 
@@ -87,35 +87,23 @@ impl Item {
     pub const TIMED_BYTES: usize = 19;
 
     // What an item of this tag and value says.
+    #[tactic(auto, unfolding(crate::specs::Items::item_in))]
     pub fn read(tag: u8, value: &[u8]) -> Item
         ensures { result ≡ item_in tag value.now }
     {
-        let size = value.len();
-        if is_item(tag, size, Item::WINDOW, Item::WINDOW_SIZE) {
-            return Item::Window(wire::read16(value, 0));
+        match (tag, value.len()) {
+            (Item::WINDOW, Item::WINDOW_SIZE) => Item::Window(wire::read16(value, 0)),
+            (Item::SET, Item::SET_SIZE) => Item::Set(Setting::read(value)),
+            (Item::FRAME, Item::FRAME_SIZE) => Item::Frame(wire::read32(value, 0)),
+            (Item::REMOVE, Item::REMOVE_SIZE) => Item::Remove(wire::byte(value, 0)),
+            (Item::SHOW, Item::SHOW_SIZE) => Item::Show(wire::byte(value, 0)),
+            (Item::TIMED, Item::TIMED_SIZE) => {
+                Item::Timed(wire::read32(value, 0), wire::read32(value, Item::TIME))
+            }
+            (Item::SET_HEAT, Item::SET_HEAT_SIZE) => Item::SetHeat(Setting::read(value)),
+            (Item::SET_TIES, Item::SET_TIES_SIZE) => Item::SetTies(Setting::read(value)),
+            _ => Item::Unknown,
         }
-        if is_item(tag, size, Item::SET, Item::SET_SIZE) {
-            return Item::Set(Setting::read(value));
-        }
-        if is_item(tag, size, Item::FRAME, Item::FRAME_SIZE) {
-            return Item::Frame(wire::read32(value, 0));
-        }
-        if is_item(tag, size, Item::REMOVE, Item::REMOVE_SIZE) {
-            return Item::Remove(wire::byte(value, 0));
-        }
-        if is_item(tag, size, Item::SHOW, Item::SHOW_SIZE) {
-            return Item::Show(wire::byte(value, 0));
-        }
-        if is_item(tag, size, Item::TIMED, Item::TIMED_SIZE) {
-            return Item::Timed(wire::read32(value, 0), wire::read32(value, Item::TIME));
-        }
-        if is_item(tag, size, Item::SET_HEAT, Item::SET_HEAT_SIZE) {
-            return Item::SetHeat(Setting::read(value));
-        }
-        if is_item(tag, size, Item::SET_TIES, Item::SET_TIES_SIZE) {
-            return Item::SetTies(Setting::read(value));
-        }
-        Item::Unknown
     }
 
     // The data bytes in the value of this item: a frame's, and none of any other.
@@ -125,156 +113,108 @@ impl Item {
         match self {
             Item::Frame(_) => eight_at(value, Item::DATA),
             Item::Timed(_, _) => eight_at(value, Item::TIME + Item::DATA),
-            _ => wire::front(value, 0),
+            _ => &[],
         }
     }
 
     // Stores the item from `at` on, with `data` behind the identifier of a frame, and answers how many bytes it takes; what
     // lies past the end of `room` is not stored. An unknown item is written as one that no log knows: tag 0, no value.
+    #[tactic(auto, using(wire::proofs::Numbers::to_two, wire::proofs::Numbers::to_four, crate::proofs::Writing::six_of, crate::proofs::Writing::eight_of))]
     pub fn put(self, data: &[u8], room: &mut [u8], at: usize) -> usize
         ensures value { result ≡ length (item_bytes self «data».now) }
         ensures room_after { room.new ≡ sets room.old at (item_bytes self «data».now) }
     {
         match self {
-            Item::Window(n) => {
-                wire::put_field16(room, at, Item::WINDOW, n);
-                Field::HEAD + Item::WINDOW_SIZE
-            }
-            Item::Set(s) => put_setting(room, at, Item::SET, Item::SET_SIZE, s),
-            Item::Frame(id) => {
-                put_frame(room, at, Item::FRAME, wire::front(data, 0), id, data);
-                Field::HEAD + Item::DATA + data.len()
-            }
-            Item::Remove(slot) => {
-                put_slot(room, at, Item::REMOVE, slot);
-                Field::HEAD + Item::REMOVE_SIZE
-            }
-            Item::Show(slot) => {
-                put_slot(room, at, Item::SHOW, slot);
-                Field::HEAD + Item::SHOW_SIZE
-            }
+            Item::Window(n) => put_value(room, at, Item::WINDOW, &n.to_le_bytes()),
+            Item::Set(s) => put_value(room, at, Item::SET, &s.bytes()[..Item::SET_SIZE]),
+            Item::Frame(id) => put_frame(room, at, Item::FRAME, &[], id, data),
+            Item::Remove(slot) => put_value(room, at, Item::REMOVE, &[slot]),
+            Item::Show(slot) => put_value(room, at, Item::SHOW, &[slot]),
             Item::Timed(time, id) => {
-                put_timed(room, at, time, id, data);
-                Field::HEAD + Item::TIME + Item::DATA + data.len()
+                put_frame(room, at, Item::TIMED, &time.to_le_bytes(), id, data)
             }
-            Item::SetHeat(s) => put_setting(room, at, Item::SET_HEAT, Item::SET_HEAT_SIZE, s),
-            Item::SetTies(s) => put_setting(room, at, Item::SET_TIES, Item::SET_TIES_SIZE, s),
-            Item::Unknown => {
-                wire::put_field(room, at, 0, wire::front(data, 0));
-                Field::HEAD
-            }
+            Item::SetHeat(s) => put_value(
+                room,
+                at,
+                Item::SET_HEAT,
+                &s.bytes()[..Item::SET_HEAT_SIZE],
+            ),
+            Item::SetTies(s) => put_value(room, at, Item::SET_TIES, &s.bytes()),
+            Item::Unknown => put_value(room, at, 0, &[]),
         }
     }
 }
 
 impl Setting {
     // The question in an item's value.
+    #[tactic(auto, using(crate::proofs::Signs::cast_kept))]
     pub fn read(value: &[u8]) -> Setting
         ensures { result ≡ setting_in value.now }
     {
-        let slot = wire::byte(value, 0);
-        let k = wire::byte(value, 1);
-        let loss = signed16(wire::read16(value, 2));
-        let shake = signed16(wire::read16(value, 4));
-        let heat = signed16(wire::read16(value, 6));
-        let ties = wire::byte(value, 8);
         Setting {
-            slot,
-            k,
-            loss,
-            shake,
-            heat,
-            ties,
+            slot: wire::byte(value, 0),
+            k: wire::byte(value, 1),
+            loss: wire::read16(value, 2).cast_signed(),
+            shake: wire::read16(value, 4).cast_signed(),
+            heat: wire::read16(value, 6).cast_signed(),
+            ties: wire::byte(value, 8),
         }
     }
-}
 
-// Whether a tag and a length are these.
-fn is_item(tag: u8, size: usize, want: u8, wanted: usize) -> bool
-    ensures { result ≡ (eqb tag want && eqb size wanted) }
-{
-    tag == want && size == wanted
+    // The longest value that says the question; a tag without a tie rule or a weight for heat has fewer of these bytes.
+    #[tactic(auto, using(crate::proofs::Signs::uncast_is), unfolding(crate::specs::Items::setting_bytes, crate::specs::Items::heat_bytes, crate::specs::Items::ties_bytes, wire::specs::Bytes::bytes))]
+    fn bytes(self) -> [u8; Item::SET_TIES_SIZE]
+        ensures { result ≡ ties_bytes self }
+    {
+        let [loss_low, loss_high] = self.loss.to_le_bytes();
+        let [shake_low, shake_high] = self.shake.to_le_bytes();
+        let [heat_low, heat_high] = self.heat.to_le_bytes();
+        [
+            self.slot, self.k, loss_low, loss_high, shake_low, shake_high, heat_low, heat_high,
+            self.ties,
+        ]
+    }
 }
 
 // The eight bytes at a place, or those that there are.
 fn eight_at(value: &[u8], at: usize) -> &[u8]
     ensures { result.now ≡ part at 8 value.now }
 {
-    if value.len() < at {
-        return &value[value.len()..];
-    }
-    wire::front(&value[at..], Item::FRAME_SIZE - Item::DATA)
+    let rest = &value[at.min(value.len())..];
+    wire::front(rest, Item::FRAME_SIZE - Item::DATA)
 }
 
 // The signed number that two bytes stand for, by the number that they stand for without a sign.
+#[tactic(auto, using(crate::proofs::Signs::cast_is))]
 pub fn signed16(n: u16) -> i16
     ensures { result ≡ signed16 n }
 {
-    if n < 32768 {
-        n as i16
-    } else {
-        ((n as i32) - 65536) as i16
-    }
+    n.cast_signed()
 }
 
-// The other way.
-fn unsigned16(z: i16) -> u16
-    ensures { result ≡ unsigned16 z }
+// Stores an item, and answers how many bytes it takes.
+fn put_value(room: &mut [u8], at: usize, tag: u8, value: &[u8]) -> usize
+    ensures value { result ≡ length (field tag value.now) }
+    ensures room_after { room.new ≡ sets room.old at (field tag value.now) }
 {
-    let wide = z as i32;
-    if wide < 0 {
-        (wide + 65536) as u16
-    } else {
-        wide as u16
-    }
+    wire::put_field(room, at, tag, value);
+    Field::HEAD + value.len()
 }
 
-// Stores an item that sets a question, as much of its value as the tag has, and answers how many bytes it takes.
-fn put_setting(room: &mut [u8], at: usize, tag: u8, size: usize, s: Setting) -> usize
-    ensures value { result ≡ length (field tag (take size (ties_bytes s))) }
-    ensures room_after { room.new ≡ sets room.old at (field tag (take size (ties_bytes s))) }
-{
-    let mut value = [0u8; Item::SET_TIES_SIZE];
-    wire::put(&mut value, 0, s.slot);
-    wire::put(&mut value, 1, s.k);
-    wire::put16(&mut value, 2, unsigned16(s.loss));
-    wire::put16(&mut value, 4, unsigned16(s.shake));
-    wire::put16(&mut value, 6, unsigned16(s.heat));
-    wire::put(&mut value, 8, s.ties);
-    let part = wire::front(&value, size);
-    wire::put_field(room, at, tag, part);
-    Field::HEAD + part.len()
-}
-
-// Stores an item that is a frame, with `first` before its identifier: the bytes of its time, or none.
-fn put_frame(room: &mut [u8], at: usize, tag: u8, first: &[u8], id: u32, data: &[u8])
+// Stores an item that is a frame, with `first` before its identifier, the bytes of its time or none, and answers how many bytes it takes.
+fn put_frame(room: &mut [u8], at: usize, tag: u8, first: &[u8], id: u32, data: &[u8]) -> usize
     requires { length first.now ≤ 4 }
-    ensures { room.new ≡ sets room.old at (field tag (first.now ++ (bytes 4 id ++ «data».now))) }
+    ensures value { result ≡ length (field tag (first.now ++ (bytes 4 id ++ «data».now))) }
+    ensures room_after { room.new ≡ sets room.old at (field tag (first.now ++ (bytes 4 id ++ «data».now))) }
 {
+    let size = first.len() + Item::DATA + data.len();
     if at < room.len() {
         let start = at + Field::HEAD;
-        let size = first.len() + Item::DATA + data.len();
         wire::put(room, at, tag);
         wire::put16(room, at + 1, (size % 65536) as u16);
         wire::put_all(room, start, first);
         wire::put32(room, start + first.len(), id);
         wire::put_all(room, start + first.len() + Item::DATA, data);
     }
-}
-
-// Stores an item that is a frame with a time.
-fn put_timed(room: &mut [u8], at: usize, time: u32, id: u32, data: &[u8])
-    ensures { room.new ≡ sets room.old at (field 21 (bytes 4 time ++ (bytes 4 id ++ «data».now))) }
-{
-    let mut first = [0u8; Item::TIME];
-    wire::put32(&mut first, 0, time);
-    put_frame(room, at, Item::TIMED, &first, id, data);
-}
-
-// Stores an item that names a slot.
-fn put_slot(room: &mut [u8], at: usize, tag: u8, slot: u8)
-    ensures { room.new ≡ sets room.old at (field tag (slot ∷ [])) }
-{
-    let value = [slot];
-    wire::put_field(room, at, tag, &value);
+    Field::HEAD + size
 }

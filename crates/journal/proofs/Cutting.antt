@@ -10,7 +10,7 @@ use lib.Dec.{ltb}
 use lib.ListN.{length, get_or, take, drop, length-append, length-drop, get_or-append}
 use lib.Seq.{take-append-le, drop-append-le}
 use Rattle.wire.specs.Bytes.{number, part, field_at}
-use Rattle.wire.specs.declared.Field.TheVariants.{Cut}
+use Rattle.std.proofs.Common.{None}
 use Rattle.wire.proofs.Fields.{whole, cut_short, cut_over}
 use Rattle.text.proofs.Decimal.{below_or}
 use Rattle.journal.specs.declared.Log.{Log}
@@ -28,10 +28,10 @@ abbrev IsWhole : List ℕ → Type 0
 IsWhole s = 3 + size s ≤ length s
 
 -- Bytes that are fewer than the head says, or than a head has, are no whole field.
-pub is_cut_lem : (s : List ℕ) → length s < 3 + size s → Cut ≡ field_at s 0
+pub is_cut_lem : (s : List ℕ) → length s < 3 + size s → None ≡ field_at s 0
 is_cut_lem s over = ⊎_elim (λ short. cut_short s 0 short) (λ head. cut_over s 0 head over) (below_or (length s) 3 (ltb (length s) 3) refl)
 
-whole_or_cut : (s : List ℕ) → IsWhole s ⊎ (Cut ≡ field_at s 0)
+whole_or_cut : (s : List ℕ) → IsWhole s ⊎ (None ≡ field_at s 0)
 whole_or_cut s = ⊎_elim (λ over. inr (is_cut_lem s over)) (λ fits. inl fits) (below_or (length s) (3 + size s) (ltb (length s) (3 + size s)) refl)
 
 items_whole : (n : ℕ) (log : Log) (s : List ℕ) → IsWhole s
@@ -39,7 +39,7 @@ items_whole : (n : ℕ) (log : Log) (s : List ℕ) → IsWhole s
 unfolding consumed_up_to
 items_whole n log s h = ap (first_then log s (λ l r. consumed_up_to n l r)) (sym (whole s 0 h))
 
-items_cut : (n : ℕ) (log : Log) (s : List ℕ) → Cut ≡ field_at s 0 → consumed_up_to (suc n) log s ≡ no_item log s
+items_cut : (n : ℕ) (log : Log) (s : List ℕ) → None ≡ field_at s 0 → consumed_up_to (suc n) log s ≡ no_item log s
 unfolding consumed_up_to
 items_cut n log s e = ap (first_then log s (λ l r. consumed_up_to n l r)) (sym e)
 
@@ -68,7 +68,7 @@ consumed-whole log s w =
     enough (length s) (suc (length s)) log s (omega arith) (omega arith) ∙ items_whole (length s) log s w
     ∙ ap (after (done log s).text) (enough (length s) (length (drop (3 + size s) s)) (done log s).log (drop (3 + size s) s) (omega arith) (omega arith))
 
-pub consumed_cut : (log : Log) (s : List ℕ) → Cut ≡ field_at s 0 → consumed log s ≡ no_item log s
+pub consumed_cut : (log : Log) (s : List ℕ) → None ≡ field_at s 0 → consumed log s ≡ no_item log s
 unfolding consumed
 consumed_cut log s e = enough (length s) (suc (length s)) log s (omega arith) (omega arith) ∙ items_cut (length s) log s e
 
@@ -100,7 +100,7 @@ after-after t u c = λ i. record { text = sym (append_assoc t u c.text) i; log =
 abbrev more : Consumed → List ℕ → Consumed
 more c ys = after c.text (consumed c.log (c.rest ++ ys))
 
-none_yet : (log : Log) (xs ys : List ℕ) → Cut ≡ field_at xs 0 → consumed log (xs ++ ys) ≡ more (consumed log xs) ys
+none_yet : (log : Log) (xs ys : List ℕ) → None ≡ field_at xs 0 → consumed log (xs ++ ys) ≡ more (consumed log xs) ys
 none_yet log xs ys e = sym (ap (λ (c : Consumed). more c ys) (consumed_cut log xs e))
 
 cut_at : (m : ℕ) (log : Log) (xs ys : List ℕ) → length xs ≤ m → consumed log (xs ++ ys) ≡ more (consumed log xs) ys

@@ -6,7 +6,7 @@ use Prim.Native.Nat.{ℕ, zero, suc, ◌+◌}
 use lib.ListN.{length, drop}
 use Rattle.wire.specs.Bytes.{part, field_at}
 use Rattle.wire.specs.declared.Field.{Field}
-use Rattle.wire.specs.declared.Field.TheVariants.{Whole, Cut}
+use Rattle.std.proofs.Common.{Option, Some, None}
 use Rattle.items.specs.Run as items
 use Rattle.items.specs.Run.{Meant, meant_by, run_bytes, items_in, read_items}
 use Rattle.items.proofs.Runs.{AllFit, reads_back}
@@ -23,13 +23,15 @@ done_as_meant l tag v = refl
 abbrev brought : log.Consumed → Outcome
 brought c = record { text = c.text; log = c.log }
 
-one_more : (l : Log) (bs : List ℕ) (others : Log → List ℕ → log.Consumed) (meant : List ℕ → List Meant) (f : Field)
+one_more : (l : Log) (bs : List ℕ) (others : Log → List ℕ → log.Consumed) (meant : List ℕ → List Meant) (f : Option Field)
     → ((m : Log) (r : List ℕ) → brought (others m r) ≡ run_done m (meant r)) → brought (log.first_then l bs others f) ≡ run_done l (items.first_then bs meant f)
-one_more l bs others meant (Whole tag start size) rest =
-    let d = done_as_meant l tag (part start size bs) in
-    (λ j. record { text = (d j).text ++ (others (d j).log (drop (start + size) bs)).text; log = (others (d j).log (drop (start + size) bs)).log })
-    ∙ ap (λ (o : Outcome). record { text = (meant_done l (meant_by tag (part start size bs))).text ++ o.text; log = o.log }) (rest (meant_done l (meant_by tag (part start size bs))).log (drop (start + size) bs))
-one_more l bs others meant Cut rest = refl
+one_more l bs others meant (Some f) rest =
+    let v = part f.start f.size bs in
+    let r = drop (f.start + f.size) bs in
+    let d = done_as_meant l f.tag v in
+    (λ j. record { text = (d j).text ++ (others (d j).log r).text; log = (others (d j).log r).log })
+    ∙ ap (λ (o : Outcome). record { text = (meant_done l (meant_by f.tag v)).text ++ o.text; log = o.log }) (rest (meant_done l (meant_by f.tag v)).log r)
+one_more l bs others meant None rest = refl
 
 items_run : (n : ℕ) (l : Log) (bs : List ℕ) → brought (log.consumed_up_to n l bs) ≡ run_done l (items_in n bs)
 unfolding log.consumed_up_to items_in

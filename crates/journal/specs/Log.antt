@@ -1,9 +1,8 @@
 -- The text that a whole log fixes, item by item (docs/RULES.md, sections 11 and 15, and rules 17.7 and 18.6).
-use Rattle.std.specs.Prelude.{ℕ, zero, suc, ◌+◌, ◌-◌, ◌^◌, min, ◌≡◌, Bool, cond, List, [], ◌∷◌, ◌++◌, length, take, drop, eqb}
+use Rattle.std.specs.Prelude.{ℕ, zero, suc, ◌+◌, ◌-◌, ◌^◌, min, ◌≡◌, Bool, Option, Some, None, cond, List, [], ◌∷◌, ◌++◌, length, take, drop, eqb}
 use Rattle.std.proofs.lemmas.List.Edits.{sets}
 use Rattle.wire.specs.Bytes.{number, part, field_at}
 use Rattle.wire.specs.declared.Field.{Field}
-use Rattle.wire.specs.declared.Field.TheVariants.{Whole, Cut}
 use Rattle.items.specs.declared.Setting.{Setting}
 use Rattle.items.specs.declared.Item.{Item}
 use Rattle.items.specs.declared.Item.TheVariants.{Window, Set, Remove, Show, SetHeat, SetTies, Unknown}
@@ -181,11 +180,11 @@ abbrev pub no_item : Log → List ℕ → Consumed
 no_item log bs = record { text = []; log = log; rest = bs }
 
 -- The item that the bytes start with, and then the others; a field that the bytes end in is no item yet.
-abbrev pub first_then : Log → List ℕ → (Log → List ℕ → Consumed) → Field → Consumed
-first_then log bs others (Whole tag start size) =
-    let done = item_done log tag (part start size bs) in
-    after done.text (others done.log (drop (start + size) bs))
-first_then log bs others Cut = no_item log bs
+abbrev pub first_then : Log → List ℕ → (Log → List ℕ → Consumed) → Option Field → Consumed
+first_then log bs others (Some f) =
+    let done = item_done log f.tag (part f.start f.size bs) in
+    after done.text (others done.log (drop (f.start + f.size) bs))
+first_then log bs others None = no_item log bs
 
 -- Rule 11.1: items are tagged fields: at most n of the whole ones that the bytes start with.
 unfoldable pub consumed_up_to : ℕ → Log → List ℕ → Consumed

@@ -25,25 +25,19 @@ pub fn hex(rt: &impl Print, n: u64, width: usize) {
 
 // Each byte as a space and two hexadecimal digits.
 pub fn bytes(rt: &impl Print, s: &[u8]) {
-    let mut i = 0;
-    while i < s.len() {
-        byte(rt, s[i]);
-        i += 1;
+    for b in s {
+        hex(rt, u64::from(*b), 2);
     }
-}
-
-fn byte(rt: &impl Print, b: u8) {
-    hex(rt, b as u64, 2);
 }
 
 // " refused" and the number.
 pub fn refused(rt: &impl Print, n: u8) {
     text(rt, b" refused");
-    number(rt, n as u64);
+    number(rt, u64::from(n));
 }
 
 // What a call answers: the refusal's number, or 0.
 pub fn answers(rt: &impl Print, refusal: u8) {
     text(rt, b" answers");
-    number(rt, refusal as u64);
+    number(rt, u64::from(refusal));
 }

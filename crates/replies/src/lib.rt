@@ -7,7 +7,7 @@ use values::Edition;
 // Stores a text.
 pub fn put(buf: &mut [u8], at: usize, text: &[u8]) -> usize {
     wire::put_all(buf, at, text);
-    behind(at, text.len())
+    at.saturating_add(text.len())
 }
 
 // Stores a text and a number behind a space.
@@ -38,51 +38,30 @@ pub fn put_scored(buf: &mut [u8], at: usize, n: u64, score: i32) -> usize {
 pub fn put_heat(buf: &mut [u8], at: usize, mark: &[u8], edition: Edition) -> usize {
     match edition {
         Edition::First => at,
-        Edition::Second(heat) => put_mark(buf, at, mark, heat as u64),
+        Edition::Second(heat) => put_mark(buf, at, mark, u64::from(heat)),
     }
 }
 
 // Stores bytes in capital digits, two a byte.
 pub fn put_bytes(buf: &mut [u8], at: usize, bytes: &[u8]) -> usize {
     let mut end = at;
-    let mut i: usize = 0;
-    while i < bytes.len() {
-        end = put_byte(buf, end, bytes[i]);
-        i += 1;
+    for b in bytes {
+        end = put(buf, end, &[digit(b / 16), digit(b % 16)]);
     }
     end
 }
 
 // Stores an identifier in 8 digits.
 pub fn put_identifier(buf: &mut [u8], at: usize, id: u32) -> usize {
-    let first = put_byte(buf, at, (id / 16777216 % 256) as u8);
-    let second = put_byte(buf, first, (id / 65536 % 256) as u8);
-    let third = put_byte(buf, second, (id / 256 % 256) as u8);
-    put_byte(buf, third, (id % 256) as u8)
-}
-
-fn put_byte(buf: &mut [u8], at: usize, b: u8) -> usize {
-    let digits = [digit(b / 16), digit(b % 16)];
-    put(buf, at, &digits)
+    put_bytes(buf, at, &id.to_be_bytes())
 }
 
 // The capital digit of a number below 16.
 fn digit(n: u8) -> u8 {
-    let low = n % 16;
-    if low < 10 {
-        b'0' + low
-    } else {
-        b'A' + (low - 10)
-    }
+    b"0123456789ABCDEF"[usize::from(n % 16)]
 }
 
 // The answer of a call that refuses.
 pub fn refused(buf: &mut [u8], code: u8) -> usize {
-    put_counted(buf, 0, b"refused", code as u64)
-}
-
-// The place n bytes on, or the largest one.
-fn behind(at: usize, n: usize) -> usize {
-    let most: usize = 18446744073709551615;
-    if at <= most - n { at + n } else { most }
+    put_counted(buf, 0, b"refused", u64::from(code))
 }

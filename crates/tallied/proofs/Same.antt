@@ -13,7 +13,7 @@ use lib.ListN.{length, take, drop}
 use Rattle.laws.proofs.Tests.{Tested, passed, failed, tested, if_so, if_not}
 use Rattle.wire.specs.Bytes.{part, field_at}
 use Rattle.wire.specs.declared.Field.{Field}
-use Rattle.wire.specs.declared.Field.TheVariants.{Whole, Cut}
+use Rattle.std.proofs.Common.{Option, Some, None}
 use Rattle.values.specs.declared.Values.{Values}
 use Rattle.ranking.specs.declared.Rule.{Rule}
 use Rattle.items.specs.declared.Setting.{Setting}
@@ -230,16 +230,17 @@ unfolding said_up_to consumed_up_to
 said_same zero log own g same m bs = refl
 said_same (suc n) {fs} log own g same m bs = go (field_at bs 0) (λ tag v k r. said_same n (item_done log tag v).log (item_does fs log own tag v).own (item_said log g tag v).ledger k.same_board k.made r)
   where
-    go : (x : Field)
+    go : (x : Option Field)
         → ((tag : ℕ) (v : List ℕ) → Matches (item_done log tag v) (item_said log g tag v) → (r : List ℕ) → said_up_to n (item_done log tag v).log (item_said log g tag v).ledger r ≡ whole (consumed_up_to n (item_done log tag v).log r))
         → first_said log g bs (λ l h r. said_up_to n l h r) x ≡ whole (first_then log bs (λ l r. consumed_up_to n l r) x)
-    go (Whole tag start size) others =
-        let v = part start size bs in
+    go (Some f) others =
+        let tag = f.tag in
+        let v = part f.start f.size bs in
         let k = item_matches log own g same m tag v in
         ap₂ (λ (a b : List ℕ). a ++ b) k.same_text
-        (ap (λ (b : Board). said_up_to n (item_done (with_board log b) tag v).log (item_said log g tag v).ledger (drop (start + size) bs)) (sym same) ∙ others tag v k (drop (start + size) bs))
+        (ap (λ (b : Board). said_up_to n (item_done (with_board log b) tag v).log (item_said log g tag v).ledger (drop (f.start + f.size) bs)) (sym same) ∙ others tag v k (drop (f.start + f.size) bs))
         ∙ sym (append_assoc (item_done log tag v).text _ _)
-    go Cut others = refl
+    go None others = refl
 
 -- Rule 19.7: the text of every log is what the calls that keep senders and tallies lead to.
 pub text_same : (bs : List ℕ) → tallied_text bs ≡ log_text bs

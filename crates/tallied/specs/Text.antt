@@ -1,8 +1,7 @@
 -- The text that a log fixes where every item makes the calls that keep senders and tallies (docs/RULES.md, rule 19.7): the same lines, each from what such a call answers.
-use Rattle.std.specs.Prelude.{ℕ, zero, suc, ◌+◌, cond, List, [], ◌++◌, length, take, drop, eqb}
+use Rattle.std.specs.Prelude.{ℕ, zero, suc, ◌+◌, cond, Option, Some, None, List, [], ◌++◌, length, take, drop, eqb}
 use Rattle.wire.specs.Bytes.{part, field_at}
 use Rattle.wire.specs.declared.Field.{Field}
-use Rattle.wire.specs.declared.Field.TheVariants.{Whole, Cut}
 use Rattle.values.specs.declared.Values.{Values}
 use Rattle.items.specs.declared.Setting.{Setting}
 use Rattle.items.specs.declared.Item.{Item}
@@ -86,11 +85,11 @@ item_said log g tag v =
     unless l.items g (item_refusal l i) (said_by l.items g (stations_of l) i (data_of i v))
 
 -- The item that the bytes start with, and then the others, or the end. Sessions and times go on as in any log.
-abbrev pub first_said : Log → Ledger → List ℕ → (Log → Ledger → List ℕ → List ℕ) → Field → List ℕ
-first_said log g bs others (Whole tag start size) =
-    let v = part start size bs in
-    (item_said log g tag v).text ++ others (item_done (with_board log g.board) tag v).log (item_said log g tag v).ledger (drop (start + size) bs)
-first_said log g bs others Cut = ending log bs
+abbrev pub first_said : Log → Ledger → List ℕ → (Log → Ledger → List ℕ → List ℕ) → Option Field → List ℕ
+first_said log g bs others (Some f) =
+    let v = part f.start f.size bs in
+    (item_said log g f.tag v).text ++ others (item_done (with_board log g.board) f.tag v).log (item_said log g f.tag v).ledger (drop (f.start + f.size) bs)
+first_said log g bs others None = ending log bs
 
 unfoldable pub said_up_to : ℕ → Log → Ledger → List ℕ → List ℕ
 said_up_to zero log g bs = ending log bs

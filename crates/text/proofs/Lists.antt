@@ -31,13 +31,22 @@ pub entries_none : (es : List Entry) → entries_text (take 0 es) ≡ []
 unfolding entries_text
 entries_none es = refl
 
--- Of as many numbers as scores there are that many entries.
-pub length-listed : (ns : List ℕ) (ss : List ℤ) (n : ℕ) → length ns ≡ n → length ss ≡ n → length (entries_of ns ss) ≡ n
+-- There are as many entries as numbers that have a score.
+pub length_listed : (ns : List ℕ) (ss : List ℤ) → length (entries_of ns ss) ≡ min (length ns) (length ss)
 unfolding entries_of
-length-listed [] ss n h k = h
-length-listed (x ∷ ns) [] n h k = k
-length-listed (x ∷ ns) (s ∷ ss) zero h k = absurd (omega arith)
-length-listed (x ∷ ns) (s ∷ ss) (suc n) h k = ap suc (length-listed ns ss n (omega arith) (omega arith))
+length_listed [] ss = omega arith
+length_listed (n ∷ ns) [] = omega arith
+length_listed (n ∷ ns) (s ∷ ss) = omega (arith, length_listed ns ss)
+
+pub all_listed : (ns : List ℕ) (ss : List ℤ) (k : ℕ) → k ≡ min (length ns) (length ss) → take k (entries_of ns ss) ≡ entries_of ns ss
+all_listed ns ss k e = take_all k (entries_of ns ss) (omega (arith, e, length_listed ns ss))
+
+pub listed_first : (n : ℕ) (ns : List ℕ) (ss : List ℤ) → entries_of (take n ns) (take n ss) ≡ take n (entries_of ns ss)
+unfolding entries_of
+listed_first zero ns ss = refl
+listed_first (suc n) [] ss = refl
+listed_first (suc n) (x ∷ ns) [] = refl
+listed_first (suc n) (x ∷ ns) (s ∷ ss) = ap (λ (es : List Entry). record { number = x; score = s } ∷ es) (listed_first n ns ss)
 
 -- Past the end of a list there is nothing to take.
 take_within : {A : Type 0} (n : ℕ) (l : List A) → take (min n (length l)) l ≡ take n l

@@ -3,7 +3,7 @@
 // What lies past the buffer's end is not stored; a place that no usize holds is answered as the largest one.
 #![tactic(auto)]
 
-ghost use Rattle.std.specs.Prelude.{◌≡◌, [], ◌∷◌, ◌+◌, ◌-◌, ◌^◌, ◌≤◌, min, drop, length, take, nat_abs};
+ghost use Rattle.std.specs.Prelude.{◌≡◌, [], ◌∷◌, take};
 ghost use Rattle.std.proofs.lemmas.List.Edits.{sets};
 ghost use Rattle.text.specs.Text.{decimal, signed_decimal, spaced, s_line, r_line, entry_text, entries_text, q_line, entries_of, behind};
 
@@ -30,27 +30,21 @@ impl Text {
 }
 
 // Stores a number.
+#[tactic(auto, using(crate::proofs::Decimal::library_decimal))]
 pub fn put_decimal(buf: &mut [u8], at: usize, n: u64) -> usize
     ensures value { result ≡ behind at (decimal n) }
     ensures buf_after { buf.new ≡ sets buf.old at (decimal n) }
 {
-    let mut digits = [0u8; Text::NUMBER];
-    let start = spell(&mut digits, n);
-    wire::put_all(buf, at, &digits[start..]);
-    moved(at, Text::NUMBER - start)
+    put_text(buf, at, itoa::Buffer::new().format(n).as_bytes())
 }
 
 // Stores a number that may be negative.
+#[tactic(auto, using(crate::proofs::Decimal::library_signed))]
 pub fn put_signed(buf: &mut [u8], at: usize, z: i32) -> usize
     ensures value { result ≡ behind at (signed_decimal z) }
     ensures buf_after { buf.new ≡ sets buf.old at (signed_decimal z) }
 {
-    if z < 0 {
-        let next = put_byte(buf, at, b'-');
-        put_decimal(buf, next, magnitude(z))
-    } else {
-        put_decimal(buf, at, magnitude(z))
-    }
+    put_text(buf, at, itoa::Buffer::new().format(z).as_bytes())
 }
 
 // Stores the line of a search: the item, the slot and the steps.
@@ -78,6 +72,7 @@ pub fn put_r(buf: &mut [u8], at: usize, item: u64, code: u8) -> usize
 
 // Stores the line of a question's list: the slot, and the first n of the numbers with their scores, or all of them where
 // there are fewer.
+// Stays: numbers and scores in two arrays, as a question's list keeps them; pairs would cost a copy of both.
 pub fn put_q(
     buf: &mut [u8],
     at: usize,
@@ -89,31 +84,22 @@ pub fn put_q(
     ensures value { result ≡ behind at (q_line slot (take n (entries_of numbers scores))) }
     ensures buf_after { buf.new ≡ sets buf.old at (q_line slot (take n (entries_of numbers scores))) }
 {
-    let shown = fewer(n, Text::ENTRIES);
+    let shown = n.min(Text::ENTRIES);
     let head = put_byte(buf, at, b'Q');
     let first = put_spaced(buf, head, slot as u64);
     let second = put_spaced(buf, first, shown as u64);
-    let third = put_entries(buf, second, numbers, scores, shown);
+    let third = put_entries(buf, second, &numbers[..shown], &scores[..shown]);
     put_byte(buf, third, b'\n')
 }
 
-// Stores the first n numbers with their scores.
-fn put_entries(
-    buf: &mut [u8],
-    at: usize,
-    numbers: [u32; Text::ENTRIES],
-    scores: [i32; Text::ENTRIES],
-    n: usize,
-) -> usize
-    requires { n ≤ 16 }
-    ensures value { result ≡ behind at (entries_text (take n (entries_of numbers scores))) }
-    ensures buf_after { buf.new ≡ sets buf.old at (entries_text (take n (entries_of numbers scores))) }
+// Stores numbers, each with the score beside it.
+fn put_entries(buf: &mut [u8], at: usize, numbers: &[u32], scores: &[i32]) -> usize
+    ensures value { result ≡ behind at (entries_text (entries_of numbers.now scores.now)) }
+    ensures buf_after { buf.new ≡ sets buf.old at (entries_text (entries_of numbers.now scores.now)) }
 {
     let mut next = at;
-    let mut i: usize = 0;
-    while i < n {
-        next = put_entry(buf, next, numbers[i], scores[i]);
-        i += 1;
+    for (number, score) in numbers.iter().zip(scores) {
+        next = put_entry(buf, next, *number, *score);
     }
     next
 }
@@ -142,50 +128,15 @@ fn put_byte(buf: &mut [u8], at: usize, b: u8) -> usize
     ensures value { result ≡ behind at (b ∷ []) }
     ensures buf_after { buf.new ≡ sets buf.old at (b ∷ []) }
 {
-    wire::put(buf, at, b);
-    moved(at, 1)
+    put_text(buf, at, &[b])
 }
 
-// The place n bytes on, or the largest one.
-fn moved(at: usize, n: usize) -> usize
-    ensures { result ≡ min (at + n) (2 ^ 64 - 1) }
+// Stores a text.
+#[tactic(auto, unfolding(crate::specs::Text::behind))]
+fn put_text(buf: &mut [u8], at: usize, text: &[u8]) -> usize
+    ensures value { result ≡ behind at text.now }
+    ensures buf_after { buf.new ≡ sets buf.old at text.now }
 {
-    let most: usize = 18446744073709551615;
-    if at <= most - n { at + n } else { most }
-}
-
-fn fewer(m: usize, n: usize) -> usize
-    ensures { result ≡ min m n }
-{
-    if m < n { m } else { n }
-}
-
-// A number without its sign.
-fn magnitude(z: i32) -> u64
-    ensures { result ≡ nat_abs z }
-{
-    let wide = z as i64;
-    if wide < 0 {
-        (0 - wide) as u64
-    } else {
-        wide as u64
-    }
-}
-
-// Fills the end of `digits` with those of n, and answers where they start.
-fn spell(digits: &mut [u8], n: u64) -> usize
-    requires { length digits.old ≡ 20 }
-    ensures value { result ≡ 20 - length (decimal n) }
-    ensures digits_after { drop result digits.new ≡ decimal n }
-{
-    let mut i: usize = Text::NUMBER;
-    let mut rest = n;
-    while 10 <= rest {
-        i -= 1;
-        digits[i] = b'0' + (rest % 10) as u8;
-        rest /= 10;
-    }
-    i -= 1;
-    digits[i] = b'0' + rest as u8;
-    i
+    wire::put_all(buf, at, text);
+    at.saturating_add(text.len())
 }

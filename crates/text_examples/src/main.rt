@@ -13,9 +13,12 @@ fn main(rt: HostRuntime) {
     rooms(&rt);
 }
 
-// Writes the first `n` bytes.
-fn show(rt: &impl Print, room: &[u8], n: usize) {
-    let _ = rt.write_all(wire::front(room, n));
+// Writes what `store` answers that it stored in `room`.
+fn show<Store: FnOnce(&mut [u8]) -> usize>(rt: &impl Print, room: &mut [u8], store: Store)
+    requires { Store.IsAlwaysCallable store }
+{
+    let behind = store(room);
+    let _ = rt.write_all(wire::front(room, behind));
 }
 
 fn end(rt: &impl Print) {
@@ -24,73 +27,69 @@ fn end(rt: &impl Print) {
 
 // Each number on a line of its own.
 fn numbers(rt: &impl Print) {
-    number(rt, 0);
-    number(rt, 9);
-    number(rt, 10);
-    number(rt, 99);
-    number(rt, 100);
-    number(rt, 1000001);
-    number(rt, 4294967295);
-    number(rt, 4294967296);
-    number(rt, 9999999999999999999);
-    number(rt, 10000000000000000000);
-    number(rt, 18446744073709551615);
-}
-
-fn number(rt: &impl Print, n: u64) {
-    let mut space = [0u8; Text::NUMBER];
-    let room: &mut [u8] = &mut space;
-    let behind = text::put_decimal(room, 0, n);
-    show(rt, room, behind);
-    end(rt);
+    for n in [
+        0,
+        9,
+        10,
+        99,
+        100,
+        1000001,
+        4294967295,
+        4294967296,
+        9999999999999999999,
+        10000000000000000000,
+        18446744073709551615,
+    ] {
+        show(
+            rt,
+            &mut [0; Text::NUMBER],
+            |room| text::put_decimal(room, 0, n),
+        );
+        end(rt);
+    }
 }
 
 fn scores(rt: &impl Print) {
-    score(rt, 0);
-    score(rt, 1);
-    score(rt, -1);
-    score(rt, -9);
-    score(rt, -10);
-    score(rt, 12285000);
-    score(rt, -12285000);
-    score(rt, 2147483647);
-    score(rt, -2147483648);
-}
-
-fn score(rt: &impl Print, z: i32) {
-    let mut space = [0u8; Text::SCORE];
-    let room: &mut [u8] = &mut space;
-    let behind = text::put_signed(room, 0, z);
-    show(rt, room, behind);
-    end(rt);
+    for z in [
+        0,
+        1,
+        -1,
+        -9,
+        -10,
+        12285000,
+        -12285000,
+        2147483647,
+        -2147483648,
+    ] {
+        show(
+            rt,
+            &mut [0; Text::SCORE],
+            |room| text::put_signed(room, 0, z),
+        );
+        end(rt);
+    }
 }
 
 // The worked example's line, the shortest and the longest.
 fn searches(rt: &impl Print) {
-    search(rt, 2, 0, 256);
-    search(rt, 1, 0, 0);
-    search(rt, 18446744073709551615, 255, 65535);
-}
-
-fn search(rt: &impl Print, item: u64, slot: u8, steps: u16) {
-    let mut space = [0u8; Text::S_LONGEST];
-    let room: &mut [u8] = &mut space;
-    let behind = text::put_s(room, 0, item, slot, steps);
-    show(rt, room, behind);
+    for (item, slot, steps) in [(2, 0, 256), (1, 0, 0), (u64::MAX, u8::MAX, u16::MAX)] {
+        show(
+            rt,
+            &mut [0; Text::S_LONGEST],
+            |room| text::put_s(room, 0, item, slot, steps),
+        );
+    }
 }
 
 // The worked example's line, the shortest and the longest.
 fn refusals(rt: &impl Print) {
-    refusal(rt, 12, 17);
-    refusal(rt, 1, 1);
-    refusal(rt, 18446744073709551615, 255);
-}
-
-fn refusal(rt: &impl Print, item: u64, code: u8) {
-    let mut space = [0u8; Text::R_LONGEST];
-    let room: &mut [u8] = &mut space;
-    let behind = text::put_r(room, 0, item, code);
-    show(rt, room, behind);
+    for (item, code) in [(12, 17), (1, 1), (u64::MAX, u8::MAX)] {
+        show(
+            rt,
+            &mut [0; Text::R_LONGEST],
+            |room| text::put_r(room, 0, item, code),
+        );
+    }
 }
 
 // The worked example's line, none of its entries, one and all of sixteen, and the longest line.
@@ -130,34 +129,34 @@ fn list(
     scores: [i32; Text::ENTRIES],
     n: usize,
 ) {
-    let mut space = [0u8; Text::Q_LONGEST];
-    let room: &mut [u8] = &mut space;
-    let behind = text::put_q(room, 0, slot, numbers, scores, n);
-    show(rt, room, behind);
+    show(
+        rt,
+        &mut [0; Text::Q_LONGEST],
+        |room| text::put_q(room, 0, slot, numbers, scores, n),
+    );
 }
 
 // A line in eight dots from several places on, with the place behind it.
 fn rooms(rt: &impl Print) {
-    room(rt, 0);
-    room(rt, 1);
-    room(rt, 2);
-    room(rt, 5);
-    room(rt, 7);
-    room(rt, 8);
-    room(rt, 9);
-    room(rt, 18446744073709551608);
-    room(rt, 18446744073709551609);
-    room(rt, 18446744073709551615);
-}
-
-fn room(rt: &impl Print, at: usize) {
-    let mut space = [b'.'; 8];
-    let room: &mut [u8] = &mut space;
-    let behind = text::put_r(room, at, 12, 17);
-    let _ = rt.print(at as u64);
-    let _ = rt.write_all(b" ");
-    let _ = rt.print(behind as u64);
-    let _ = rt.write_all(b" ");
-    show(rt, room, 8);
-    end(rt);
+    for at in [
+        0,
+        1,
+        2,
+        5,
+        7,
+        8,
+        9,
+        18446744073709551608,
+        18446744073709551609,
+        18446744073709551615,
+    ] {
+        let mut room = [b'.'; 8];
+        let behind = text::put_r(&mut room, at, 12, 17);
+        let _ = rt.print(at as u64);
+        let _ = rt.write_all(b" ");
+        let _ = rt.print(behind as u64);
+        let _ = rt.write_all(b" ");
+        let _ = rt.write_all(&room);
+        end(rt);
+    }
 }

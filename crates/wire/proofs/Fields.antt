@@ -10,9 +10,14 @@ use borrow.Author.Tests.{le-leb, lt-leb, eq-eqb, eqb-true, leb-true}
 use lib.Dec.{leb, eqb, lit<}
 use lib.ListN.{length, get_or, take, drop, length-append, length-drop, take-append-drop}
 use lib.Seq.{drop-cons, get_or-append_seam, take_at, drop-append-add, drop-drop, length-take-le, get_or-drop}
-use Rattle.wire.specs.declared.Field.TheVariants.{Whole, Cut}
+use Rattle.std.proofs.Common.{Some, None}
+use Rattle.wire.specs.declared.Field.{Field}
 use Rattle.wire.specs.Bytes.{number, bytes, part, head, field, field_at, is_field}
 use Rattle.wire.proofs.Numbers.{Bytes, length-bytes, number-bytes, bytes-number}
+
+-- A field by its three numbers.
+abbrev pub field_of : ℕ → ℕ → ℕ → Field
+field_of t start n = record { tag = t; start = start; size = n }
 
 bytes_take : (n : ℕ) (s : List ℕ) → Bytes s → Bytes (take n s)
 bytes_take zero s h i = lit< tt
@@ -37,15 +42,15 @@ module _ (s : List ℕ) (at n : ℕ) where
       sym (ap (λ (k : ℕ). bytes k (number (part at n s))) (sym (length_part fits)) ∙ bytes-number (part at n s) (bytes-part h))
 
 module _ (s : List ℕ) (at : ℕ) where
-  pub cut_short : length s < at + 3 → Cut ≡ field_at s at
+  pub cut_short : length s < at + 3 → None ≡ field_at s at
   unfolding field_at
   cut_short h = rw (lt-leb (at + 3) (length s) h)
 
-  pub cut_over : at + 3 ≤ length s → length s < at + 3 + number (part (at + 1) 2 s) → Cut ≡ field_at s at
+  pub cut_over : at + 3 ≤ length s → length s < at + 3 + number (part (at + 1) 2 s) → None ≡ field_at s at
   unfolding field_at
   cut_over h k = rw (le-leb (at + 3) (length s) h, lt-leb (at + 3 + number (part (at + 1) 2 s)) (length s) k)
 
-  pub whole : at + 3 + number (part (at + 1) 2 s) ≤ length s → Whole (get_or s at 0) (at + 3) (number (part (at + 1) 2 s)) ≡ field_at s at
+  pub whole : at + 3 + number (part (at + 1) 2 s) ≤ length s → Some (record { tag = get_or s at 0; start = at + 3; size = number (part (at + 1) 2 s) }) ≡ field_at s at
   unfolding field_at
   whole h =
       rw (le-leb (at + 3) (length s) (omega arith), le-leb (at + 3 + number (part (at + 1) 2 s)) (length s) h)
@@ -71,10 +76,10 @@ module _ (p v q : List ℕ) (tag : ℕ) where
   unfolding all
   room_at = simp (length-append, length-field) (omega arith)
 
-  found : length v < 65536 → Whole tag (length p + 3) (length v) ≡ field_at all (length p)
+  found : length v < 65536 → Some (record { tag = tag; start = length p + 3; size = length v }) ≡ field_at all (length p)
   found h =
       let size : number (part (length p + 1) 2 all) ≡ length v = ap number size_at_lem ∙ number-bytes 2 (length v) h in
-      ap₂ (λ (t n : ℕ). Whole t (length p + 3) n) (sym tag_at) (sym size) ∙ whole all (length p) (rw size room_at)
+      ap₂ (λ (t n : ℕ). Some (field_of t (length p + 3) n)) (sym tag_at) (sym size) ∙ whole all (length p) (rw size room_at)
 
 -- What was written as a field stands there.
 pub written_stands : (p v q : List ℕ) (at tag size : ℕ) → length p ≡ at → length v ≡ size → size < 65536 → is_field (field_at (p ++ (field tag v ++ q)) at) tag size ≡ true
@@ -83,7 +88,7 @@ written_stands p v q at tag size hp hv hs =
     rw (← hp, ← hv, ← found p v q tag (rw hv hs)) ((and-eq-true_iff _ _).1 (eq-eqb tag tag refl, eq-eqb (length v) (length v) refl))
 
 module _ (s : List ℕ) (at tag size : ℕ) where
-  stands_so : (n : ℕ) (a b : Bool) → is_field (cond a (cond b (Whole (get_or s at 0) (at + 3) n) Cut) Cut) tag size ≡ true
+  stands_so : (n : ℕ) (a b : Bool) → is_field (cond a (cond b (Some (field_of (get_or s at 0) (at + 3) n)) None) None) tag size ≡ true
       → (b ≡ true) × (eqb (get_or s at 0) tag ≡ true) × (eqb n size ≡ true)
   stands_so n true true h = let e = (and-eq-true_iff (eqb (get_or s at 0) tag) (eqb n size)).0 h in (refl, e.0, e.1)
   stands_so n true false h = absurd (false≢true h)

@@ -2,14 +2,16 @@
 -- Assumes nothing.
 use mathlib.Core.Path.{◌≡◌, refl, sym, ◌∙◌, ap, ap₂}
 use mathlib.Core.Bool.{true, false≢true, and-eq-true_iff}
-use mathlib.Core.List.{List, [], ◌∷◌, ◌++◌}
+use mathlib.Core.List.{List, [], ◌∷◌}
 use borrow.Author.Tests.{eq-eqb, eqb-true}
 use Prim.Native.Nat.{ℕ, zero, suc, ◌+◌, ◌*◌, ◌/◌, ◌%◌, ◌^◌, ◌≤◌, ◌<◌}
 use native.Mathlib.Nat.{pow-suc, div-lt_iff_lt-mul, add-mul-mod_self_left}
 use native.Mathlib.Numerals.{add-one}
 use native.Mathlib.Omega.{arith}
 use lib.Dec.{lit<, eqb}
-use lib.ListN.{length, get_or, drop_of_length-le}
+use Rattle.std.proofs.Common.{w16, w32}
+use Rattle.std.specs.Int.{from_le_bytes, to_le_bytes}
+use lib.ListN.{length, get_or, take, drop_of_length-le}
 use lib.Seq.{take-nil, drop-nil}
 use Rattle.wire.specs.Bytes.{number, bytes, part, same}
 
@@ -45,12 +47,6 @@ pub number_past : (s : List ℕ) (at n : ℕ) → length s ≤ at → number (pa
 unfolding number
 number_past s at n h = simp (drop_of_length-le s h, take-nil)
 
-pub bytes_two : (x : ℕ) → x < 65536 → bytes 2 x ≡ x % 256 ∷ x / 256 ∷ []
-unfolding bytes
-bytes_two x h =
-    let high : x / 256 % 256 ≡ x / 256 = omega arith in
-    rw high
-
 -- One byte more, wherever the part stands: past the end there are zeros.
 number_part_suc : (s : List ℕ) (at n : ℕ) → number (part at (suc n) s) ≡ get_or s at 0 + 256 * number (part (suc at) n s)
 unfolding number
@@ -68,11 +64,42 @@ number-none s at = refl
 pub number_two : (s : List ℕ) (at : ℕ) → number (part at 2 s) ≡ get_or s at 0 + 256 * get_or s (at + 1) 0
 number_two s at = omega (arith, number-part s at 1, number-part s (at + 1) 0, number-none s (at + 1 + 1))
 
-pub number_four : (s : List ℕ) (at : ℕ) → number (part at 4 s) ≡ number (part at 2 s) + 65536 * number (part (at + 2) 2 s)
-number_four s at =
-    let e : at + 1 + 1 ≡ at + 2 = omega arith in
-    let two : number (part (at + 1 + 1) 2 s) ≡ number (part (at + 2) 2 s) = ap (λ (k : ℕ). number (part k 2 s)) e in
-    omega (arith, number-part s at 3, number-part s (at + 1) 2, number_two s at)
+-- Bytes read one by one, with 0 for each past the end, stand for the number of those that there are.
+module _ (l r : List ℕ) where
+  pub from_two : ((i : ℕ) → i < 2 → get_or l i 0 ≡ get_or r i 0) → from_le_bytes w16 l ≡ number (take 2 r)
+  from_two h = omega (arith, number_part_suc r 0 1, number_part_suc r 1 0, number-none r 2, h 0 (lit< tt), h 1 (lit< tt))
+
+  pub from_four : ((i : ℕ) → i < 4 → get_or l i 0 ≡ get_or r i 0) → from_le_bytes w32 l ≡ number (take 4 r)
+  from_four h =
+      omega (
+        arith,
+        number_part_suc r 0 3,
+        number_part_suc r 1 2,
+        number_part_suc r 2 1,
+        number_part_suc r 3 0,
+        number-none r 4,
+        h 0 (lit< tt),
+        h 1 (lit< tt),
+        h 2 (lit< tt),
+        h 3 (lit< tt),
+      )
+
+-- The same where a fourth byte of 0 stands behind three.
+pub from_three : (l r : List ℕ) → ((i : ℕ) → i < 3 → get_or l i 0 ≡ get_or r i 0)
+    → from_le_bytes w32 (get_or l 0 0 ∷ get_or l 1 0 ∷ get_or l 2 0 ∷ 0 ∷ []) ≡ number (take 3 r)
+from_three l r h =
+    omega (arith, number_part_suc r 0 2, number_part_suc r 1 1, number_part_suc r 2 0, number-none r 3, h 0 (lit< tt), h 1 (lit< tt), h 2 (lit< tt))
+
+pub to_two : (x : ℕ) → to_le_bytes w16 x ≡ bytes 2 x
+unfolding bytes
+to_two x = refl
+
+pub to_four : (x : ℕ) → to_le_bytes w32 x ≡ bytes 4 x
+unfolding bytes
+to_four x =
+    let third : x / 256 / 256 ≡ x / 65536 = omega arith in
+    let fourth : x / 65536 / 256 ≡ x / 16777216 = omega arith in
+    rw (third, fourth)
 
 pub bytes_low : (x : ℕ) → bytes 2 (x % 65536) ≡ bytes 2 x
 unfolding bytes
@@ -82,19 +109,6 @@ bytes_low x =
     let second : x % 65536 / 256 % 256 ≡ x / 256 % 256 =
     sym (ap (λ (k : ℕ). k % 256) next ∙ add-mul-mod_self_left (x % 65536 / 256) 256 (x / 65536)) in
     rw (low, second)
-
-halves : (x : ℕ) → bytes 4 x ≡ bytes 2 x ++ bytes 2 (x / 65536)
-unfolding bytes
-halves x =
-    let high : x / 65536 ≡ x / 256 / 256 = omega arith in
-    rw high
-
-pub bytes_four : (x : ℕ) → bytes 4 x ≡ bytes 2 (x % 65536) ++ bytes 2 (x / 65536)
-bytes_four x = rw (bytes_low x) (halves x)
-
--- The upper half of a number past the end is 0.
-pub number_half : (s : List ℕ) (at : ℕ) → length s ≤ at + 2 → number (part at 4 s) ≡ number (part at 2 s)
-number_half s at h = omega (arith, number_four s at, number_past s (at + 2) 2 h)
 
 pub same_refl : (s : List ℕ) → same s s ≡ true
 same_refl [] = refl

@@ -1,15 +1,16 @@
 -- A run of stores is one store of the bytes in a row; what would fall past the end is not stored.
 -- Assumes nothing.
 use mathlib.Core.Path.{◌≡◌, refl, sym, ◌∙◌, ap}
-use mathlib.Core.List.{List, [], ◌∷◌, ◌++◌}
-use Prim.Native.Nat.{ℕ, zero, suc, ◌+◌, ◌/◌, ◌%◌, ◌≤◌, ◌<◌}
+use mathlib.Core.List.{List, [], ◌∷◌, ◌++◌, append_assoc}
+use Prim.Native.Nat.{ℕ, zero, suc, min, ◌+◌, ◌-◌, ◌%◌, ◌≤◌}
 use native.Mathlib.Numerals.{add-one}
 use native.Mathlib.Omega.{arith}
 use native.Mathlib.Nat.{add-suc, suc-add, add-zero}
-use lib.ListN.{length, get_or, take, set, length-set}
-use lib.Seq.{sets, set_out, take-suc, length-sets, length-take-le, take-nil}
+use borrow.Rule.Slice.PartMut.{put_mid}
+use lib.ListN.{length, take, set, length-set}
+use lib.Seq.{sets, sets-eq, set_out, length-take-le, take-nil, take_all, drop-drop}
 use Rattle.wire.specs.Bytes.{bytes, head, field}
-use Rattle.wire.proofs.Numbers.{bytes_two, bytes_four, bytes_low, length-bytes}
+use Rattle.wire.proofs.Numbers.{bytes_low, length-bytes}
 
 pub sets_past : (l : List ℕ) (i : ℕ) (v : List ℕ) → length l ≤ i → sets l i v ≡ l
 sets_past l i [] h = refl
@@ -27,30 +28,21 @@ sets_cut l i [] n h = rw (take-nil n)
 sets_cut l i (a ∷ v) zero h = sym (sets_past l i (a ∷ v) (omega arith))
 sets_cut l i (a ∷ v) (suc n) h = sets_cut (set l i a) (suc i) v n (rw length-set (omega arith))
 
--- A turn of a loop that stores a value byte by byte.
-pub sets_more : (l : List ℕ) (i : ℕ) (v : List ℕ) (n : ℕ) → n < length v → set (sets l i (take n v)) (i + n) (get_or v n 0) ≡ sets l i (take (n + 1) v)
-sets_more l i v n h =
-    sym (rw (add-one, take-suc v n 0 h)
-    (sets-append l i (take n v) (get_or v n 0 ∷ [])
-    ∙ ap (λ (k : ℕ). set (sets l i (take n v)) (i + k) (get_or v n 0)) (length-take-le n v (omega arith))))
+-- A copy of as many of a value's bytes as there is room for.
+pub part_copied : (l : List ℕ) (i k n : ℕ) (v : List ℕ) {w : List ℕ} → i ≤ length l → n ≡ min (length v) (length l - i) → k ≡ n → w ≡ take n v
+    → put_mid i k l w ≡ sets l i v
+part_copied l i k n v h fewer e same =
+    let taken : length (take n v) ≡ n = length-take-le n v (omega arith) in
+    let long : i + length (take n v) ≤ length l = omega arith in
+    let over : k ≡ length (take n v) = omega arith in
+    let all : sets l i (take n v) ≡ sets l i v = grind (arith, sets_cut l i v n, take_all n v) in
+    sym (rw (sets-eq (take n v) l i long, append_assoc) (rw (← over, same, drop-drop) refl)) ∙ all
 
 length-head : (tag n : ℕ) → length (head tag n) ≡ 3
 unfolding head
 length-head tag n = ap suc (length-bytes 2 n)
 
--- What `put16`, `put32` and `put_head` leave: the stores of their callees, one after the other.
-pub put_two : (b : List ℕ) {b₁ b₂ : List ℕ} (at x : ℕ) → x < 65536 → b₁ ≡ set b at (x % 256) → b₂ ≡ set b₁ (at + 1) (x / 256) → b₂ ≡ sets b at (bytes 2 x)
-put_two b at x h e₁ e₂ = rw (e₂, e₁, add-one, bytes_two x h)
-
-pub put_four : (b : List ℕ) {b₁ b₂ : List ℕ} (at x : ℕ) → b₁ ≡ sets b at (bytes 2 (x % 65536)) → b₂ ≡ sets b₁ (at + 2) (bytes 2 (x / 65536)) → b₂ ≡ sets b at (bytes 4 x)
-put_four b at x e₁ e₂ =
-    rw (e₂, e₁, bytes_four x, sets-append b at (bytes 2 (x % 65536)) (bytes 2 (x / 65536)), length-bytes 2 (x % 65536))
-
--- The upper half of a number falls past the end.
-pub put_half : (b : List ℕ) {b₁ : List ℕ} (at x : ℕ) → length b ≤ at + 2 → b₁ ≡ sets b at (bytes 2 (x % 65536)) → b₁ ≡ sets b at (bytes 4 x)
-put_half b at x h e₁ =
-    put_four b at x e₁ (sym (sets_past _ (at + 2) (bytes 2 (x / 65536)) (rw (e₁, length-sets) h)))
-
+-- What `put_head` and `put_field` leave: the stores of their callees, one after the other.
 pub put_tag : (b : List ℕ) {b₁ b₂ : List ℕ} (at tag size : ℕ) → b₁ ≡ set b at tag → b₂ ≡ sets b₁ (at + 1) (bytes 2 size) → b₂ ≡ sets b at (head tag size)
 unfolding head
 put_tag b at tag size e₁ e₂ = rw (e₂, e₁, add-one)

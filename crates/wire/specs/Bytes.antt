@@ -1,7 +1,6 @@
 -- Numbers of more than one byte, and tagged fields (docs/RULES.md, section 1).
-use Rattle.std.specs.Prelude.{ℕ, zero, suc, ◌+◌, ◌*◌, ◌/◌, ◌%◌, List, [], ◌∷◌, ◌++◌, Bool, true, false, cond, ◌&&◌, length, get_or, take, drop, leb, eqb}
+use Rattle.std.specs.Prelude.{ℕ, zero, suc, ◌+◌, ◌*◌, ◌/◌, ◌%◌, List, [], ◌∷◌, ◌++◌, Bool, true, false, cond, ◌&&◌, Option, Some, None, length, get_or, take, drop, leb, eqb}
 use Rattle.wire.specs.declared.Field.{Field}
-use Rattle.wire.specs.declared.Field.TheVariants.{Whole, Cut}
 
 -- Rule 1.1: the number that bytes stand for, the lowest byte first.
 unfoldable pub number : List ℕ → ℕ
@@ -25,19 +24,19 @@ head tag size = tag ∷ bytes 2 size
 unfoldable pub field : ℕ → List ℕ → List ℕ
 field tag value = head tag (length value) ++ value
 
--- What stands at a place: a whole field, with its tag, where its value starts and its length; or the bytes end inside it.
-unfoldable pub field_at : List ℕ → ℕ → Field
+-- The whole field that stands at a place, with its tag, where its value starts and its length; none where the bytes end inside it.
+unfoldable pub field_at : List ℕ → ℕ → Option Field
 field_at s at =
     cond (leb (at + 3) (length s))
     (cond (leb (at + 3 + number (part (at + 1) 2 s)) (length s))
-    (Whole (get_or s at 0) (at + 3) (number (part (at + 1) 2 s)))
-    Cut)
-    Cut
+    (Some (record { tag = get_or s at 0; start = at + 3; size = number (part (at + 1) 2 s) }))
+    None)
+    None
 
 -- A whole field of this tag and this length.
-abbrev pub is_field : Field → ℕ → ℕ → Bool
-is_field (Whole t start n) tag size = eqb t tag && eqb n size
-is_field Cut tag size = false
+abbrev pub is_field : Option Field → ℕ → ℕ → Bool
+is_field (Some f) tag size = eqb f.tag tag && eqb f.size size
+is_field None tag size = false
 
 -- The same bytes in the same order.
 abbrev pub same : List ℕ → List ℕ → Bool

@@ -2,41 +2,37 @@
 // Every function takes any place: what lies past the end reads as 0 and is not stored.
 #![tactic(auto)]
 
-ghost use Rattle.std.specs.Prelude.{◌≡◌, get_or, set, take};
+ghost use Rattle.std.specs.Prelude.{◌≡◌, ℕ, ◌+◌, ◌<◌, drop, get_or, set, take};
 ghost use Rattle.std.proofs.lemmas.List.Edits.{sets};
 ghost use Rattle.wire.specs.Bytes.{number, bytes, part, field, head, field_at, is_field};
 
-// What stands at a place: a whole field, whose value is the `size` bytes from `start`, or one that the bytes end in.
+// A whole field: its value is the `size` bytes from `start`.
 #[derive(Clone, Copy)]
-pub enum Field {
-    Whole { tag: u8, start: usize, size: usize },
-    Cut,
+pub struct Field {
+    pub tag: u8,
+    pub start: usize,
+    pub size: usize,
 }
 
 impl Field {
     // The bytes before the value: the tag and the length.
     pub const HEAD: usize = 3;
 
-    // The field that starts at `at`.
-    pub fn at(s: &[u8], at: usize) -> Field
+    // The field that starts at `at`; none where the bytes end inside it.
+    #[tactic(auto, using(crate::proofs::Fields::cut_short, crate::proofs::Fields::cut_over, crate::proofs::Fields::whole))]
+    pub fn at(s: &[u8], at: usize) -> Option<Field>
         ensures { result ≡ field_at s.now at }
     {
-        if s.len() < Field::HEAD {
-            return Field::Cut;
-        }
-        if s.len() - Field::HEAD < at {
-            return Field::Cut;
-        }
+        let room = s.len().checked_sub(at)?.checked_sub(Field::HEAD)?;
         let size = read16(s, at + 1) as usize;
-        let start = at + Field::HEAD;
-        if size <= s.len() - start {
-            Field::Whole {
+        if size <= room {
+            Some(Field {
                 tag: byte(s, at),
-                start,
+                start: at + Field::HEAD,
                 size,
-            }
+            })
         } else {
-            Field::Cut
+            None
         }
     }
 
@@ -44,14 +40,7 @@ impl Field {
     pub fn stands(s: &[u8], at: usize, tag: u8, size: usize) -> bool
         ensures { result ≡ is_field (field_at s.now at) tag size }
     {
-        match Field::at(s, at) {
-            Field::Whole {
-                tag: t,
-                start: _,
-                size: n,
-            } => t == tag && n == size,
-            Field::Cut => false,
-        }
+        Field::at(s, at).is_some_and(|f| f.tag == tag && f.size == size)
     }
 }
 
@@ -59,48 +48,51 @@ impl Field {
 pub fn byte(s: &[u8], at: usize) -> u8
     ensures { result ≡ get_or s.now at 0 }
 {
-    if at < s.len() { s[at] } else { 0 }
+    s.get(at).copied().unwrap_or(0)
 }
 
 // The two-byte number at `at`.
+#[tactic(auto, using(crate::proofs::Numbers::from_two))]
 pub fn read16(s: &[u8], at: usize) -> u16
     ensures { result ≡ number (part at 2 s.now) }
 {
-    if at < s.len() {
-        (byte(s, at) as u16) + 256 * (byte(s, at + 1) as u16)
-    } else {
-        0
-    }
+    u16::from_le_bytes(bytes_at(s, at))
 }
 
 // The three-byte number at `at`.
+#[tactic(auto, using(crate::proofs::Numbers::from_three))]
 pub fn read24(s: &[u8], at: usize) -> u32
     ensures { result ≡ number (part at 3 s.now) }
 {
-    if s.len() <= at {
-        return 0;
-    }
-    (byte(s, at) as u32) + 256 * (read16(s, at + 1) as u32)
+    let [low, middle, high] = bytes_at::<3>(s, at);
+    u32::from_le_bytes([low, middle, high, 0])
 }
 
 // The four-byte number at `at`.
+#[tactic(auto, using(crate::proofs::Numbers::from_four))]
 pub fn read32(s: &[u8], at: usize) -> u32
     ensures { result ≡ number (part at 4 s.now) }
 {
-    if s.len() <= at {
-        return 0;
+    u32::from_le_bytes(bytes_at(s, at))
+}
+
+// The `N` bytes from `at` on, with 0 for each past the end.
+fn bytes_at<const N: usize>(s: &[u8], at: usize) -> [u8; N]
+    ensures { (i : ℕ) → i < N → get_or result i 0 ≡ get_or (drop at s.now) i 0 }
+{
+    let rest = &s[at.min(s.len())..];
+    let mut bytes = [0; N];
+    for (i, b) in bytes.iter_mut().enumerate() {
+        *b = byte(rest, i);
     }
-    if s.len() - at <= 2 {
-        return read16(s, at) as u32;
-    }
-    (read16(s, at) as u32) + 65536 * (read16(s, at + 2) as u32)
+    bytes
 }
 
 // The first `n` bytes, or all of them where there are fewer.
 pub fn front(s: &[u8], n: usize) -> &[u8]
     ensures { result.now ≡ take n s.now }
 {
-    if n < s.len() { &s[..n] } else { &s[..s.len()] }
+    &s[..n.min(s.len())]
 }
 
 // Stores a byte at `at`.
@@ -113,44 +105,34 @@ pub fn put(buf: &mut [u8], at: usize, b: u8)
 }
 
 // Stores a two-byte number from `at` on.
+#[tactic(auto, using(crate::proofs::Numbers::to_two))]
 pub fn put16(buf: &mut [u8], at: usize, x: u16)
     ensures { buf.new ≡ sets buf.old at (bytes 2 x) }
 {
-    if at < buf.len() {
-        put(buf, at, (x % 256) as u8);
-        put(buf, at + 1, (x / 256) as u8);
-    }
+    put_all(buf, at, &u16::to_le_bytes(x));
 }
 
 // Stores a four-byte number from `at` on.
+#[tactic(auto, using(crate::proofs::Numbers::to_four))]
 pub fn put32(buf: &mut [u8], at: usize, x: u32)
     ensures { buf.new ≡ sets buf.old at (bytes 4 x) }
 {
-    put16(buf, at, (x % 65536) as u16);
-    if buf.len() <= at {
-        return;
-    }
-    if buf.len() - at <= 2 {
-        return;
-    }
-    put16(buf, at + 2, (x / 65536) as u16);
+    put_all(buf, at, &u32::to_le_bytes(x));
 }
 
 // Stores all of `value` from `at` on.
+#[tactic(auto, using(crate::proofs::Stores::sets_past))]
 pub fn put_all(buf: &mut [u8], at: usize, value: &[u8])
     ensures { buf.new ≡ sets buf.old at value.now }
 {
     if at < buf.len() {
-        let room = buf.len() - at;
-        let mut i = 0;
-        while i < value.len() && i < room {
-            buf[at + i] = value[i];
-            i += 1;
-        }
+        let size = value.len().min(buf.len() - at);
+        buf[at..at + size].copy_from_slice(&value[..size]);
     }
 }
 
 // Stores a field from `at` on: the tag, the length and the value.
+#[tactic(auto, using(crate::proofs::Stores::sets_past))]
 pub fn put_field(buf: &mut [u8], at: usize, tag: u8, value: &[u8])
     ensures { buf.new ≡ sets buf.old at (field tag value.now) }
 {
@@ -161,31 +143,26 @@ pub fn put_field(buf: &mut [u8], at: usize, tag: u8, value: &[u8])
 }
 
 // Stores a field whose value is a two-byte number.
+#[tactic(auto, using(crate::proofs::Numbers::to_two))]
 pub fn put_field16(buf: &mut [u8], at: usize, tag: u8, x: u16)
     ensures { buf.new ≡ sets buf.old at (field tag (bytes 2 x)) }
 {
-    if at < buf.len() {
-        put_head(buf, at, tag, 2);
-        put16(buf, at + Field::HEAD, x);
-    }
+    put_field(buf, at, tag, &u16::to_le_bytes(x));
 }
 
 // Stores a field whose value is a four-byte number.
+#[tactic(auto, using(crate::proofs::Numbers::to_four))]
 pub fn put_field32(buf: &mut [u8], at: usize, tag: u8, x: u32)
     ensures { buf.new ≡ sets buf.old at (field tag (bytes 4 x)) }
 {
-    if at < buf.len() {
-        put_head(buf, at, tag, 4);
-        put32(buf, at + Field::HEAD, x);
-    }
+    put_field(buf, at, tag, &u32::to_le_bytes(x));
 }
 
 // Stores a field's tag and length.
+#[tactic(auto, unfolding(crate::specs::Bytes::head, crate::specs::Bytes::bytes))]
 fn put_head(buf: &mut [u8], at: usize, tag: u8, size: u16)
     ensures { buf.new ≡ sets buf.old at (head tag size) }
 {
-    if at < buf.len() {
-        put(buf, at, tag);
-        put16(buf, at + 1, size);
-    }
+    let [low, high] = size.to_le_bytes();
+    put_all(buf, at, &[tag, low, high]);
 }

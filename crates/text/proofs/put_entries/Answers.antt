@@ -1,40 +1,39 @@
--- `text::put_entries` meets its contract: after i turns the first i entries are stored, and the next place is behind them.
--- Assumes nothing.
-use mathlib.Core.Path.{◌≡◌, refl, sym}
-use Prim.Native.Nat.{◌^◌, ◌<◌}
-use native.Mathlib.Omega.{arith}
-use borrow.Author.Rules.{rules}
-use lib.IntN.{pos}
-use lib.ListN.{length, get_or}
+-- `text::put_entries` meets its contract: after each turn one entry more is stored, and the next place is behind them.
+use Rattle.std.proofs.Common.{[], ◌∷◌, ◌++◌, ◌+◌, ◌<◌, ◌^◌, ◌≡◌, length, length-append, rules, refl, sym, ap, pos, w32}
+use Rattle.std.proofs.lemmas.Slice.Zip.{zip_turn, zip_end}
 use mir.Facts.{to_z-of_z}
-use mir.Syntax.{w32}
-use Rattle.text.specs.Text.{entries_of}
-use Rattle.text.proofs.Places.{put, then, said, both, none}
-use Rattle.text.proofs.Lists.{entries_more, entries_none}
+use Rattle.text.specs.Text.{entries_of, entries_text}
+use Rattle.text.proofs.Places.{Put, put, then, said, none}
+use Rattle.text.proofs.Lists.{entries_more, entries_none, all_listed}
 use Rattle.text.proofs.put_entries.Goals as goal
 
-pub loop-i-init : goal.loop-i-init
-loop-i-init c =
+pub loop-number-init : goal.loop-number-init
+loop-number-init c =
     let a = c.args in
-    (search rules, refl, said (sym (entries_none (entries_of c.args.numbers c.args.scores))) (none c.args.buf.now c.args.at (search rules)))
+    record { same = refl; stored = said (sym (entries_none (entries_of a.numbers.now a.scores.now))) (none a.buf.now a.at (search rules)) }
 
-pub bounds-scores-i : goal.bounds-scores-i
-bounds-scores-i c = omega arith
-
-pub loop-i-preserved : goal.loop-i-preserved
-loop-i-preserved c =
-    let i = c.loop-i.i in
-    let inv = c.loop-i.invariant in
-    let h : length c.args.buf.now < 2 ^ 64 = search rules in
-    let ns : length c.args.numbers ≡ 16 = search rules in
-    let ss : length c.args.scores ≡ 16 = search rules in
-    let back = to_z-of_z {w = w32} {z = get_or c.args.scores i (pos 0)} (search rules) in
+pub loop-number-preserved : goal.loop-number-preserved
+loop-number-preserved c =
+    let a = c.args in
+    let ns = a.numbers.now in
+    let ss = a.scores.now in
+    let l = c.loop-number in
+    let i = length l.yielded in
+    let z = zip_turn ns ss l.yielded c.into_iter-number-iterator.result l.number-iterator c.next.new.self c.next.result (cc) (cc) l.yielded_by (c.in-Some.number, c.in-Some.score) c.in-Some.is c.next.ensures.steps in
+    let h : length a.buf.now < 2 ^ 64 = search rules in
+    let back = to_z-of_z {w = w32} {z = c.in-Some.score.now} (search rules) in
     let q = c.put_entry-next.ensures in
-    (omega arith, search rules, said (entries_more c.args.numbers c.args.scores (pos 0) i (omega arith) (omega arith)) (then h inv.2 (put (rw back at q.value, rw back at q.buf_after))))
+    let more : length (l.yielded ++ ((c.in-Some.number, c.in-Some.score) ∷ [])) ≡ i + 1 = length-append l.yielded _ in
+    record {
+      same = search rules;
+      stored = rw more (said (entries_more ns ss (pos 0) i z.0 z.1) (then h l.invariant.stored (put (rw (back, z.2 0, z.3 (pos 0)) at q.value, rw (back, z.2 0, z.3 (pos 0)) at q.buf_after))));
+    }
 
 pub returns : goal.returns
 returns c =
-    let inv = c.loop-i.invariant in
-    let whole : c.loop-i.i ≡ c.args.n = omega arith in
-    let all = both {l = c.args.buf.now} (rw whole at inv.2) in
-    record { value = all.0; buf_after = all.1 }
+    let a = c.args in
+    let l = c.loop-number in
+    let e = zip_end a.numbers.now a.scores.now l.yielded c.into_iter-number-iterator.result l.number-iterator c.next.new.self c.next.result (cc) (cc) l.yielded_by c.in-None.is c.next.ensures.steps in
+    let all : Put a.buf.now a.at (entries_text (entries_of a.numbers.now a.scores.now)) l.next l.buf =
+    said (ap entries_text (all_listed a.numbers.now a.scores.now (length l.yielded) e)) l.invariant.stored in
+    record { value = all.place; buf_after = all.bytes }
