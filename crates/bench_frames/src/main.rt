@@ -4,7 +4,7 @@
 #![tactic(auto)]
 
 use bench::Bench;
-use report::{Report, Written};
+use report::Report;
 use std::io::Read;
 use values::{Edition, Values};
 
@@ -44,7 +44,12 @@ fn write(rt: &impl Print, request: &[u8; 77]) {
     let length = wire::byte(asked, 10) as usize;
     let note = wire::front(&asked[11..], length);
     let sender = wire::byte(asked, 0);
-    if let Written::Bytes(n) = Bench::send(room, sender, report, wire::byte(asked, 9) != 0, note) {
+    let note = if wire::byte(asked, 9) != 0 {
+        Some(note)
+    } else {
+        None
+    };
+    if let Ok(n) = Bench::send(room, sender, report, note) {
         let _ = rt.write_all(wire::front(room, n));
     }
 }

@@ -13,11 +13,13 @@ ghost use Rattle.lines.specs.Numbers.{a_number};
 ghost use Rattle.bench.specs.Bench.{frames_in};
 ghost use Rattle.commands.specs.Lines.{kind_of, first_false, value_at, weight_at, no_more, one_slot, window_line, tie_rule_at, heat_at, ties_at, no_tie_rule, question_item, question_line, remove_line, show_line, report_kind, report_line, heated_kind, heated_line, time_line, untimed_line, command_of, words_before, note_in};
 ghost use Rattle.commands.specs.Items.{frame_item, item_of_frame, items_of, answer_of, report_items, report_answer, time_after, line_outcome, line_items};
+ghost use Rattle.std.specs.Option.{option_copied};
+ghost use Rattle.report.specs.Payload.{given};
 
 use bench::Bench;
 use items::{Item, Setting};
 use lines::Number;
-use report::{Report, Written};
+use report::Report;
 use values::{Edition, Values};
 
 // What the first word of a line asks for.
@@ -566,14 +568,20 @@ fn put_report(room: &mut [u8], time: Time, s: Sending, note: &[u8]) -> Answer
 {
     let mut frames = [0u8; Bench::LARGEST];
     let report = s.report;
-    let written = Bench::send(&mut frames, s.sender, report, s.noted, note);
-    match written {
-        Written::Bytes(n) => {
+    match Bench::send(&mut frames, s.sender, report, note_of(s, note)) {
+        Ok(n) => {
             let size = put_frames(room, time, &frames, n / Bench::FRAME);
             Answer::Items(size)
         }
-        Written::Refused(code) => Answer::Refused(code),
+        Err(refusal) => Answer::Refused(refusal.number()),
     }
+}
+
+// The note that goes with a report, if one does.
+fn note_of(s: Sending, note: &[u8]) -> Option<&[u8]>
+    ensures { option_copied result ≡ given s.noted note.now }
+{
+    if s.noted { Some(note) } else { None }
 }
 
 // A frame's item, by its identifier.

@@ -5,8 +5,9 @@ use bench::Bench;
 use bus::Bus;
 use joining::Answer;
 use orders::{BusOrder, Extras, Said};
+use refusal::Refusal;
 use replies::{put, put_bytes, put_counted, put_heat, put_identifier, put_number, refused};
-use report::{Payload, Reading, Report, Written};
+use report::{Payload, Report};
 use times::Times;
 
 // No line holds more bytes than this.
@@ -186,8 +187,8 @@ fn payload(digits: &[u8], out: &mut [u8]) -> usize {
     let n = ranges::bytes(digits, &mut bytes);
     let payload = wire::front(&bytes, n);
     match Payload::read(payload) {
-        Reading::Refused(code) => refused(out, code),
-        Reading::Accepted(report) => put_report(report, payload, out),
+        Err(refusal) => refused(out, refusal.number()),
+        Ok(report) => put_report(report, payload, out),
     }
 }
 
@@ -198,19 +199,15 @@ fn write(sender: u8, report: Report, extras: Extras, line: &[u8], out: &mut [u8]
         lines::word(line, ranges::byte(extras.note.first)),
         &mut bytes,
     );
-    let note = wire::front(&bytes, n);
+    let note = if extras.note.said {
+        Some(wire::front(&bytes, n))
+    } else {
+        None
+    };
     let mut space = [0u8; Bench::LARGEST];
-    let answer = sent(
-        &mut space,
-        lent(extras.room),
-        sender,
-        report,
-        extras.note.said,
-        note,
-    );
-    match answer {
-        Written::Refused(code) => refused(out, code),
-        Written::Bytes(size) => put_frames(wire::front(&space, size), out),
+    match sent(&mut space, lent(extras.room), sender, report, note) {
+        Err(refusal) => refused(out, refusal.number()),
+        Ok(size) => put_frames(wire::front(&space, size), out),
     }
 }
 
@@ -228,14 +225,12 @@ fn sent(
     lent: usize,
     sender: u8,
     report: Report,
-    noted: bool,
-    note: &[u8],
-) -> Written {
+    note: Option<&[u8]>,
+) -> Result<usize, Refusal> {
     if room.len() <= lent {
-        return Bench::send(room, sender, report, noted, note);
+        return Bench::send(room, sender, report, note);
     }
-    let start: usize = 0;
-    Bench::send(&mut room[start..lent], sender, report, noted, note)
+    Bench::send(&mut room[..lent], sender, report, note)
 }
 
 fn put_frames(frames: &[u8], out: &mut [u8]) -> usize {

@@ -11,7 +11,7 @@ ghost use Rattle.joining.specs.Inner.{session_with, beside};
 
 mod lent;
 
-use report::{Note, Payload, Reading, Report};
+use report::{Note, Payload, Report};
 
 // Whose session a frame is for, 0 to 253, or why it is for none.
 #[derive(Clone, Copy)]
@@ -372,14 +372,14 @@ pub fn answered(payload: &[u8]) -> Answer
     ensures { result ≡ yields (read_payload payload.now) }
 {
     match Payload::read(payload) {
-        Reading::Accepted(report) => {
+        Ok(report) => {
             let values = report.values;
             Answer::Complete(Report {
                 values,
                 own: report.own,
             })
         }
-        Reading::Refused(number) => Answer::Refused(number),
+        Err(refusal) => Answer::Refused(refusal.number()),
     }
 }
 

@@ -125,11 +125,12 @@ fn write_in(rt: &impl Print, room: &mut [u8], line: &[u8]) {
     };
     let words: &[u8] = b"The left sieve lets more grain by than before, since the belt was";
     let note = wire::front(words, cases::byte(line, 7) as usize);
-    let noted = cases::byte(line, 6) == 1;
-    print::written(
-        rt,
-        Bench::send(room, cases::byte(line, 2), report, noted, note),
-    );
+    let note = if cases::byte(line, 6) == 1 {
+        Some(note)
+    } else {
+        None
+    };
+    print::written(rt, Bench::send(room, cases::byte(line, 2), report, note));
     text(rt, b"\n ");
     printing::bytes(rt, room);
 }

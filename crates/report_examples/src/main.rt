@@ -12,7 +12,7 @@
 #![tactic(auto)]
 
 use printing::{bytes, end, number, refused, text};
-use report::{Payload, Reading, Report, Written};
+use report::{Payload, Report};
 use values::{Edition, Values};
 
 fn main(rt: HostRuntime) {
@@ -35,7 +35,7 @@ fn case(rt: &impl Print, line: &[u8]) {
     text(rt, line);
     match wire::byte(line, 0) {
         b'w' => write(rt, line),
-        b'h' => written(rt, &mut space, line, true, &[0u8; 65536]),
+        b'h' => written(rt, &mut space, line, Some(&[0u8; 65536])),
         b'r' => {
             let n = cases::bytes(line, 1, &mut space);
             read(rt, wire::front(&space, n));
@@ -57,12 +57,17 @@ fn write(rt: &impl Print, line: &[u8]) {
     let words: &[u8] = b"The left sieve lets more grain by than before, since the belt was";
     let note = wire::front(words, cases::byte(line, 6) as usize);
     if size <= room.len() {
-        written(rt, &mut room[..size], line, cases::byte(line, 5) == 1, note);
+        let note = if cases::byte(line, 5) == 1 {
+            Some(note)
+        } else {
+            None
+        };
+        written(rt, &mut room[..size], line, note);
     }
 }
 
 // What the writer answers, and the room that it leaves.
-fn written(rt: &impl Print, room: &mut [u8], line: &[u8], noted: bool, note: &[u8]) {
+fn written(rt: &impl Print, room: &mut [u8], line: &[u8], note: Option<&[u8]>) {
     let values = Values {
         loss: cases::short(line, 2),
         shake: cases::short(line, 3),
@@ -73,9 +78,9 @@ fn written(rt: &impl Print, room: &mut [u8], line: &[u8], noted: bool, note: &[u
         own: cases::number(line, 4),
     };
     text(rt, b" written");
-    match Payload::write(room, report, noted, note) {
-        Written::Bytes(n) => number(rt, n as u64),
-        Written::Refused(n) => refused(rt, n),
+    match Payload::write(room, report, note) {
+        Ok(n) => number(rt, n as u64),
+        Err(refusal) => refused(rt, refusal.number()),
     }
     bytes(rt, room);
 }
@@ -83,8 +88,8 @@ fn written(rt: &impl Print, room: &mut [u8], line: &[u8], noted: bool, note: &[u
 // What the reader answers for the bytes, and the note in them.
 fn read(rt: &impl Print, p: &[u8]) {
     match Payload::read(p) {
-        Reading::Accepted(r) => accepted(rt, r),
-        Reading::Refused(n) => refused(rt, n),
+        Ok(r) => accepted(rt, r),
+        Err(refusal) => refused(rt, refusal.number()),
     }
     if Payload::has_note(p) {
         text(rt, b" note");
@@ -131,8 +136,5 @@ fn reads_with(p: &mut [u8; 96], size: usize, at: usize, more: u8) -> u64 {
     wire::put(p, at, std::num::wrapping_add_u8(found, more));
     let answer = Payload::read(wire::front(p, size));
     wire::put(p, at, found);
-    match answer {
-        Reading::Accepted(_) => 1,
-        Reading::Refused(_) => 0,
-    }
+    if answer.is_ok() { 1 } else { 0 }
 }
