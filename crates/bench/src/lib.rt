@@ -72,10 +72,8 @@ fn put_packets(room: &mut [u8], sender: u8, p: &[u8], count: u8)
     requires { (count ≤ 13) × (7 * count ≤ length p.now + 6) }
     ensures { room.new ≡ sets room.old 12 (frame_bytes (packets_from sender p.now 1 count)) }
 {
-    let mut sent = 0;
-    while sent < count {
+    for sent in 0..count {
         put_packet(room, sender, p, sent + 1);
-        sent += 1;
     }
 }
 
