@@ -4,7 +4,7 @@
 use mathlib.Core.Path.{◌≡◌, refl, sym, ap, ap₂, ◌∙◌}
 use mathlib.Core.Bool.{Bool, true, false, cond, not, ◌&&◌, or-true}
 use mathlib.Core.Logic.{◌⊎◌, inl, inr}
-use mathlib.Core.Option.{Option, none, some}
+use Rattle.std.specs.Prelude.{Option, None, Some}
 use mathlib.Core.List.{List, [], ◌∷◌, ◌++◌}
 use Prim.Native.Nat.{ℕ, zero, suc, ◌+◌, ◌-◌, ◌*◌, ◌/◌, ◌%◌, ◌≤◌, ◌<◌}
 use native.Mathlib.Omega.{arith}
@@ -131,8 +131,8 @@ module _ (sender : ℕ) (known : sender ≤ 253) (p : List ℕ) where
 -- A payload of the second edition has 22 to 89 bytes.
 size_second : (e : Edition) (note : Option (List ℕ)) {heat : ℕ} → e ≡ Second heat → note_fits note ≡ true → (22 ≤ size e note) × (size e note ≤ 89)
 unfolding note_fits
-size_second e none second h = let n = ap plain_size second in (omega arith, omega arith)
-size_second e (some note) second h =
+size_second e None second h = let n = ap plain_size second in (omega arith, omega arith)
+size_second e (Some note) second h =
     let n = ap plain_size second in
     let short = leb-true (length note) 64 h in
     (omega arith, omega arith)
@@ -246,8 +246,8 @@ module _ (sender : ℕ) (known : sender ≤ 253) (r : Report) (note : Option (Li
       carried = rw long (sizes note permitted.short)
         where
           sizes : (note : Option (List ℕ)) → note_fits note ≡ true → carries_first (size First note) ≡ true
-          sizes none h = refl
-          sizes (some note) h =
+          sizes None h = refl
+          sizes (Some note) h =
               let short = leb-true (length note) 64 h in
               rw (ne_eqb (20 + length note) 17 (λ e. omega arith), le-leb 20 (20 + length note) (omega arith), le-leb (20 + length note) 84 (omega arith))
 

@@ -2,7 +2,7 @@
 -- Assumes nothing.
 use mathlib.Core.Path.{◌≡◌, refl, sym, ◌∙◌, ap, ap₂}
 use mathlib.Core.Bool.{Bool, true, false, cond, or-true}
-use mathlib.Core.Option.{Option, none, some}
+use Rattle.std.specs.Prelude.{Option, None, Some}
 use mathlib.Core.List.{List, [], ◌∷◌, ◌++◌, append_assoc}
 use Prim.Native.Nat.{ℕ, zero, suc, ◌+◌, ◌-◌, ◌^◌, ◌≤◌, ◌<◌}
 use native.Mathlib.Omega.{arith}
@@ -23,7 +23,11 @@ use Rattle.joining.specs.declared.Session.{Session}
 use Rattle.joining.specs.declared.Answer.TheVariants.{Kept, Complete}
 use Rattle.joining.specs.Frame.{Frame, sender_of}
 use Rattle.joining.specs.Joining.{packets, carries, fit, size_held, payload_held}
-use Rattle.bench.specs.Bench.{identifier, carrier, opening, packets_from, frames, frame_bytes, frames_in, room_for, send_refusal, sent}
+use Rattle.bench.specs.Bench.{identifier, carrier, opening, packets_from, frames, frame_bytes, frames_in, room_for, send_refusal, send_answer, sent}
+use Rattle.std.specs.Prelude.{Ok, Err}
+use Rattle.std.specs.Result.{result_and}
+use Rattle.refusal.specs.declared.Refusal.TheVariants.{NoSuchSender, ValueOutOfRange, NoteTooLong, NoRoom}
+use Rattle.refusal.specs.Numbers.{number_in}
 use Rattle.joining.specs.Run.{session_of, sessions_after_all, answers_to_all, solo_session, solo_answers, own_frames, own_answers}
 use Rattle.joining.proofs.Mixing.{mixing}
 use Rattle.bench.proofs.Sending.{length_data, length-announcement}
@@ -32,9 +36,9 @@ use Rattle.bench.proofs.Joins.{padded, joins}
 -- Rules 4.3 and 17.2: a payload has 17 bytes without a note, and 20 to 84 with one; and 5 more with a heat.
 payload-carries : (e : Edition) (note : Option (List ℕ)) → note_fits note ≡ true → carries (size e note) ≡ true
 unfolding carries note_fits
-payload-carries First none h = refl
-payload-carries (Second heat) none h = refl
-payload-carries e (some note) h =
+payload-carries First None h = refl
+payload-carries (Second heat) None h = refl
+payload-carries e (Some note) h =
     let short = leb-true (length note) 64 h in
     let n = plain_size e + 3 + length note in
     rw (le-leb 20 n (omega (arith, plain_from e)), le-leb n 89 (omega (arith, plain_to e))) (or-true (eqb n 17))
@@ -46,10 +50,10 @@ held r note fits =
     rw (sized r.values.edition refl note fits) (take_at (payload r note) _ (length (payload r note)) refl)
   where
     sized : (e : Edition) → r.values.edition ≡ e → (note : Option (List ℕ)) → note_fits note ≡ true → size_held (padded 89 (payload r note)) ≡ length (payload r note)
-    sized First e none h = rw e
-    sized (Second heat) e none h = rw e
-    sized First e (some note) h = rw e (omega (arith, leb-true (length note) 64 h))
-    sized (Second heat) e (some note) h = rw e (omega (arith, leb-true (length note) 64 h))
+    sized First e None h = rw e
+    sized (Second heat) e None h = rw e
+    sized First e (Some note) h = rw e (omega (arith, leb-true (length note) 64 h))
+    sized (Second heat) e (Some note) h = rw e (omega (arith, leb-true (length note) 64 h))
 
 -- The round trip: what the sender writes for a report that may be sent is kept frame by frame by any fit session, and its
 -- last packet yields that report. No frame is refused.
@@ -136,11 +140,11 @@ module _ (sender : ℕ) (known : sender ≤ 253) (p : List ℕ) where
 -- What the sender does not refuse comes from a sender that has a session, and may be sent.
 sendable : (room : List ℕ) (sender : ℕ) (r : Report) (note : Option (List ℕ)) → r.own < 2 ^ 32 → send_refusal (length room) sender r note ≡ 0
     → (sender ≤ 253) × Permitted r note
-unfolding send_refusal fault
+unfolding send_refusal send_answer fault
 sendable room sender r note own = go (ltb 253 sender) (in_range r.values) (note_fits note) refl refl refl
   where
     go : (a b c : Bool) → ltb 253 sender ≡ a → in_range r.values ≡ b → note_fits note ≡ c
-        → ◌≡◌ {A = ℕ} (cond a 3 (cond (eqb (cond b (cond c 0 19) 12) 0) (cond (leb (room_for r.values.edition note) (length room)) 0 20) (cond b (cond c 0 19) 12))) 0
+        → ◌≡◌ {A = ℕ} (number_in (cond a (Err NoSuchSender) (result_and (cond b (cond c (Ok (tt {0})) (Err NoteTooLong)) (Err ValueOutOfRange)) (cond (leb (room_for r.values.edition note) (length room)) (Ok (room_for r.values.edition note)) (Err NoRoom))))) 0
         → (sender ≤ 253) × Permitted r note
     go false true true ha hb hc h = (ltb-false 253 sender ha, record { range = hb; short = hc; own = own })
     go false true false ha hb hc h = absurd (omega arith)

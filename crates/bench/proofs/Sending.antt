@@ -1,7 +1,7 @@
 -- The frames that the bench sender stores, one behind the other: each takes 12 bytes, and a packet's 7 bytes are stored over 255s.
 -- Assumes nothing.
 use mathlib.Core.Bool.{Bool, true, false, cond}
-use mathlib.Core.Option.{Option, none, some}
+use Rattle.std.specs.Prelude.{Option, None, Some}
 use mathlib.Core.Path.{◌≡◌, refl, sym, ◌∙◌, ap}
 use mathlib.Core.List.{List, [], ◌∷◌, ◌++◌, append_assoc, append-nil}
 use Prim.Native.Nat.{ℕ, zero, suc, ◌+◌, ◌-◌, ◌*◌, ◌/◌, ◌%◌, ◌≤◌, ◌<◌}
@@ -16,9 +16,15 @@ use Rattle.wire.specs.Bytes.{bytes, part}
 use Rattle.wire.proofs.Numbers.{length-bytes}
 use Rattle.wire.proofs.Stores.{sets-append, sets_past}
 use Rattle.report.specs.declared.Report.{Report}
-use Rattle.report.specs.declared.Written.TheVariants.{Bytes, Refused}
+use Rattle.std.specs.Prelude.{Result, Ok, Err}
+use Rattle.std.specs.Result.{result_and}
+use Rattle.values.specs.declared.Edition.{Edition}
+use Rattle.refusal.specs.declared.Refusal.{Refusal}
+use Rattle.refusal.specs.declared.Refusal.TheVariants.{NoSuchSender, ValueOutOfRange, NoteTooLong, NoRoom}
+use Rattle.refusal.specs.Numbers.{number_of, number_in}
+use Rattle.refusal.proofs.Numbers.{number_above}
 use Rattle.values.specs.Range.{in_range}
-use Rattle.report.specs.Payload.{payload, plain_size, size, note_fits, fault, write_refusal, written}
+use Rattle.report.specs.Payload.{payload, size, note_fits, fault, write_answer, written}
 use Rattle.report.proofs.Places.{plain_to, size-payload}
 use Rattle.joining.specs.Frame.{Frame}
 use Rattle.joining.specs.Joining.{packets}
@@ -122,53 +128,79 @@ module _ (sender : ℕ) (p : List ℕ) where
       ∙ ap (λ (at : ℕ). sets (sets b 0 front) (0 + at) behind) length-opening))
 
 -- What is not faulty fits the largest payload.
-pub size_bound : (r : Report) (note : Option (List ℕ)) → fault r note ≡ 0 → size r.values.edition note ≤ 89
-unfolding fault note_fits
-size_bound r none h = omega (arith, plain_to r.values.edition)
-size_bound r (some note) h = go (in_range r.values) (leb (length note) 64) refl h
-  where
-    go : (a b : Bool) → leb (length note) 64 ≡ b → ◌≡◌ {A = ℕ} (cond a (cond b 0 19) 12) 0 → plain_size r.values.edition + 3 + length note ≤ 89
-    go true true e h = omega (arith, leb-true (length note) 64 e, plain_to r.values.edition)
-    go true false e h = absurd (omega arith)
-    go false true e h = absurd (omega arith)
-    go false false e h = absurd (omega arith)
+pub size_bound : (e : Edition) (note : Option (List ℕ)) → note_fits note ≡ true → size e note ≤ 89
+unfolding note_fits
+size_bound e None h = omega (arith, plain_to e)
+size_bound e (Some note) h = omega (arith, leb-true (length note) 64 h, plain_to e)
 
--- A payload written over 89 bytes is their front.
-pub written-front : (r : Report) (note : Option (List ℕ)) {w : List ℕ} {n : ℕ} → fault r note ≡ 0 → w ≡ written (replicate 89 255) r note → n ≡ size r.values.edition note
-    → take n w ≡ payload r note
-unfolding written write_refusal
-written-front r note h e k =
-    rw (e, k, h, le-leb (size r.values.edition note) 89 (size_bound r note h))
-    (take_at (payload r note) (drop (size r.values.edition note) (replicate 89 255)) (size r.values.edition note) (size-payload r note))
+-- So the writer, in room for any payload, refuses only what is faulty.
+module _ (r : Report) (note : Option (List ℕ)) where
+  pub wrote : write_answer (length {A = ℕ} (replicate 89 255)) r note ≡ result_and (fault r note) (Ok (size r.values.edition note))
+  unfolding write_answer fault
+  wrote = go (in_range r.values) (note_fits note) (λ h. le-leb (size r.values.edition note) 89 (size_bound r.values.edition note h))
+    where
+      n : ℕ
+      n = size r.values.edition note
+
+      go : (a b : Bool) → (b ≡ true → leb n 89 ≡ true)
+          → result_and (cond a (cond b (Ok (tt {0})) (Err NoteTooLong)) (Err ValueOutOfRange)) (cond (leb n 89) (Ok n) (Err NoRoom))
+          ≡ result_and (cond a (cond b (Ok (tt {0})) (Err NoteTooLong)) (Err ValueOutOfRange)) (Ok n)
+      go true true h = rw (h refl)
+      go true false h = refl
+      go false b h = refl
+
+  pub faultless : {n : ℕ} → result_and (fault r note) (Ok (size r.values.edition note)) ≡ Ok n
+      → (fault r note ≡ Ok (tt {0})) × (n ≡ size r.values.edition note) × (size r.values.edition note ≤ 89)
+  unfolding fault
+  faultless {n} = go (in_range r.values) (note_fits note) refl
+    where
+      go : (a b : Bool) → note_fits note ≡ b
+          → ◌≡◌ {A = Result ℕ Refusal} (result_and (cond a (cond b (Ok (tt {0})) (Err NoteTooLong)) (Err ValueOutOfRange)) (Ok (size r.values.edition note))) (Ok n)
+          → (cond a (cond b (Ok (tt {0})) (Err NoteTooLong)) (Err ValueOutOfRange) ≡ Ok (tt {0})) × (n ≡ size r.values.edition note) × (size r.values.edition note ≤ 89)
+      go true true e h = (refl, cc, size_bound r.values.edition note e)
+      go true false e h = absurd cc
+      go false b e h = absurd cc
+
+  -- A payload written over 89 bytes is their front.
+  pub written-front : {w : List ℕ} {n : ℕ} → write_answer (length {A = ℕ} (replicate 89 255)) r note ≡ Ok n → w ≡ written (replicate 89 255) r note → n ≡ size r.values.edition note
+      → take n w ≡ payload r note
+  unfolding written
+  written-front h e k =
+      rw (e, k, h)
+      (take_at (payload r note) (drop (size r.values.edition note) (replicate 89 255)) (size r.values.edition note) (size-payload r note))
 
 module _ (b : List ℕ) (sender : ℕ) (r : Report) (note : Option (List ℕ)) where
-  refuse : (n : ℕ) → send_refusal (length b) sender r note ≡ n → (n ≡ 0 → ⊥) → (Refused n ≡ send_answer (length b) sender r note) × (b ≡ sent b sender r note)
-  unfolding send_answer sent
-  refuse n e h = (rw (e, ne_eqb n 0 h), rw (e, ne_eqb n 0 h))
+  refuse : (e : Refusal) → send_answer (length b) sender r note ≡ Err e → (Err e ≡ send_answer (length b) sender r note) × (b ≡ sent b sender r note)
+  unfolding sent send_refusal
+  refuse e h = (sym h, rw (h, ne_eqb (number_of e) 0 (λ z. omega (arith, number_above e))))
 
-  pub no_sender : 253 < sender → (Refused 3 ≡ send_answer (length b) sender r note) × (b ≡ sent b sender r note)
-  unfolding send_refusal
-  no_sender h = refuse 3 (rw (lt-ltb 253 sender h)) (λ z. omega arith)
+  pub no_sender : 253 < sender → (Err NoSuchSender ≡ send_answer (length b) sender r note) × (b ≡ sent b sender r note)
+  unfolding send_answer
+  no_sender h = refuse NoSuchSender (rw (lt-ltb 253 sender h))
 
-  pub faulty : {n : ℕ} → sender ≤ 253 → n ≡ fault r note → (n ≡ 0 → ⊥) → (Refused n ≡ send_answer (length b) sender r note) × (b ≡ sent b sender r note)
-  unfolding send_refusal
-  faulty {n} s e h = refuse n (rw (le-ltb 253 sender s, ← e, ne_eqb n 0 h)) h
+  pub faulty : {e : Refusal} → sender ≤ 253 → write_answer (length {A = ℕ} (replicate 89 255)) r note ≡ Err e → (Err e ≡ send_answer (length b) sender r note) × (b ≡ sent b sender r note)
+  unfolding send_answer
+  faulty {e} s h = refuse e (rw (le-ltb 253 sender s) (up _ _ _ (fault r note) (sym (wrote r note) ∙ h)))
+    where
+      up : (n k : ℕ) (w : Bool) (f : Result (Unit {0}) Refusal) → result_and f (Ok n) ≡ Err e → result_and f (cond w (Ok k) (Err NoRoom)) ≡ Err e
+      up n k w (Ok x) h = absurd cc
+      up n k w (Err d) h = cc
 
-  module _ {n k : ℕ} (s : sender ≤ 253) (h : fault r note ≡ 0) (sized : n ≡ size r.values.edition note) (counted : k ≡ packets n) where
+  module _ {n k : ℕ} (s : sender ≤ 253) (h : fault r note ≡ Ok (tt {0})) (sized : n ≡ size r.values.edition note) (counted : k ≡ packets n) where
     needed : 12 * (1 + k) ≡ room_for r.values.edition note
     needed = rw (counted, sized)
 
-    pub short : length b < 12 * (1 + k) → (Refused 20 ≡ send_answer (length b) sender r note) × (b ≡ sent b sender r note)
-    unfolding send_refusal
-    short few = refuse 20 (rw (le-ltb 253 sender s, h, ← needed, lt-leb (12 * (1 + k)) (length b) few)) (λ z. omega arith)
+    pub short : length b < 12 * (1 + k) → (Err NoRoom ≡ send_answer (length b) sender r note) × (b ≡ sent b sender r note)
+    unfolding send_answer
+    short few = refuse NoRoom (rw (le-ltb 253 sender s, h, ← needed, lt-leb (12 * (1 + k)) (length b) few))
 
     pub fits : {p b₁ : List ℕ} → 12 * (1 + k) ≤ length b → p ≡ payload r note → b₁ ≡ sets b 0 (frame_bytes (frames sender p))
-        → (Bytes (12 * (1 + k)) ≡ send_answer (length b) sender r note) × (b₁ ≡ sent b sender r note)
+        → (Ok (12 * (1 + k)) ≡ send_answer (length b) sender r note) × (b₁ ≡ sent b sender r note)
     unfolding send_answer sent send_refusal
     fits enough is stored =
-        let room : send_refusal (length b) sender r note ≡ 0 = rw (le-ltb 253 sender s, h, ← needed, le-leb (12 * (1 + k)) (length b) enough) in
+        let room : send_answer (length b) sender r note ≡ Ok (room_for r.values.edition note) = rw (le-ltb 253 sender s, h, le-leb (room_for r.values.edition note) (length b) (omega (arith, needed))) in
         let fs = frame_bytes (frames sender (payload r note)) in
         let long : length fs ≡ room_for r.values.edition note = rw (size-payload r note) at (frames-bytes sender (payload r note)) in
         let whole : 0 + length fs ≤ length b = omega (arith, needed) in
         let end : 0 + length fs ≡ room_for r.values.edition note = omega arith in
-        (rw (room, ← needed), rw room (rw is at stored ∙ sets-eq fs b 0 whole ∙ rw end))
+        (ap Ok needed ∙ sym room, rw (ap number_in room) (rw is at stored ∙ sets-eq fs b 0 whole ∙ rw end))

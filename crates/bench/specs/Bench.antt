@@ -1,11 +1,14 @@
 -- What the bench sender writes (docs/RULES.md, section 10).
 use Rattle.std.specs.Prelude.{ℕ, zero, suc, ◌+◌, ◌-◌, ◌*◌, cond, List, [], ◌∷◌, ◌++◌, length, take, drop, replicate, leb, ltb, eqb}
-use Rattle.std.proofs.Math.Option.{Option}
+use Rattle.std.specs.Prelude.{Option}
 use Rattle.wire.specs.Bytes.{number, bytes, part}
 use Rattle.values.specs.declared.Edition.{Edition}
 use Rattle.report.specs.declared.Report.{Report}
-use Rattle.report.specs.declared.Written.{Written}
-use Rattle.report.specs.declared.Written.TheVariants as writing
+use Rattle.std.specs.Prelude.{Result, Ok, Err}
+use Rattle.std.specs.Result.{result_and}
+use Rattle.refusal.specs.declared.Refusal.{Refusal}
+use Rattle.refusal.specs.declared.Refusal.TheVariants.{NoSuchSender, NoRoom}
+use Rattle.refusal.specs.Numbers.{number_in}
 use Rattle.report.specs.Payload.{payload, size, fault}
 use Rattle.joining.specs.Frame.{Frame}
 use Rattle.joining.specs.Joining.{packets}
@@ -52,15 +55,15 @@ frames_in (suc n) bs = record { identifier = number (take 4 bs); data_bytes = pa
 abbrev pub room_for : Edition → Option (List ℕ) → ℕ
 room_for edition note = 12 * (1 + packets (size edition note))
 
--- The sender's refusals, in the order of rule 9.4: 3, 12, 19, then 20, too short a room; 0 for none.
-unfoldable pub send_refusal : ℕ → ℕ → Report → Option (List ℕ) → ℕ
-send_refusal room sender r note =
-    cond (ltb 253 sender) 3 (cond (eqb (fault r note) 0) (cond (leb (room_for r.values.edition note) room) 0 20) (fault r note))
-
--- The answer: how many bytes were filled, or the refusal.
-unfoldable pub send_answer : ℕ → ℕ → Report → Option (List ℕ) → Written
+-- The answer: how many bytes were filled, or the sender's refusals, in the order of rule 9.4: 3, 12, 19, then 20, too short a room.
+unfoldable pub send_answer : ℕ → ℕ → Report → Option (List ℕ) → Result ℕ Refusal
 send_answer room sender r note =
-    cond (eqb (send_refusal room sender r note) 0) (writing.Bytes (room_for r.values.edition note)) (writing.Refused (send_refusal room sender r note))
+    cond (ltb 253 sender) (Err NoSuchSender)
+    (result_and (fault r note) (cond (leb (room_for r.values.edition note) room) (Ok (room_for r.values.edition note)) (Err NoRoom)))
+
+-- The number of the refusal; 0 for none.
+unfoldable pub send_refusal : ℕ → ℕ → Report → Option (List ℕ) → ℕ
+send_refusal room sender r note = number_in (send_answer room sender r note)
 
 -- Rule 10.4: the room as it is left: the frames, and the bytes behind them as they were; a refusal changes no byte.
 unfoldable pub sent : List ℕ → ℕ → Report → Option (List ℕ) → List ℕ

@@ -4,12 +4,14 @@
 ghost use Rattle.std.specs.Prelude.{◌≡◌, ◌++◌, ◌+◌, ◌-◌, ◌*◌, ◌≤◌, length};
 ghost use Rattle.std.proofs.lemmas.List.Edits.{sets};
 ghost use Rattle.wire.specs.Bytes.{bytes};
-ghost use Rattle.report.specs.Payload.{largest_payload, given};
+ghost use Rattle.report.specs.Payload.{largest_payload};
+ghost use Rattle.std.specs.Option.{option_copied};
 ghost use Rattle.joining.specs.Joining.{packets};
 ghost use Rattle.bench.specs.Bench.{identifier, announcement, packet_data, packets_from, frames, frame_bytes, send_answer, sent};
 
 use joining::{Frame, Session};
-use report::{Payload, Report, Written};
+use refusal::Refusal;
+use report::{Payload, Report};
 
 // Writes the frames that a controller would send.
 #[derive(Clone, Copy)]
@@ -29,30 +31,29 @@ impl Bench {
     // What stands where nothing is to be read.
     pub const UNREAD: u8 = 255;
 
-    // Writes a report, with the note where `noted`, to the front of `room` as its announcement and its packets, 12 bytes
-    // each. Bytes behind them stay as found; a refusal changes none. The order of refusals is 3, 12, 19, 20.
-    pub fn send(room: &mut [u8], sender: u8, report: Report, noted: bool, note: &[u8]) -> Written
-        ensures value { result ≡ send_answer (length room.old) sender report (given noted note.now) }
-        ensures room_after { room.new ≡ sent room.old sender report (given noted note.now) }
+    // Writes a report, with its note if there is one, to the front of `room` as its announcement and its packets, 12 bytes
+    // each, and answers how many bytes it filled. Bytes behind them stay as found; a refusal changes none. The order of
+    // refusals is 3, 12, 19, 20.
+    pub fn send(
+        room: &mut [u8],
+        sender: u8,
+        report: Report,
+        note: Option<&[u8]>,
+    ) -> Result<usize, Refusal>
+        ensures value { result ≡ send_answer (length room.old) sender report (option_copied note.entry) }
+        ensures room_after { room.new ≡ sent room.old sender report (option_copied note.entry) }
     {
         if Frame::LARGEST_SENDER < (sender as u32) {
-            return Written::Refused(Frame::NO_SUCH_SENDER);
-        }
-        let fault = Payload::fault(report, noted, note);
-        if fault != 0 {
-            return Written::Refused(fault);
-        }
-        let values = report.values;
-        let edition = values.edition;
-        let size = Payload::size(edition, noted, note);
-        let needed = Bench::FRAME * (1 + (joining::packets(size as u16) as usize));
-        if room.len() < needed {
-            return Written::Refused(Payload::NO_ROOM);
+            return Err(Refusal::NoSuchSender);
         }
         let mut payload = [Bench::UNREAD; Payload::LARGEST];
-        Payload::write(&mut payload, report, noted, note);
+        let size = Payload::write(&mut payload, report, note)?;
+        let needed = Bench::FRAME * (1 + (joining::packets(size as u16) as usize));
+        if room.len() < needed {
+            return Err(Refusal::NoRoom);
+        }
         fill(room, sender, &payload[..size]);
-        Written::Bytes(needed)
+        Ok(needed)
     }
 }
 
@@ -71,10 +72,8 @@ fn put_packets(room: &mut [u8], sender: u8, p: &[u8], count: u8)
     requires { (count ≤ 13) × (7 * count ≤ length p.now + 6) }
     ensures { room.new ≡ sets room.old 12 (frame_bytes (packets_from sender p.now 1 count)) }
 {
-    let mut sent = 0;
-    while sent < count {
+    for sent in 0..count {
         put_packet(room, sender, p, sent + 1);
-        sent += 1;
     }
 }
 

@@ -4,7 +4,7 @@
 #![tactic(auto)]
 
 use bench::Bench;
-use report::{Report, Written};
+use report::Report;
 use values::{Edition, Values};
 
 // The bytes of a request.
@@ -35,14 +35,8 @@ fn write(rt: &impl Print, request: &[u8; REQUEST]) {
     };
     let length = usize::from(wire::byte(request, 10));
     let note = wire::front(&request[11..], length);
-    let sender = wire::byte(request, 0);
-    if let Written::Bytes(n) = Bench::send(
-        &mut space,
-        sender,
-        report,
-        wire::byte(request, 9) != 0,
-        note,
-    ) {
+    let note = (wire::byte(request, 9) != 0).then_some(note);
+    if let Ok(n) = Bench::send(&mut space, wire::byte(request, 0), report, note) {
         let _ = rt.write_all(wire::front(&space, n));
     }
 }

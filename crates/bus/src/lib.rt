@@ -61,13 +61,9 @@ impl Bus {
     pub fn read(room: &[u8; Bus::ROOM]) -> [Session; Bus::SENDERS]
         ensures { result ≡ sessions_in room.now }
     {
-        let none = Session::fresh();
-        let mut sessions = [none; Bus::SENDERS];
-        let mut k = 0;
-        while k < Bus::SENDERS {
-            let session = session_in(room, Bus::PLACE * k);
-            sessions[k] = session;
-            k += 1;
+        let mut sessions = [Session::fresh(); Bus::SENDERS];
+        for (k, session) in sessions.iter_mut().enumerate() {
+            *session = session_in(room, Bus::PLACE * k);
         }
         sessions
     }
@@ -137,11 +133,8 @@ fn fill_in(room: &mut [u8], sessions: [Session; Bus::SENDERS])
     ensures room_after { room.new ≡ room_of sessions }
     ensures room_after_2 { (sessions_in room.new ≡ sessions) × (length room.new ≡ room_bytes) }
 {
-    let mut k = 0;
-    while k < Bus::SENDERS {
-        let session = sessions[k];
-        put_session(room, Bus::PLACE * k, session);
-        k += 1;
+    for (k, session) in sessions.iter().enumerate() {
+        put_session(room, Bus::PLACE * k, *session);
     }
 }
 
@@ -251,11 +244,7 @@ fn clear(place: &mut [u8])
     requires { length place.old ≡ place_bytes }
     ensures { take largest_payload place.new ≡ replicate largest_payload 255 }
 {
-    let mut i = 0;
-    while i < Bus::SIZE {
-        place[i] = 255;
-        i += 1;
-    }
+    place[..Bus::SIZE].fill(255);
 }
 
 // A data packet of the session's sender.

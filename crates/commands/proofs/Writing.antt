@@ -2,13 +2,12 @@
 -- Assumes nothing.
 use mathlib.Core.Path.{◌≡◌, refl, sym, ◌∙◌, ap}
 use mathlib.Core.Bool.{Bool, true, false, cond}
-use mathlib.Core.Option as sent_note
 use Rattle.std.proofs.Common.{Option, Some, None, Result, Ok, Err}
 use mathlib.Core.List.{List, [], ◌++◌, append_assoc, append-nil, map}
 use Prim.Native.Nat.{ℕ, zero, suc, ◌+◌, ◌*◌, ◌/◌, ◌≤◌}
 use native.Mathlib.Numerals.{add-one}
 use native.Mathlib.Omega.{arith}
-use borrow.Author.Tests.{eqb-true, eqb-false, leb-true, ltb-false}
+use borrow.Author.Tests.{eq-eqb, ne_eqb, leb-true, ltb-false}
 use lib.Dec.{eqb, leb, ltb}
 use lib.ListN.{length, drop, length-append, length-take}
 use lib.Seq.{sets, drop-drop}
@@ -18,7 +17,11 @@ use Rattle.items.specs.Items.{item_bytes}
 use Rattle.items.specs.Run.{Meant, run_bytes}
 use Rattle.items.proofs.Writing.{frame_long, timed_long}
 use Rattle.report.specs.declared.Report.{Report}
-use Rattle.report.specs.declared.Written.TheVariants as writing
+use Rattle.std.specs.Result.{result_and}
+use Rattle.refusal.specs.declared.Refusal.{Refusal}
+use Rattle.refusal.specs.declared.Refusal.TheVariants.{NoSuchSender, NoRoom}
+use Rattle.refusal.specs.Numbers.{number_of, number_in}
+use Rattle.refusal.proofs.Numbers.{number_above}
 use Rattle.report.specs.Payload.{payload, given, fault}
 use Rattle.report.proofs.Places.{size-payload}
 use Rattle.joining.specs.Frame as frame
@@ -69,23 +72,42 @@ item_most (Some ms) at bs = omega (arith, timed_long ms (number (part at 4 bs)) 
 -- ---- the frames of a report
 
 -- What the bench sender takes has a session and fits its room.
-pub taken_facts : (room sender : ℕ) (r : Report) (note : sent_note.Option (List ℕ)) → send_refusal room sender r note ≡ 0 → (sender ≤ 253) × (room_for r.values.edition note ≤ room)
-unfolding send_refusal
-taken_facts room sender r note h = go (ltb 253 sender) (eqb (fault r note) 0) (leb (room_for r.values.edition note) room) refl refl refl h
+pub taken_facts : (room sender : ℕ) (r : Report) (note : Option (List ℕ)) → send_refusal room sender r note ≡ 0 → (sender ≤ 253) × (room_for r.values.edition note ≤ room)
+unfolding send_refusal send_answer
+taken_facts room sender r note h = go (ltb 253 sender) (fault r note) (leb (room_for r.values.edition note) room) refl refl h
   where
-    go : (a b c : Bool) → ltb 253 sender ≡ a → eqb (fault r note) 0 ≡ b → leb (room_for r.values.edition note) room ≡ c → cond a 3 (cond b (cond c 0 20) (fault r note)) ≡ 0
-        → (sender ≤ 253) × (room_for r.values.edition note ≤ room)
-    go true b c d e f h = absurd (omega arith)
-    go false true true d e f h = (ltb-false 253 sender d, leb-true (room_for r.values.edition note) room f)
-    go false true false d e f h = absurd (omega arith)
-    go false false c d e f h = absurd (eqb-false (fault r note) 0 e h)
+    n : ℕ
+    n = room_for r.values.edition note
+
+    go : (a : Bool) (f : Result (Unit {0}) Refusal) (c : Bool) → ltb 253 sender ≡ a → leb n room ≡ c
+        → ◌≡◌ {A = ℕ} (number_in (cond a (Err NoSuchSender) (result_and f (cond c (Ok n) (Err NoRoom))))) 0 → (sender ≤ 253) × (n ≤ room)
+    go true f c d e h = absurd (omega arith)
+    go false (Ok x) true d e h = (ltb-false 253 sender d, leb-true n room e)
+    go false (Ok x) false d e h = absurd (omega arith)
+    go false (Err e) c d g h = absurd (omega (arith, number_above e))
+
+-- An answer of the bench sender is the room that it needs.
+all_needed : (room sender : ℕ) (r : Report) (note : Option (List ℕ)) {n : ℕ} → send_answer room sender r note ≡ Ok n → n ≡ room_for r.values.edition note
+unfolding send_answer
+all_needed room sender r note {n} = go (ltb 253 sender) (fault r note) (leb (room_for r.values.edition note) room)
+  where
+    go : (a : Bool) (f : Result (Unit {0}) Refusal) (c : Bool) {m : ℕ}
+        → ◌≡◌ {A = Result ℕ Refusal} (cond a (Err NoSuchSender) (result_and f (cond c (Ok m) (Err NoRoom)))) (Ok n) → n ≡ m
+    go true f c h = absurd cc
+    go false (Ok x) true h = cc
+    go false (Ok x) false h = absurd cc
+    go false (Err e) c h = absurd cc
 
 -- So many bytes, and no trouble.
 abbrev pub took : ℕ → Result ℕ Trouble
 took n = Ok n
 
+-- Or a refusal by its number.
+abbrev pub refused_by : ℕ → Result ℕ Trouble
+refused_by k = Err (trouble.Refused k)
+
 module _ (t : Option ℕ) (s : Sending) (note : List ℕ) where
-  abbrev with_note : sent_note.Option (List ℕ)
+  abbrev with_note : Option (List ℕ)
   with_note = given s.noted note
 
   abbrev needed : ℕ
@@ -101,41 +123,34 @@ module _ (t : Option ℕ) (s : Sending) (note : List ℕ) where
     pub items : map (item_of_frame t) (frames_in (n / 12) left) ≡ report_items t s note
     pub taken : eqb (report_refusal s note) 0 ≡ true
 
-  pub items_sent : (room : List ℕ) {left : List ℕ} (n : ℕ) → length room ≡ 168 → send_answer (length room) s.sender s.report with_note ≡ writing.Bytes n
+  pub items_sent : (room : List ℕ) {left : List ℕ} (n : ℕ) → length room ≡ 168 → send_answer (length room) s.sender s.report with_note ≡ Ok n
       → left ≡ sent room s.sender s.report with_note → Sent n left
-  unfolding send_answer sent report_refusal report_items
-  items_sent room {left} n h a e = go (eqb (send_refusal 168 s.sender s.report with_note) 0) refl (rw h at a) (rw h at e)
-    where
-      go : (b : Bool) → eqb (send_refusal 168 s.sender s.report with_note) 0 ≡ b
-          → cond b (writing.Bytes needed) (writing.Refused (send_refusal 168 s.sender s.report with_note)) ≡ writing.Bytes n
-          → left ≡ cond b (frame_bytes carried ++ drop needed room) room → Sent n left
-      go false q b l = let z : ◌≡◌ {A = ℕ} 0 1 = cc in absurd (omega arith)
-      go true q b l =
-          let facts = taken_facts 168 s.sender s.report with_note (eqb-true _ 0 q) in
-          let p = payload s.report with_note in
-          let filled : n ≡ needed = cc in
-          let count : n / 12 ≡ suc (packets (length p)) = rw (size-payload s.report with_note) (omega arith) in
-          record {
-            within = omega (arith, facts.1);
-            whole = omega arith;
-            items = rw (q, count, l) (ap (map (item_of_frame t)) (frames_back s.sender facts.0 p (drop needed room)));
-            taken = q;
-          }
+  unfolding send_refusal sent report_refusal report_items
+  items_sent room {left} n h a e =
+      let b : send_answer 168 s.sender s.report with_note ≡ Ok n = rw h at a in
+      let none : send_refusal 168 s.sender s.report with_note ≡ 0 = ap number_in b in
+      let q : eqb (send_refusal 168 s.sender s.report with_note) 0 ≡ true = eq-eqb _ 0 none in
+      let l : left ≡ frame_bytes carried ++ drop needed room = rw (h, q) at e in
+      let facts = taken_facts 168 s.sender s.report with_note none in
+      let p = payload s.report with_note in
+      let filled : n ≡ needed = all_needed 168 s.sender s.report with_note b in
+      let count : n / 12 ≡ suc (packets (length p)) = rw (size-payload s.report with_note) (omega arith) in
+      record {
+        within = omega (arith, facts.1);
+        whole = omega arith;
+        items = rw (q, count, l) (ap (map (item_of_frame t)) (frames_back s.sender facts.0 p (drop needed room)));
+        taken = q;
+      }
 
   pub items_counted : {n : ℕ} {left : List ℕ} → Sent n left → ◌≡◌ {A = Result ℕ Trouble} (Ok (length (cut t (n / 12) left))) (report_answer t s note)
   unfolding report_answer
   items_counted sent = rw sent.taken (ap (λ (ms : List Meant). took (length (run_bytes ms))) sent.items)
 
   -- Or it refused the report.
-  pub items_refused : (room : ℕ) (k : ℕ) → room ≡ 168 → send_answer room s.sender s.report with_note ≡ writing.Refused k
-      → (◌≡◌ {A = Result ℕ Trouble} (Err (trouble.Refused k)) (report_answer t s note)) × (report_items t s note ≡ [])
-  unfolding send_answer report_refusal report_items report_answer
-  items_refused room k h a = go (eqb (send_refusal 168 s.sender s.report with_note) 0) refl (rw h at a)
-    where
-      code : ℕ
-      code = send_refusal 168 s.sender s.report with_note
-
-      go : (b : Bool) → eqb code 0 ≡ b → cond b (writing.Bytes needed) (writing.Refused code) ≡ writing.Refused k
-          → (◌≡◌ {A = Result ℕ Trouble} (Err (trouble.Refused k)) (cond (eqb code 0) (Ok (length (run_bytes (cond (eqb code 0) (map (item_of_frame t) carried) [])))) (Err (trouble.Refused code)))) × (cond (eqb code 0) (map (item_of_frame t) carried) [] ≡ [])
-      go true q b = let z : ◌≡◌ {A = ℕ} 0 1 = cc in absurd (omega arith)
-      go false q b = let e : k ≡ code = cc in (rw (q, e), rw q)
+  pub items_refused : (room : ℕ) (e : Refusal) → room ≡ 168 → send_answer room s.sender s.report with_note ≡ Err e
+      → (◌≡◌ {A = Result ℕ Trouble} (Err (trouble.Refused (number_of e))) (report_answer t s note)) × (report_items t s note ≡ [])
+  unfolding send_refusal report_refusal report_items report_answer
+  items_refused room e h a =
+      let b : send_answer 168 s.sender s.report with_note ≡ Err e = rw h at a in
+      let q : eqb (number_of e) 0 ≡ false = ne_eqb (number_of e) 0 (λ z. omega (arith, number_above e)) in
+      (rw (b, q), rw (b, q))

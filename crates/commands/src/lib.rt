@@ -12,10 +12,12 @@ ghost use Rattle.items.specs.Run.{run_bytes};
 ghost use Rattle.bench.specs.Bench.{frames_in};
 ghost use Rattle.commands.specs.Lines.{kind_of, is_heated, is_noted, value_at, weight_at, no_more, end_at, slot_at, window_line, tie_rule_at, heat_at, ties_at, no_tie_rule, question_item, question_line, edition_at, report_line, time_line, untimed_line, command_of, words_before, note_in};
 ghost use Rattle.commands.specs.Items.{frame_item, item_of_frame, items_of, answer_of, report_items, report_answer, time_after, line_outcome, line_items};
+ghost use Rattle.std.specs.Option.{option_copied};
+ghost use Rattle.report.specs.Payload.{given};
 
 use bench::Bench;
 use items::{Item, Setting};
-use report::{Report, Written};
+use report::Report;
 use values::{Edition, Values};
 
 // What the first word of a line asks for.
@@ -414,14 +416,20 @@ fn put_report(room: &mut [u8], time: Option<u32>, s: Sending, note: &[u8]) -> Re
 {
     let mut frames = [0u8; Bench::LARGEST];
     let report = s.report;
-    let written = Bench::send(&mut frames, s.sender, report, s.noted, note);
-    match written {
-        Written::Bytes(n) => {
+    match Bench::send(&mut frames, s.sender, report, note_of(s, note)) {
+        Ok(n) => {
             let size = put_frames(room, time, &frames, n / Bench::FRAME);
             Ok(size)
         }
-        Written::Refused(code) => Err(Trouble::Refused(code)),
+        Err(refusal) => Err(Trouble::Refused(refusal.number())),
     }
+}
+
+// The note that goes with a report, if one does.
+fn note_of(s: Sending, note: &[u8]) -> Option<&[u8]>
+    ensures { option_copied result ≡ given s.noted note.now }
+{
+    if s.noted { Some(note) } else { None }
 }
 
 // A frame's item, by its identifier.

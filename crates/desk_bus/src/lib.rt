@@ -9,7 +9,7 @@ use joining::Answer;
 use orders::{BusOrder, BusPoke, Heard, Sending, SessionPoke};
 use ranges::Bytes;
 use replies::{put, put_bytes, put_counted, put_heat, put_identifier, put_number, refused};
-use report::{Payload, Reading, Report, Written};
+use report::{Payload, Report};
 use times::{Last, Times};
 
 // No line holds more bytes than this.
@@ -175,8 +175,8 @@ fn payload(payload: Bytes, out: &mut [u8]) -> usize {
     let n = payload.put(&mut bytes);
     let payload = wire::front(&bytes, n);
     match Payload::read(payload) {
-        Reading::Refused(code) => refused(out, code),
-        Reading::Accepted(report) => put_report(report, payload, out),
+        Err(refusal) => refused(out, refusal.number()),
+        Ok(report) => put_report(report, payload, out),
     }
 }
 
@@ -193,12 +193,11 @@ fn write(sending: Sending, out: &mut [u8]) -> usize {
             values: sending.values,
             own: sending.own,
         },
-        sending.note.is_some(),
-        wire::front(&bytes, n),
+        sending.note.map(|_| wire::front(&bytes, n)),
     );
     match answer {
-        Written::Refused(code) => refused(out, code),
-        Written::Bytes(size) => put_frames(wire::front(&space, size), out),
+        Err(refusal) => refused(out, refusal.number()),
+        Ok(size) => put_frames(wire::front(&space, size), out),
     }
 }
 

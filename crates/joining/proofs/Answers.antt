@@ -8,8 +8,9 @@ use native.Mathlib.Omega.{arith}
 use borrow.Author.Tests.{eqb-true}
 use lib.Dec.{eqb}
 use Rattle.report.specs.declared.Report.{Report}
-use Rattle.report.specs.declared.Reading.{Reading}
-use Rattle.report.specs.declared.Reading.TheVariants as reading
+use Rattle.std.specs.Prelude.{Result, Ok, Err}
+use Rattle.refusal.specs.declared.Refusal.{Refusal}
+use Rattle.refusal.specs.Numbers.{number_of}
 use Rattle.report.specs.Answers.{reading_fields}
 use Rattle.joining.specs.declared.Answer.TheVariants.{Refused, Kept, Complete}
 use Rattle.joining.specs.declared.Sender.TheVariants as sender
@@ -28,9 +29,9 @@ sender_fields_lem id d = go (frame_refusal id d) (eqb (frame_refusal id d) 0) re
     go n false e = refl
 
 -- The last packet of a report answers what the payload's reader answers.
-pub last_packet : (r : Reading) → answer_fields (yields r) ≡ reading_fields r
-last_packet (reading.Accepted r) = refl
-last_packet (reading.Refused n) = refl
+pub last_packet : (r : Result Report Refusal) → answer_fields (yields r) ≡ reading_fields r
+last_packet (Ok r) = refl
+last_packet (Err e) = refl
 
 -- A refusal and a kept frame are no report, ...
 pub refuses : {r : Report} (n : ℕ) → Refused n ≡ Complete r → ⊥
@@ -40,6 +41,6 @@ pub keeps : {r : Report} → Kept ≡ Complete r → ⊥
 keeps e = let z : ◌≡◌ {A = ℕ} 0 1 = cc in omega arith
 
 -- ... and one that a payload yields is the one that was read from it.
-pub accepts : (r : Report) (y : Reading) → yields y ≡ Complete r → y ≡ reading.Accepted r
-accepts r (reading.Accepted q) e = cc
-accepts r (reading.Refused n) e = absurd (refuses n e)
+pub accepts : (r : Report) (y : Result Report Refusal) → yields y ≡ Complete r → y ≡ Ok r
+accepts r (Ok q) e = cc
+accepts r (Err n) e = absurd (refuses (number_of n) e)

@@ -2,7 +2,7 @@
 -- Assumes nothing.
 use mathlib.Core.Path.{◌≡◌, refl, ap}
 use mathlib.Core.Bool.{true}
-use mathlib.Core.Option.{none, some}
+use Rattle.std.specs.Prelude.{None, Some, Ok, Err}
 use mathlib.Core.List.{List, [], ◌∷◌}
 use Prim.Native.Nat.{ℕ}
 use lib.ListN.{replicate}
@@ -10,7 +10,7 @@ use Rattle.wire.specs.Bytes.{number, bytes, head, field}
 use Rattle.values.specs.Range.{in_range}
 use Rattle.values.specs.declared.Edition.TheVariants.{First, Second}
 use Rattle.report.specs.declared.Report.{Report}
-use Rattle.report.specs.declared.Reading.TheVariants as reading
+use Rattle.refusal.specs.declared.Refusal.TheVariants.{NotAPayload}
 use Rattle.report.specs.Payload.{payload, read_payload, is_payload, in_order, note_fits, note_in, edition_in, report_in}
 use Rattle.joining.specs.declared.Session.{Session}
 use Rattle.joining.specs.declared.Answer.TheVariants.{Refused, Kept}
@@ -63,23 +63,23 @@ pub record Examples : Type 0 where
   pub size89 : (s : Session) → fit s ≡ true → solo_step s (sized 89 0 13) ≡ record { answer = Kept; session = opened 89 }
   pub size90 : (s : Session) → fit s ≡ true → solo_step s (sized 90 0 13) ≡ refused 7 (closed s)
   -- Rule 17.2: a payload of each edition, without a note and with one, byte for byte.
-  pub first-bytes : payload (report 100 200 7) none ≡ numbers []
-  pub first_noted : payload (report 100 200 7) (some (0x48 ∷ 0x69 ∷ [])) ≡ numbers noted
-  pub second_bytes : payload (heated 100 200 300 7) none ≡ numbers (hot [])
-  pub second_noted : payload (heated 100 200 300 7) (some (0x48 ∷ 0x69 ∷ [])) ≡ numbers (hot noted)
+  pub first-bytes : payload (report 100 200 7) None ≡ numbers []
+  pub first_noted : payload (report 100 200 7) (Some (0x48 ∷ 0x69 ∷ [])) ≡ numbers noted
+  pub second_bytes : payload (heated 100 200 300 7) None ≡ numbers (hot [])
+  pub second_noted : payload (heated 100 200 300 7) (Some (0x48 ∷ 0x69 ∷ [])) ≡ numbers (hot noted)
   -- Size 22 is either: a note of two bytes, or a heat.
-  pub size22_first : read_payload (numbers noted) ≡ reading.Accepted (report 100 200 7)
-  pub size22_second : read_payload (numbers (hot [])) ≡ reading.Accepted (heated 100 200 300 7)
+  pub size22_first : read_payload (numbers noted) ≡ Ok (report 100 200 7)
+  pub size22_second : read_payload (numbers (hot [])) ≡ Ok (heated 100 200 300 7)
   -- Sizes 23 and 24 are none with a heat, and 85 is none without.
-  pub size23_second : read_payload (numbers (hot (0x04 ∷ []))) ≡ reading.Refused 10
-  pub size24_second : read_payload (numbers (hot (0x04 ∷ 0x00 ∷ []))) ≡ reading.Refused 10
-  pub size85_first : read_payload (numbers (0x04 ∷ 0x41 ∷ 0x00 ∷ replicate 65 0x61)) ≡ reading.Refused 10
+  pub size23_second : read_payload (numbers (hot (0x04 ∷ []))) ≡ Err NotAPayload
+  pub size24_second : read_payload (numbers (hot (0x04 ∷ 0x00 ∷ []))) ≡ Err NotAPayload
+  pub size85_first : read_payload (numbers (0x04 ∷ 0x41 ∷ 0x00 ∷ replicate 65 0x61)) ≡ Err NotAPayload
   -- The edges of the heat: 4095 is accepted, 4096 isn't.
-  pub heat4095 : read_payload (payload (heated 0 0 4095 0) none) ≡ reading.Accepted (heated 0 0 4095 0)
-  pub heat4096 : read_payload (payload (heated 0 0 4096 0) none) ≡ reading.Refused 10
+  pub heat4095 : read_payload (payload (heated 0 0 4095 0) None) ≡ Ok (heated 0 0 4095 0)
+  pub heat4096 : read_payload (payload (heated 0 0 4096 0) None) ≡ Err NotAPayload
   -- The edges of the loss: 4095 is accepted, 4096 isn't.
-  pub loss4095 : read_payload (payload (report 4095 0 0) none) ≡ reading.Accepted (report 4095 0 0)
-  pub loss4096 : read_payload (payload (report 4096 0 0) none) ≡ reading.Refused 10
+  pub loss4095 : read_payload (payload (report 4095 0 0) None) ≡ Ok (report 4095 0 0)
+  pub loss4096 : read_payload (payload (report 4096 0 0) None) ≡ Err NotAPayload
 
 opens17 : (s : Session) → fit s ≡ true → solo_step s (sized 17 0 3) ≡ record { answer = Kept; session = opened 17 }
 unfolding number take_frame frame_refusal malformed foreign announce announcement_refusal sound carries

@@ -17,7 +17,7 @@ use Rattle.wire.specs.Bytes.{number, part, field_at, is_field}
 use Rattle.wire.proofs.Numbers.{number_two}
 use Rattle.wire.proofs.Fields.{stands_facts}
 use Rattle.report.specs.declared.Report.{Report}
-use Rattle.report.specs.declared.Reading.TheVariants as reading
+use Rattle.std.specs.Prelude.{Ok}
 use Rattle.report.specs.Payload.{plain_size, edition_in, plain_in, read_payload}
 use Rattle.report.proofs.Places.{plain_from, plain_to, Shown, order_shows}
 use Rattle.report.proofs.Reader.{accepted, order_of}
@@ -139,12 +139,12 @@ module _ (b : List ℕ) (size : ℕ) (long : length b ≡ 89) (within : size ≤
 
 -- Where a frame completes a report, the session's bytes hold the payload that it was read from, so its note is that report's.
 pub held_payload : (s : Session) (f : Frame) (r : Report) → fit s ≡ true → Clean s → (solo_step s f).answer ≡ Complete r
-    → (payload_held (solo_step s f).session.bytes ≡ take s.size (stored s f.data_bytes)) × (read_payload (payload_held (solo_step s f).session.bytes) ≡ reading.Accepted r)
+    → (payload_held (solo_step s f).session.bytes ≡ take s.size (stored s f.data_bytes)) × (read_payload (payload_held (solo_step s f).session.bytes) ≡ Ok r)
 unfolding payload_held
 held_payload s f r fits c h = go (cases s f fits)
   where
     go : Case s f
-        → (payload_held (solo_step s f).session.bytes ≡ take s.size (stored s f.data_bytes)) × (read_payload (payload_held (solo_step s f).session.bytes) ≡ reading.Accepted r)
+        → (payload_held (solo_step s f).session.bytes ≡ take s.size (stored s f.data_bytes)) × (read_payload (payload_held (solo_step s f).session.bytes) ≡ Ok r)
     go (passed n l u p e) = absurd (refuses n (rw e at h))
     go (shut n p e) = absurd (refuses n (rw e at h))
     go (stray p z e) = absurd (refuses 8 (rw e at h))
@@ -153,7 +153,7 @@ held_payload s f r fits c h = go (cases s f fits)
     go (last p o n l e) =
         let b = stored s f.data_bytes in
         let open-s = open_numbers s (sym (fit_other s o) ∙ fits) in
-        let read : read_payload (take s.size b) ≡ reading.Accepted r =
+        let read : read_payload (take s.size b) ≡ Ok r =
         accepts r (read_payload (take s.size b)) (rw e at h) in
         let shown = order_shows (take s.size b) (order_of (take s.size b) (accepted (take s.size b) read).0) in
         let long : length b ≡ 89 = length-sets s.bytes (place s) (take (s.size - place s) (drop 1 f.data_bytes)) ∙ c.long in

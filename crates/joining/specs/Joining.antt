@@ -1,10 +1,11 @@
 -- One sender's session, and what a frame does to it (docs/RULES.md, sections 3 and 17).
-use Rattle.std.specs.Prelude.{ℕ, ◌+◌, ◌-◌, ◌*◌, ◌/◌, Bool, cond, not, ◌&&◌, ◌||◌, List, get_or, take, drop, replicate, leb, ltb, eqb}
+use Rattle.std.specs.Prelude.{ℕ, ◌+◌, ◌-◌, ◌*◌, ◌/◌, Bool, cond, not, ◌&&◌, ◌||◌, List, get_or, take, drop, replicate, leb, ltb, eqb, Result, Ok, Err}
 use Rattle.std.proofs.lemmas.List.Edits.{sets}
 use Rattle.wire.specs.Bytes.{number, part}
 use Rattle.report.specs.Payload.{largest_payload, plain_in, read_payload}
-use Rattle.report.specs.declared.Reading.{Reading}
-use Rattle.report.specs.declared.Reading.TheVariants as reading
+use Rattle.report.specs.declared.Report.{Report}
+use Rattle.refusal.specs.declared.Refusal.{Refusal}
+use Rattle.refusal.specs.Numbers.{number_of}
 use Rattle.joining.specs.declared.Session.{Session}
 use Rattle.joining.specs.declared.Answer.{Answer}
 use Rattle.joining.specs.declared.Answer.TheVariants.{Refused, Kept, Complete}
@@ -54,9 +55,9 @@ abbrev pub advanced : Session → List ℕ → Session
 advanced s d = record { bytes = stored s d; size = s.size; count = s.count; next = s.next + 1 }
 
 -- The reader's answer as the frame's: a report, or refusal 10.
-abbrev pub yields : Reading → Answer
-yields (reading.Accepted r) = Complete r
-yields (reading.Refused n) = Refused n
+abbrev pub yields : Result Report Refusal → Answer
+yields (Ok r) = Complete r
+yields (Err e) = Refused (number_of e)
 
 -- Rule 3.6: the last packet closes the session, and its payload is read from the bytes as they then stand.
 abbrev pub finishes : List ℕ → ℕ → Taken

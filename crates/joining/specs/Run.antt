@@ -2,7 +2,7 @@
 use Rattle.std.specs.Prelude.{ℕ, suc, ◌≡◌, Bool, true, cond, not, ◌&&◌, ◌||◌, List, [], ◌∷◌, ◌++◌, length, get_or, take, drop, set, replicate, ltb, eqb}
 use Rattle.report.specs.Payload.{read_payload}
 use Rattle.report.specs.declared.Report.{Report}
-use Rattle.report.specs.declared.Reading.TheVariants.{Accepted}
+use Rattle.std.specs.Prelude.{Ok}
 use Rattle.joining.specs.declared.Session.{Session}
 use Rattle.joining.specs.declared.Answer.{Answer}
 use Rattle.joining.specs.declared.Answer.TheVariants.{Refused, Kept}
@@ -121,4 +121,4 @@ pub record Sent (own : List Frame) (last : Frame) (r : Report) : Type 0 where
   pub announces : Announces size announced
   pub sequence : InSequence 1 (middle ++ (last ∷ []))
   pub count : length (middle ++ (last ∷ [])) ≡ packets size
-  pub reads : read_payload (take size (joined (middle ++ (last ∷ [])))) ≡ Accepted r
+  pub reads : read_payload (take size (joined (middle ++ (last ∷ [])))) ≡ Ok r

@@ -11,7 +11,7 @@ ghost use Rattle.joining.specs.Inner.{session_with, beside};
 
 mod lent;
 
-use report::{Note, Payload, Reading, Report};
+use report::{Note, Payload, Report};
 
 // Whose session a frame is for, 0 to 253, or why it is for none.
 #[derive(Clone, Copy)]
@@ -110,19 +110,14 @@ pub fn frame_refusal(id: u32, data: &[u8]) -> u8
 }
 
 // Whether the identifier is of another kind than a broadcast announcement or data packet.
+#[tactic(auto, unfolding(crate::specs::Frame::foreign))]
 fn foreign(id: u32) -> bool
     ensures { result ≡ foreign id }
 {
-    if id / 16777216 % 4 != 0 {
-        return true;
-    }
     let format = id / 65536 % 256;
-    if format != Frame::ANNOUNCEMENT {
-        if format != Frame::PACKET {
-            return true;
-        }
-    }
-    id / 256 % 256 != Frame::EVERYONE
+    id / 16777216 % 4 != 0
+        || !(format == Frame::ANNOUNCEMENT || format == Frame::PACKET)
+        || id / 256 % 256 != Frame::EVERYONE
 }
 
 impl Session {
@@ -219,28 +214,23 @@ pub fn packets(size: u16) -> u16
 }
 
 // Whether a payload of ours can have this size.
+#[tactic(auto, unfolding(crate::specs::Joining::carries))]
 fn carries(size: u16) -> bool
     ensures { result ≡ carries size }
 {
     let n = size as usize;
-    if n == Payload::PLAIN {
-        return true;
-    }
-    Payload::NOTED <= n && n <= Payload::LARGEST
+    n == Payload::PLAIN || Payload::NOTED <= n && n <= Payload::LARGEST
 }
 
 // Whether an announcement's size is one that a broadcast can have, with the count that belongs to it.
+#[tactic(auto, unfolding(crate::specs::Joining::sound))]
 fn sound(data: &[u8]) -> bool
     ensures { result ≡ sound «data».now }
 {
     let size = wire::read16(data, 1);
-    if size < Session::SMALLEST {
-        return false;
-    }
-    if Session::LARGEST < size {
-        return false;
-    }
-    wire::byte(data, 3) as u16 == packets(size)
+    Session::SMALLEST <= size
+        && size <= Session::LARGEST
+        && wire::byte(data, 3) as u16 == packets(size)
 }
 
 // Why an announcement opens no session, or 0.
@@ -372,14 +362,14 @@ pub fn answered(payload: &[u8]) -> Answer
     ensures { result ≡ yields (read_payload payload.now) }
 {
     match Payload::read(payload) {
-        Reading::Accepted(report) => {
+        Ok(report) => {
             let values = report.values;
             Answer::Complete(Report {
                 values,
                 own: report.own,
             })
         }
-        Reading::Refused(number) => Answer::Refused(number),
+        Err(refusal) => Answer::Refused(refusal.number()),
     }
 }
 

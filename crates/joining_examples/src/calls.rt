@@ -105,11 +105,8 @@ fn write_in(rt: &impl Print, room: &mut [u8], line: &[u8]) {
     };
     let words: &[u8] = b"The left sieve lets more grain by than before, since the belt was";
     let note = wire::front(words, usize::from(cases::byte(line, 7)));
-    let noted = cases::byte(line, 6) == 1;
-    print::written(
-        rt,
-        Bench::send(room, cases::byte(line, 2), report, noted, note),
-    );
+    let note = (cases::byte(line, 6) == 1).then_some(note);
+    print::written(rt, Bench::send(room, cases::byte(line, 2), report, note));
     text(rt, b"\n ");
     printing::bytes(rt, room);
 }

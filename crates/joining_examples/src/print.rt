@@ -1,7 +1,8 @@
 // What is answered, on standard output.
 use joining::{Answer, Session};
 use printing::{bytes, number, refused, text};
-use report::{Report, Written};
+use refusal::Refusal;
+use report::Report;
 use values::Edition;
 
 pub fn answer(rt: &impl Print, a: Answer) {
@@ -39,10 +40,10 @@ pub fn used(s: &[u8]) -> usize {
     s.iter().rposition(|b| *b != 255).map_or(0, |last| last + 1)
 }
 
-pub fn written(rt: &impl Print, answer: Written) {
+pub fn written(rt: &impl Print, answer: Result<usize, Refusal>) {
     text(rt, b" written");
     match answer {
-        Written::Bytes(n) => number(rt, n as u64),
-        Written::Refused(n) => refused(rt, n),
+        Ok(n) => number(rt, n as u64),
+        Err(refusal) => refused(rt, refusal.number()),
     }
 }

@@ -1,2 +1,3 @@
 -- What is proved of `refusal` beside its functions.
+pub mod Numbers
 pub mod Outcomes

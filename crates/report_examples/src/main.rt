@@ -12,7 +12,7 @@
 #![tactic(auto)]
 
 use printing::{bytes, end, number, refused, text};
-use report::{Payload, Reading, Report, Written};
+use report::{Payload, Report};
 use values::{Edition, Values};
 
 fn main(rt: HostRuntime) {
@@ -33,7 +33,7 @@ fn case(rt: &impl Print, line: &[u8]) {
     text(rt, line);
     match lines::word(line, 0) {
         b"write" => write(rt, line),
-        b"huge" => written(rt, &mut space, line, true, &[0u8; 65536]),
+        b"huge" => written(rt, &mut space, line, Some(&[0u8; 65536])),
         b"read" => {
             let n = cases::bytes(line, 1, &mut space);
             read(rt, wire::front(&space, n));
@@ -53,19 +53,14 @@ fn write(rt: &impl Print, line: &[u8]) {
     let size = usize::from(cases::byte(line, 1));
     let words: &[u8] = b"The left sieve lets more grain by than before, since the belt was";
     let note = wire::front(words, usize::from(cases::byte(line, 6)));
+    let note = (cases::byte(line, 5) == 1).then_some(note);
     if size <= space.len() {
-        written(
-            rt,
-            &mut space[..size],
-            line,
-            cases::byte(line, 5) == 1,
-            note,
-        );
+        written(rt, &mut space[..size], line, note);
     }
 }
 
 // What the writer answers, and the room that it leaves.
-fn written(rt: &impl Print, room: &mut [u8], line: &[u8], noted: bool, note: &[u8]) {
+fn written(rt: &impl Print, room: &mut [u8], line: &[u8], note: Option<&[u8]>) {
     let values = Values {
         loss: cases::short(line, 2),
         shake: cases::short(line, 3),
@@ -76,9 +71,9 @@ fn written(rt: &impl Print, room: &mut [u8], line: &[u8], noted: bool, note: &[u
         own: cases::number(line, 4),
     };
     text(rt, b" written");
-    match Payload::write(room, report, noted, note) {
-        Written::Bytes(n) => number(rt, n as u64),
-        Written::Refused(n) => refused(rt, n),
+    match Payload::write(room, report, note) {
+        Ok(n) => number(rt, n as u64),
+        Err(refusal) => refused(rt, refusal.number()),
     }
     bytes(rt, room);
 }
@@ -86,8 +81,8 @@ fn written(rt: &impl Print, room: &mut [u8], line: &[u8], noted: bool, note: &[u
 // What the reader answers for the bytes, and the note in them.
 fn read(rt: &impl Print, p: &[u8]) {
     match Payload::read(p) {
-        Reading::Accepted(r) => accepted(rt, r),
-        Reading::Refused(n) => refused(rt, n),
+        Ok(r) => accepted(rt, r),
+        Err(refusal) => refused(rt, refusal.number()),
     }
     if Payload::has_note(p) {
         text(rt, b" note");
@@ -120,7 +115,7 @@ fn count(rt: &impl Print, p: &mut [u8; 96], size: usize, at: usize) {
     let mut count: u64 = 0;
     for more in 1..=u8::MAX {
         wire::put(p, at, found.wrapping_add(more));
-        if let Reading::Accepted(_) = Payload::read(wire::front(p, size)) {
+        if Payload::read(wire::front(p, size)).is_ok() {
             count = count.saturating_add(1);
         }
     }

@@ -1,7 +1,7 @@
 -- The edges of the time rules on one sender, from a fresh session and no time on: the definitions compute to what is answered.
 -- Assumes nothing.
 use mathlib.Core.Path.{◌≡◌, refl}
-use mathlib.Core.Option.{Option, none, some}
+use Rattle.std.specs.Prelude.{Option, None, Some}
 use mathlib.Core.List.{[], ◌∷◌}
 use Prim.Native.Nat.{ℕ}
 use Rattle.wire.specs.Bytes.{number}
@@ -24,19 +24,19 @@ two t = record { frame = packs (0x02 ∷ 0x00 ∷ 0xC8 ∷ 0x00 ∷ 0x03 ∷ 0x0
 
 pub record Examples : Type 0 where
   -- 750 ms are in time, 751 aren't: the session is closed, so a packet gets 8, and the time stays as it was.
-  pub in_time : station_answers fresh_station (opening (some 0) ∷ one (some 750) ∷ two (some 1500) ∷ []) ≡ Kept ∷ Kept ∷ Kept ∷ []
-  pub too_late : station_answers fresh_station (opening (some 0) ∷ one (some 751) ∷ one (some 750) ∷ []) ≡ Kept ∷ Refused 8 ∷ Refused 8 ∷ []
-  pub time_stays : (station_after_all fresh_station (opening (some 0) ∷ one (some 751) ∷ [])).last ≡ time_of 0
+  pub in_time : station_answers fresh_station (opening (Some 0) ∷ one (Some 750) ∷ two (Some 1500) ∷ []) ≡ Kept ∷ Kept ∷ Kept ∷ []
+  pub too_late : station_answers fresh_station (opening (Some 0) ∷ one (Some 751) ∷ one (Some 750) ∷ []) ≡ Kept ∷ Refused 8 ∷ Refused 8 ∷ []
+  pub time_stays : (station_after_all fresh_station (opening (Some 0) ∷ one (Some 751) ∷ [])).last ≡ time_of 0
   -- A time before the last one is refused 26 and changes nothing; the same time isn't before it.
-  pub turned_back : station_answers fresh_station (opening (some 9) ∷ one (some 8) ∷ one (some 9) ∷ []) ≡ Kept ∷ Refused 26 ∷ Kept ∷ []
+  pub turned_back : station_answers fresh_station (opening (Some 9) ∷ one (Some 8) ∷ one (Some 9) ∷ []) ≡ Kept ∷ Refused 26 ∷ Kept ∷ []
   -- A refused frame that closes, here packet 2 for packet 1, sets no time either.
-  pub refused-sets-none : (station_after_all fresh_station (opening (some 9) ∷ two (some 10) ∷ [])).last ≡ time_of 9
+  pub refused-sets-none : (station_after_all fresh_station (opening (Some 9) ∷ two (Some 10) ∷ [])).last ≡ time_of 9
   -- An announcement that comes late opens the session all the same.
-  pub late_opening : station_answers fresh_station (opening (some 0) ∷ opening (some 9000) ∷ one (some 9750) ∷ []) ≡ Kept ∷ Kept ∷ Kept ∷ []
+  pub late_opening : station_answers fresh_station (opening (Some 0) ∷ opening (Some 9000) ∷ one (Some 9750) ∷ []) ≡ Kept ∷ Kept ∷ Kept ∷ []
   -- Frames without a time neither test nor set it: behind such an announcement the last time of an earlier frame still counts.
-  pub untimed : station_answers fresh_station (opening (some 9) ∷ one none ∷ two (some 10) ∷ []) ≡ Kept ∷ Kept ∷ Kept ∷ []
-  pub earlier_counts : station_answers fresh_station (opening (some 0) ∷ opening none ∷ one (some 751) ∷ []) ≡ Kept ∷ Kept ∷ Refused 8 ∷ []
-  pub untimed-sets-none : (station_after_all fresh_station (opening none ∷ one none ∷ [])).last ≡ no_time
+  pub untimed : station_answers fresh_station (opening (Some 9) ∷ one None ∷ two (Some 10) ∷ []) ≡ Kept ∷ Kept ∷ Kept ∷ []
+  pub earlier_counts : station_answers fresh_station (opening (Some 0) ∷ opening None ∷ one (Some 751) ∷ []) ≡ Kept ∷ Kept ∷ Refused 8 ∷ []
+  pub untimed-sets-none : (station_after_all fresh_station (opening None ∷ one None ∷ [])).last ≡ no_time
 
 pub examples : Examples
 unfolding number take_frame frame_refusal malformed foreign announce announcement_refusal packet sound carries fit is_closed is_open timed_frame fit_last is_before is_late station_after_all station_answers

@@ -2,7 +2,7 @@
 -- Assumes nothing.
 use mathlib.Core.Path.{◌≡◌, refl, sym, ◌∙◌, ap}
 use mathlib.Core.Bool.{Bool, true, false, cond, not, ◌&&◌}
-use mathlib.Core.Option.{Option, none, some}
+use Rattle.std.specs.Prelude.{Option, None, Some}
 use mathlib.Core.List.{List}
 use Prim.Native.Nat.{ℕ, ◌<◌}
 use borrow.Author.Tests.{lt-ltb, ltb-true}
@@ -176,8 +176,8 @@ station_long s f long = go f.time
     met l t = either (λ (x : Session). length x.bytes ≡ 89) (is_late l t) (λ e. long) (λ e. long)
 
     go : (o : Option ℕ) → length (frame_at o s f.frame).station.session.bytes ≡ 89
-    go none = step_long s.session f.frame long
-    go (some t) =
+    go None = step_long s.session f.frame long
+    go (Some t) =
         either (λ (o : Heard). length o.station.session.bytes ≡ 89) (not (eqb (frame_refusal f.frame.identifier f.frame.data_bytes) 0)) (λ e. long)
         (λ e. either (λ (o : Heard). length o.station.session.bytes ≡ 89) (not (fit s.session && fit_last s.last)) (λ e. long)
         (λ e. either (λ (o : Heard). length o.station.session.bytes ≡ 89) (is_before s.last t) (λ e. long) (λ e. step_long (met_at s.session s.last t) f.frame (met s.last t))))
@@ -204,7 +204,7 @@ next_room room ts f long = go (ltb (sender f) 254) refl
 -- What `Bus::take` leaves is what a frame without a time leaves, and the times stay.
 pub untimed-takes : (room : List ℕ) (known : List Bool) (at : List ℕ) (f : Frame) {answer : Answer} {left : List ℕ}
     → answer ≡ answer_to (sessions_in room) f → left ≡ room_of (sessions_after (sessions_in room) f)
-    → Takes (stations_in room known at) (record { frame = f; time = none }) answer left known at
+    → Takes (stations_in room known at) (record { frame = f; time = None }) answer left known at
 untimed-takes room known at f a e =
     let b = stations_in room known at in
     let after = plain_after b f in

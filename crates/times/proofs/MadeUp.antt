@@ -3,7 +3,7 @@
 use mathlib.Core.Path.{◌≡◌, refl, sym, ◌∙◌, ap, subst}
 use mathlib.Core.Bool.{Bool, true, false, cond}
 use mathlib.Core.Logic.{◌⊎◌, inl, inr}
-use mathlib.Core.Option.{Option, none, some}
+use Rattle.std.specs.Prelude.{Option, None, Some}
 use mathlib.Core.List.{List, [], ◌∷◌, ◌++◌, append_assoc, append-nil}
 use Prim.Native.Nat.{ℕ, suc, ◌+◌, ◌≤◌, ◌<◌}
 use native.Mathlib.Omega.{arith}
@@ -50,9 +50,9 @@ spaced_more (x ∷ y ∷ us) t u h a b = (h.0, h.1, spaced_more (y ∷ us) t u h
 
 -- A kept frame more, in time.
 grown : (ts : List ℕ) (l : Last) (o : Option ℕ) → Spaced ts → Newest ts l → NearBy o l → Spaced (ts ++ time_in o) × Newest (ts ++ time_in o) (last_by o Kept l)
-grown ts l none s n near = rw append-nil (s, n)
-grown ts l (some t) s (inl e) near = rw e (tt, inr (record { before = []; newest = t; is = refl; kept = refl }))
-grown ts l (some t) s (inr e) near =
+grown ts l None s n near = rw append-nil (s, n)
+grown ts l (Some t) s (inl e) near = rw e (tt, inr (record { before = []; newest = t; is = refl; kept = refl }))
+grown ts l (Some t) s (inr e) near =
     let at = near (ap (λ (m : Last). m.known) e.kept) in
     let same = ap (λ (m : Last). m.at) e.kept in (
       rw e.is (spaced_more e.before e.newest t (rw e.is at s) (omega (arith, at.0, same)) (omega (arith, at.1, same))),
@@ -60,8 +60,8 @@ grown ts l (some t) s (inr e) near =
     )
 
 alone : (l : Last) (o : Option ℕ) → Spaced (time_in o ++ []) × Newest (time_in o ++ []) (last_by o Kept l)
-alone l none = (tt, inl refl)
-alone l (some t) = (tt, inr (record { before = []; newest = t; is = refl; kept = refl }))
+alone l None = (tt, inl refl)
+alone l (Some t) = (tt, inr (record { before = []; newest = t; is = refl; kept = refl }))
 
 times_last : (fs : List Timed) (f : Timed) → times_of (fs ++ (f ∷ [])) ≡ times_of fs ++ time_in f.time
 unfolding times_of
@@ -79,8 +79,8 @@ length-frames [] = refl
 length-frames (f ∷ fs) = ap suc (length-frames fs)
 
 refused_by : (o : Option ℕ) (n : ℕ) (l : Last) → last_by o (Refused n) l ≡ l
-refused_by none n l = refl
-refused_by (some t) n l = refl
+refused_by None n l = refl
+refused_by (Some t) n l = refl
 
 -- ---- what an open session holds
 

@@ -2,7 +2,7 @@
 -- Assumes nothing.
 use mathlib.Core.Path.{◌≡◌, refl, sym, ◌∙◌, ap, ap₂}
 use mathlib.Core.Bool.{Bool, true, false, cond}
-use mathlib.Core.Option.{none}
+use Rattle.std.specs.Prelude.{None}
 use mathlib.Core.List.{List, [], ◌∷◌}
 use Prim.Native.Nat.{ℕ, ◌<◌}
 use native.Mathlib.Omega.{arith}
@@ -113,7 +113,7 @@ module _ (k : ℕ) (known : k < 254) where
 -- A run without times is the untimed run, and no last time changes.
 module _ (b : Stations) (f : Frame) where
   abbrev plain : Timed
-  plain = record { frame = f; time = none }
+  plain = record { frame = f; time = None }
 
   pub plain_after : stations_after b plain ≡ record { sessions = sessions_after b.sessions f; times = b.times }
   plain_after = go (ltb (sender plain) 254)

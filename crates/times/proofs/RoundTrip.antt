@@ -2,7 +2,7 @@
 -- Assumes nothing.
 use mathlib.Core.Path.{◌≡◌, refl, sym, ◌∙◌, ap, subst}
 use mathlib.Core.Bool.{Bool, true, false, cond, false≢true}
-use mathlib.Core.Option.{Option, none, some}
+use Rattle.std.specs.Prelude.{Option, None, Some}
 use mathlib.Core.List.{List, [], ◌∷◌, ◌++◌}
 use Prim.Native.Nat.{ℕ, zero, suc, ◌+◌, ◌-◌, ◌≤◌}
 use native.Mathlib.Omega.{arith}
@@ -56,8 +56,8 @@ kept_time a t l h = rw h
 smooth_step : (o : Option ℕ) (s : Station) (g : Frame) (ts : List ℕ) → Fit s → is_kept (solo_step s.session g).answer ≡ true → Spaced (last_in s.last ++ (time_in o ++ ts))
     → (frame_at o s g ≡ taken_by o s.last (solo_step s.session g))
     × Spaced (last_in (last_by o (solo_step s.session g).answer s.last) ++ ts)
-smooth_step none s g ts ok k h = (refl, h)
-smooth_step (some t) s g ts ok k h =
+smooth_step None s g ts ok k h = (refl, h)
+smooth_step (Some t) s g ts ok k h =
     let n = near_first s.last t ts h in (
       in_time s ok.last t g (not_before s.last t (λ e. (n e).0)) (not_late s.last t (λ e. (n e).1)),
       rw (kept_time (solo_step s.session g).answer t s.last k) (behind_last s.last t ts h),
@@ -96,10 +96,10 @@ record TakenAs (s : Station) (fs : List Timed) : Type 0 where
 module _ (s : Station) (ok : Fit s) (g : Frame) (fs : List Timed) (takes : (x : Session) → fit x ≡ true → AllKept (solo_answers x (g ∷ frames_of fs))) where
   opened_at : (o : Option ℕ) → TimelyFrom o s.last fs → TakenAs s (record { frame = g; time = o } ∷ fs)
   unfolding station_answers station_after_all solo_answers solo_session frames_of times_of
-  opened_at none h =
-      let all = smooth s (record { frame = g; time = none } ∷ fs) ok (takes s.session ok.session) h in
+  opened_at None h =
+      let all = smooth s (record { frame = g; time = None } ∷ fs) ok (takes s.session ok.session) h in
       record { by = s.session; ready = ok.session; answers = all.0; session = all.1 }
-  opened_at (some t) h =
+  opened_at (Some t) h =
       let x = met_at s.session s.last t in
       let fits = met-fit s.session s.last t ok.session in
       let k = takes x fits in

@@ -3,7 +3,7 @@
 use mathlib.Core.Path.{◌≡◌, refl, sym, ◌∙◌, ap, subst}
 use mathlib.Core.Bool.{Bool, true, false, cond, not, ◌&&◌, false≢true}
 use mathlib.Core.Logic.{◌⊎◌, inl, inr}
-use mathlib.Core.Option.{Option, none, some}
+use Rattle.std.specs.Prelude.{Option, None, Some}
 use mathlib.Core.List.{List}
 use Prim.Native.Nat.{ℕ, ◌+◌, ◌-◌, ◌≤◌}
 use native.Mathlib.Omega.{arith}
@@ -13,7 +13,9 @@ use lib.ListN.{get_or, take}
 use Rattle.laws.proofs.Tests.{if_not, either, clash}
 use Rattle.values.specs.Range.{in_range}
 use Rattle.report.specs.Payload.{is_payload, read_payload}
-use Rattle.report.specs.declared.Reading.{Reading}
+use Rattle.std.specs.Prelude.{Result}
+use Rattle.report.specs.declared.Report.{Report}
+use Rattle.refusal.specs.declared.Refusal.{Refusal}
 use Rattle.report.proofs.Reader.{range_of}
 use Rattle.joining.specs.declared.Session.{Session}
 use Rattle.joining.specs.declared.Answer.{Answer}
@@ -80,8 +82,8 @@ unfolding timed_frame take_frame
 foreign_stays s f h = go f.time
   where
     go : (t : Option ℕ) → frame_at t s f.frame ≡ turned (frame_refusal f.frame.identifier f.frame.data_bytes) s
-    go none = rw (ne_eqb (frame_refusal f.frame.identifier f.frame.data_bytes) 0 h)
-    go (some t) = rw (ne_eqb (frame_refusal f.frame.identifier f.frame.data_bytes) 0 h)
+    go None = rw (ne_eqb (frame_refusal f.frame.identifier f.frame.data_bytes) 0 h)
+    go (Some t) = rw (ne_eqb (frame_refusal f.frame.identifier f.frame.data_bytes) 0 h)
 
 -- Where neither 26 nor a closing applies, the untimed rules settle it. (Where 1 to 3 or 24 do, they give them too.)
 pub in_time : (s : Station) → fit_last s.last ≡ true → (t : ℕ) (f : Frame) → is_before s.last t ≡ false → is_late s.last t ≡ false
@@ -185,15 +187,15 @@ not_late l t = go l.known
 
 -- What a frame with a time or without leaves where the untimed rules settle it.
 abbrev pub last_by : Option ℕ → Answer → Last → Last
-last_by none a l = l
-last_by (some t) a l = last_after a t l
+last_by None a l = l
+last_by (Some t) a l = last_after a t l
 
 abbrev pub taken_by : Option ℕ → Last → Taken → Heard
 taken_by o l u = record { answer = u.answer; station = record { session = u.session; last = last_by o u.answer l } }
 
 abbrev pub NearBy : Option ℕ → Last → Type 0
-NearBy none l = Unit
-NearBy (some t) l = Near l t
+NearBy None l = Unit
+NearBy (Some t) l = Near l t
 
 -- Refused 1 to 3 or 26, and nothing changed; in time, or without a time; too late, at a closed session.
 pub data Way (s : Station) (f : Timed) : Type 0 where
@@ -207,7 +209,7 @@ module _ (s : Station) (ok : Fit s) (g : Frame) where
 
   module _ (t : ℕ) where
     abbrev at : Timed
-    at = record { frame = g; time = some t }
+    at = record { frame = g; time = Some t }
 
     by_late : code ≡ 0 → is_before s.last t ≡ false → (b : Bool) → is_late s.last t ≡ b → Way s at
     by_late e h true l = late (settled s ok t g e h ∙ rw l)
@@ -225,16 +227,16 @@ module _ (s : Station) (ok : Fit s) (g : Frame) where
         away code (inl (omega arith, high)) (foreign_stays s at low)
 
   by_time : (o : Option ℕ) → Way s (record { frame = g; time = o })
-  by_time none = straight tt refl
-  by_time (some t) = by_frame t (eqb code 0) refl
+  by_time None = straight tt refl
+  by_time (Some t) = by_frame t (eqb code 0) refl
 
 pub ways : (s : Station) (f : Timed) → Fit s → Way s f
 ways s f ok = by_time s ok f.frame f.time
 
 -- Both stay fit, so a station that is fresh at first never answers 24: what it refuses is 1 to 10 or 26.
 pub by_fit : (o : Option ℕ) (a : Answer) (l : Last) → fit_last l ≡ true → fit_last (last_by o a l) ≡ true
-by_fit none a l h = h
-by_fit (some t) a l h = after-fit a t l h
+by_fit None a l h = h
+by_fit (Some t) a l h = after-fit a t l h
 
 pub step_stays_fit : (s : Station) (f : Timed) → Fit s → Fit (station_step s f).station
 step_stays_fit s f ok = go (ways s f ok)
@@ -269,7 +271,7 @@ solo_named s fits id d = go (eqb (frame_refusal id d) 0) refl
         either A (not (eqb (get_or d 0 0) s.next)) (λ f. inl (omega arith, omega arith))
         (λ f.
         either A (ltb s.next s.count) (λ g. tt)
-        (λ g. either (λ (r : Reading). Named (yields r)) (is_payload (take s.size (stored s d))) (λ h. range_of (take s.size (stored s d)) h) (λ h. inl (omega arith, omega arith))))))
+        (λ g. either (λ (r : Result Report Refusal). Named (yields r)) (is_payload (take s.size (stored s d))) (λ h. range_of (take s.size (stored s d)) h) (λ h. inl (omega arith, omega arith))))))
 
     go : (t : Bool) → eqb (frame_refusal id d) 0 ≡ t → A (cond (not t) (refused (frame_refusal id d) s) (cond (not (fit s)) (refused 24 s) (cond (is_announcement id) (announce s d) (packet s d))))
     go false e =

@@ -1,9 +1,8 @@
 -- What a run of frames, each with a time or without, does to all sessions and last times (docs/RULES.md, section 15).
 use Rattle.std.specs.Prelude.{ℕ, ◌+◌, ◌≤◌, ◌≡◌, Bool, true, false, cond, ◌||◌, List, [], ◌∷◌, ◌++◌, length, take, set, leb, ltb, eqb}
-use Rattle.std.proofs.Math.Option.{Option, none, some}
+use Rattle.std.specs.Prelude.{Option, None, Some, Ok}
 use Rattle.report.specs.Payload.{read_payload}
 use Rattle.report.specs.declared.Report.{Report}
-use Rattle.report.specs.declared.Reading.TheVariants.{Accepted}
 use Rattle.joining.specs.declared.Session.{Session}
 use Rattle.joining.specs.declared.Answer.{Answer}
 use Rattle.joining.specs.declared.Answer.TheVariants.{Refused, Kept, Complete}
@@ -28,8 +27,8 @@ sender f = sender_of f.frame.identifier
 
 -- A frame of a station's own sender, taken by it.
 abbrev pub frame_at : Option ℕ → Station → Frame → Heard
-frame_at none s f = untimed_frame s f.identifier f.data_bytes
-frame_at (some t) s f = timed_frame s t f.identifier f.data_bytes
+frame_at None s f = untimed_frame s f.identifier f.data_bytes
+frame_at (Some t) s f = timed_frame s t f.identifier f.data_bytes
 
 abbrev pub station_step : Station → Timed → Heard
 station_step s f = frame_at f.time s f.frame
@@ -74,10 +73,10 @@ abbrev pub stations_in : List ℕ → List Bool → List ℕ → Stations
 stations_in room known at = record { sessions = sessions_in room; times = record { known = known; at = at } }
 
 abbrev pub timed_at : ℕ → ℕ → List ℕ → Timed
-timed_at t id d = record { frame = record { identifier = id; data_bytes = d }; time = some t }
+timed_at t id d = record { frame = record { identifier = id; data_bytes = d }; time = Some t }
 
 abbrev pub untimed_at : ℕ → List ℕ → Timed
-untimed_at id d = record { frame = record { identifier = id; data_bytes = d }; time = none }
+untimed_at id d = record { frame = record { identifier = id; data_bytes = d }; time = None }
 
 -- A frame is taken where the sessions and times stand that a caller lends: its answer, and what is left there.
 pub record Takes (b : Stations) (f : Timed) (answer : Answer) (room : List ℕ) (known : List Bool) (at : List ℕ) : Type 0 where
@@ -113,7 +112,7 @@ frames_of (f ∷ fs) = f.frame ∷ frames_of fs
 
 unfoldable pub untimed : List Frame → List Timed
 untimed [] = []
-untimed (f ∷ fs) = record { frame = f; time = none } ∷ untimed fs
+untimed (f ∷ fs) = record { frame = f; time = None } ∷ untimed fs
 
 -- The frames that name k as their sender, in their order.
 unfoldable pub own_timed : ℕ → List Timed → List Timed
@@ -134,8 +133,8 @@ heard_at s (f ∷ fs) =
 
 -- The times of frames, in their order; those without one left out.
 abbrev pub time_in : Option ℕ → List ℕ
-time_in none = []
-time_in (some t) = t ∷ []
+time_in None = []
+time_in (Some t) = t ∷ []
 
 unfoldable pub times_of : List Timed → List ℕ
 times_of [] = []
@@ -159,7 +158,7 @@ pub record SentTimed (own : List Timed) (last : Timed) (r : Report) : Type 0 whe
   pub announces : Announces size announced.frame
   pub sequence : InSequence 1 (frames_of (middle ++ (last ∷ [])))
   pub count : length (middle ++ (last ∷ [])) ≡ packets size
-  pub reads : read_payload (take size (joined (frames_of (middle ++ (last ∷ []))))) ≡ Accepted r
+  pub reads : read_payload (take size (joined (frames_of (middle ++ (last ∷ []))))) ≡ Ok r
   pub spaced : Spaced (times_of (announced ∷ (middle ++ (last ∷ []))))
 
 -- Frames of one and the same sender.
@@ -174,8 +173,8 @@ last_in l = cond l.known (l.at ∷ []) []
 -- A report's frames that come in time: an announcement with a time isn't before the last time, if there is one, and the times from then on are spaced; behind an
 -- announcement without a time the last time counts too, since nothing has set it anew.
 abbrev pub TimelyFrom : Option ℕ → Last → List Timed → Type 0
-TimelyFrom none l fs = Spaced (last_in l ++ times_of fs)
-TimelyFrom (some t) l fs = (l.known ≡ true → l.at ≤ t) × Spaced (t ∷ times_of fs)
+TimelyFrom None l fs = Spaced (last_in l ++ times_of fs)
+TimelyFrom (Some t) l fs = (l.known ≡ true → l.at ≤ t) × Spaced (t ∷ times_of fs)
 
 abbrev pub Timely : Last → List Timed → Type 0
 Timely l [] = Unit

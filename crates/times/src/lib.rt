@@ -14,6 +14,7 @@ use bus::Bus;
 use joining::{Answer, Session};
 
 // A sender's last kept time, in milliseconds: whether there is one, and which, 0 where there is none.
+// Stays: an Option lacks the state that is unfit, no time and yet not 0, which `came_at` (specs/Inner.antt) refuses with 24.
 #[derive(Clone, Copy)]
 pub struct Last {
     pub known: bool,

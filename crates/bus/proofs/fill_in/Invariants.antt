@@ -1,5 +1,5 @@
 use mathlib.Core.Path.{◌≡◌}
-use Prim.Native.Nat.{◌≤◌, ◌-◌, ◌*◌}
+use Prim.Native.Nat.{◌*◌}
 use lib.ListN.{length, take}
 use lib.Seq.{sets}
 use Rattle.bus.specs.Room.{room_of}
@@ -7,7 +7,4 @@ use Rattle.bus.proofs.Places.{Sized}
 use Rattle.bus.proofs.fill_in.Given as goal
 
 abbrev pub invariant-loop-k : goal.invariant-loop-k
-invariant-loop-k l = (l.k ≤ 254) × (length (room_of (take l.k l.sessions)) ≡ 92 * l.k) × (l.room ≡ sets l.initial.room 0 (room_of (take l.k l.sessions))) × Sized (take l.k l.sessions)
-
-abbrev pub decreases-loop-k : goal.decreases-loop-k
-decreases-loop-k l = 254 - l.k
+invariant-loop-k l = (length (room_of (take l.k l.session-items)) ≡ 92 * l.k) × (l.room ≡ sets l.initial.room 0 (room_of (take l.k l.session-items))) × Sized (take l.k l.session-items)
