@@ -1,5 +1,5 @@
 -- The numbers of the refusals (docs/RULES.md, sections 9 and 13 to 19).
-use Rattle.std.specs.Prelude.{ℕ}
+use Rattle.std.specs.Prelude.{ℕ, Result, Ok, Err}
 use Rattle.refusal.specs.declared.Refusal.{Refusal}
 use Rattle.refusal.specs.declared.Refusal.TheVariants.{MalformedFrame, ForeignFrame, NoSuchSender, NotAnAnnouncement, BadSize, OtherGroup, OtherSize, NotOpen, OutOfSequence, NotAPayload, WindowFull, ValueOutOfRange, NoSuchSlot, LinesOutOfRange, WeightOutOfRange, SlotInUse, SlotEmpty, WindowOutOfRange, NoteTooLong, NoRoom, LogCut, UnknownItem, ItemOutOfPlace, Unfit, SearchFinished, BeforeLastTime, RangeNotProper, TieRuleUnknown}
 
@@ -33,3 +33,8 @@ number_of SearchFinished = 25
 number_of BeforeLastTime = 26
 number_of RangeNotProper = 30
 number_of TieRuleUnknown = 33
+
+-- The number of an answer: its refusal's, or 0 where nothing was refused.
+abbrev pub number_in : {A : Type 0} → Result A Refusal → ℕ
+number_in (Ok a) = 0
+number_in (Err e) = number_of e

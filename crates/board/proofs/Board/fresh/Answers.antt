@@ -6,4 +6,4 @@ use Rattle.board.proofs.Board.fresh.Goals as goal
 
 pub returns : goal.returns
 unfolding fresh_board
-returns c = λ i. record { refusal = (c.fresh-made.ensures i).refusal; board = record { window = (c.fresh-made.ensures i).window; slots = replicate 32 (c.fresh-slot.ensures i) } }
+returns c = λ i. record { refusal = (c.fresh-made.ensures i).refusal; board = record { window = (c.fresh-made.ensures i).window; slots = replicate 32 (c.fresh.ensures i) } }
