@@ -1,42 +1,20 @@
--- A walk over the slots, one after the other: what is left to test decides the whole.
--- Assumes nothing.
-use mathlib.Core.Path.{◌≡◌, sym, ap, ◌∙◌}
-use mathlib.Core.Bool.{true, false, ◌&&◌}
-use mathlib.Core.List.{List}
-use Prim.Native.Nat.{ℕ, ◌+◌, ◌≤◌, ◌<◌}
-use native.Mathlib.Numerals.{add-one}
-use native.Mathlib.Omega.{arith}
-use lib.ListN.{length, drop, get_or, drop_of_length-le}
-use lib.Seq.{drop-cons}
-use Rattle.window.specs.declared.Window.{Window}
-use Rattle.question.specs.declared.Question.{Question}
+-- What a walk over the slots tells of all of them: each passed, or one failed.
+use Rattle.std.proofs.Common.{◌≡◌, ℕ, ◌<◌, sym, Bool, true, false, List, length, get_or, arith}
+use Rattle.std.specs.Bool.{MatchBool}
+use Rattle.std.specs.List.{AllWithin, HoldsAt}
+use Rattle.laws.proofs.Tests.{Tested, passed, failed, tested, clash}
+use Rattle.laws.proofs.Lists.{index_of, get_d_in}
 use Rattle.list.specs.Lines.{all_of}
-use Rattle.slot.specs.Fitness.{slot_fit}
-use Rattle.slot.specs.Gauges.{no_question}
+use Rattle.list.proofs.Blank.{all_in, all-is}
 
--- The walk has come to the slot i.
-pub record Walk (w : Window) (whole : List Question) (i : ℕ) : Type 0 where
-  pub up_to : i ≤ 32
-  pub many : length whole ≡ 32
-  pub decides : all_of (slot_fit w) (drop i whole) ≡ all_of (slot_fit w) whole
-
-module _ (w : Window) (l : List Question) (i : ℕ) (walk : Walk w l i) where
-  pub walk_ends : 32 ≤ i → true ≡ all_of (slot_fit w) l
-  walk_ends h = sym (ap (all_of (slot_fit w)) (drop_of_length-le l {i = i} (omega (arith, walk.many)))) ∙ walk.decides
-
-  module _ (below : i < 32) where
-    next : all_of (slot_fit w) (drop i l) ≡ slot_fit w (get_or l i no_question) && all_of (slot_fit w) (drop (i + 1) l)
-    next =
-        ap (all_of (slot_fit w)) (drop-cons l i no_question (omega (arith, walk.many)))
-        ∙ ap (λ n. slot_fit w (get_or l i no_question) && all_of (slot_fit w) (drop n l)) (sym (add-one i))
-
-    pub walk_fails : slot_fit w (get_or l i no_question) ≡ false → false ≡ all_of (slot_fit w) l
-    walk_fails e = sym (next ∙ ap (λ b. b && all_of (slot_fit w) (drop (i + 1) l)) e) ∙ walk.decides
-
-    pub walk_on : slot_fit w (get_or l i no_question) ≡ true → Walk w l (i + 1)
-    walk_on e =
-        record {
-          up_to = omega arith;
-          many = walk.many;
-          decides = sym (next ∙ ap (λ b. b && all_of (slot_fit w) (drop (i + 1) l)) e) ∙ walk.decides;
-        }
+module _ {A : Type 0} (d : A) (p : A → Bool) (l : List A) where
+  pub all_told : (r : Bool) → MatchBool r (AllWithin (λ (x : A). p x ≡ true) l 0 (length l)) ((k : ℕ) × (k < length l) × HoldsAt (λ (x : A). p x ≡ false) l k) → r ≡ all_of p l
+  all_told true each = sym (all-is p l (λ x m. let at = index_of d l m in subst_at x at.0 at.2 (each at.0 d (omega arith) at.1)))
+    where
+      subst_at : (x : A) (n : ℕ) → get_or l n d ≡ x → p (get_or l n d) ≡ true → p x ≡ true
+      subst_at x n e h = rw (← e) h
+  all_told false (k, h, no-pass) = go (tested (all_of p l))
+    where
+      go : Tested (all_of p l) → false ≡ all_of p l
+      go (passed t) = clash (all_in p l t (get_or l k d) (get_d_in d l k h)) (no-pass d)
+      go (failed t) = sym t

@@ -20,7 +20,13 @@ use Rattle.board.specs.declared.NewBoard.{NewBoard}
 use Rattle.board.specs.declared.Placed.{Placed}
 use Rattle.board.specs.declared.Removed.{Removed}
 use Rattle.board.specs.declared.Entered.{Entered}
-use Rattle.board.specs.declared.Arrival.{Arrival}
+
+-- What a report's entry comes to in numbers: the refusal's, and where it is 0, for none, the others; 0 for no report that leaves.
+pub record Arrival : Type 0 where
+  pub refusal : ℕ
+  pub number : ℕ
+  pub name : ℕ
+  pub oldest : ℕ
 
 -- Rule 6.1: what a slot holds.
 abbrev pub slot_at : Board → ℕ → Question

@@ -8,9 +8,12 @@ ghost use Rattle.slot.specs.Fitness.{slot_fit};
 ghost use Rattle.slot.specs.Gauges.{slot_count};
 ghost use Rattle.board.specs.Work.{fresh_board, with_slot, set_work, remove_work, read_work, leaving, arrival, not_entered, enter_refusal, enter_work};
 ghost use Rattle.board.specs.Calls.{fit_board, set_call, remove_call, read_call, enter_call};
+ghost use Rattle.board.specs.Answers.{arrival_answer};
+ghost use Rattle.refusal.specs.Answers.{answered};
 
 use question::Question;
 use ranking::Rule;
+use refusal::Refusal;
 use slot::{Gauge, Shown};
 use values::{Name, Values};
 use window::{Counts, Row, Window};
@@ -53,22 +56,16 @@ pub struct Entered {
     pub board: Board,
 }
 
-// What a report's entry comes to: the refusal's number, or 0; then its number and its name, and the number of the report that
-// leaves, 0 for none.
+// What a report's entry comes to: its number and its name, and the number of the report that leaves, if one does.
 #[derive(Clone, Copy)]
 pub struct Arrival {
-    pub refusal: u8,
     pub number: u32,
     pub name: u32,
-    pub oldest: u32,
+    pub oldest: Option<u32>,
 }
 
 impl Board {
     pub const SLOTS: u8 = 32;
-
-    pub const FULL: u8 = 11;
-
-    pub const VALUE_OVER_RANGE: u8 = 12;
 
     pub const NO_SLOT: u8 = 13;
 
@@ -96,14 +93,11 @@ impl Board {
 
     // Every stored number is in its range, the held numbers are the latest without a gap, and each slot is empty or holds a
     // fit question whose search has ended.
+    #[tactic(auto, unfolding(crate::specs::Calls::fit_board))]
     pub fn fit(self) -> bool
         ensures { result ≡ fit_board self }
     {
-        let window = self.window;
-        if window.fit() {
-            return self.slots_fit();
-        }
-        false
+        self.window.fit() && self.slots_fit()
     }
 
     // Sets a question in an empty slot and searches it: the board with it, and the steps. Refused 24, 13, 14, 15, 30,
@@ -214,12 +208,10 @@ impl Board {
     pub fn enter_work(self, values: Values) -> Entered
         ensures { result ≡ enter_work self values }
     {
-        let window = self.window;
-        let refusal = enter_refusal(window.counts, values);
-        if refusal != 0 {
-            return self.not_entered(refusal);
+        match enter_refusal(self.window.counts, values) {
+            Ok(()) => self.entering(values),
+            Err(refusal) => self.not_entered(refusal.number()),
         }
-        self.entering(values)
     }
 
     // A report that is not refused enters.
@@ -227,50 +219,41 @@ impl Board {
         requires { enter_refusal self.window.counts values ≡ 0 }
         ensures { result ≡ enter_work self values }
     {
-        let old = self.slots;
-        let before = self.window;
-        let counts = before.counts;
+        let counts = self.window.counts;
         let number = counts.entered + 1;
-        let edition = values.edition;
         let row = Row {
             loss: values.loss,
             shake: values.shake,
-            name: Name::of(number, edition),
+            name: Name::of(number, values.edition),
         };
         let gone = leaving(counts);
-        let window = before.added(values);
+        let window = self.window.added(values);
         let mut slots = self.slots;
         let mut searched = [false; Gauge::SLOTS];
         let mut steps = [0u16; Gauge::SLOTS];
-        let mut i: usize = 0;
-        while i < Gauge::SLOTS {
-            let turned = slot::turn(old[i], row, gone, &window.rows, Window::ROWS);
-            let left = turned.question;
-            slots[i] = left;
+        for (i, question) in self.slots.iter().enumerate() {
+            let turned = slot::turn(*question, row, gone, &window.rows, Window::ROWS);
+            slots[i] = turned.question;
             searched[i] = turned.searched;
             steps[i] = turned.steps;
-            i += 1;
         }
-        let board = Board { window, slots };
         Entered {
             refusal: 0,
             number,
             searched,
             steps,
-            board,
+            board: Board { window, slots },
         }
     }
 
     fn not_entered(self, refusal: u8) -> Entered
         ensures { result ≡ not_entered self refusal }
     {
-        let searched = [false; Gauge::SLOTS];
-        let steps = [0u16; Gauge::SLOTS];
         Entered {
             refusal,
             number: 0,
-            searched,
-            steps,
+            searched: [false; Gauge::SLOTS],
+            steps: [0; Gauge::SLOTS],
             board: self,
         }
     }
@@ -279,16 +262,9 @@ impl Board {
     pub fn slots_fit(self) -> bool
         ensures { result ≡ all_of (slot_fit self.window) self.slots }
     {
-        let window = self.window;
-        let slots = self.slots;
-        let mut i: usize = 0;
-        while i < Gauge::SLOTS {
-            if !slot::fit(slots[i], window) {
-                return false;
-            }
-            i += 1;
-        }
-        true
+        self.slots
+            .iter()
+            .all(|question| slot::fit(*question, self.window))
     }
 
     // The board with that question in that slot.
@@ -304,21 +280,22 @@ impl Board {
     }
 }
 
-// Why a report is not entered; 0 for no reason.
-fn enter_refusal(counts: Counts, values: Values) -> u8
-    ensures { result ≡ enter_refusal counts values }
+// Why a report is not entered.
+fn enter_refusal(counts: Counts, values: Values) -> Result<(), Refusal>
+    ensures { result ≡ answered (enter_refusal counts values) tt }
 {
     if !values.in_range() {
-        return Board::VALUE_OVER_RANGE;
+        return Err(Refusal::ValueOutOfRange);
     }
     if counts.entered < Window::REPORTS {
-        0
+        Ok(())
     } else {
-        Board::FULL
+        Err(Refusal::WindowFull)
     }
 }
 
 // The number of the report that leaves when one enters; 0 for none.
+#[tactic(auto, unfolding(crate::specs::Work::leaving))]
 fn leaving(counts: Counts) -> u32
     requires { counts.entered < report_limit }
     ensures { result ≡ leaving counts }
@@ -326,35 +303,21 @@ fn leaving(counts: Counts) -> u32
     if counts.held < counts.size {
         return 0;
     }
-    let entered = counts.entered;
-    let n = counts.size as u32;
-    if entered < n {
-        return 0;
-    }
-    entered - n + 1
+    (counts.entered + 1).saturating_sub(u32::from(counts.size))
 }
 
 impl Arrival {
-    // What a report's entry into a window of these counts comes to.
-    pub fn of(counts: Counts, values: Values) -> Arrival
-        ensures { result ≡ arrival counts values }
+    // What a report's entry into a window of these counts comes to. Refused 12, 11.
+    pub fn of(counts: Counts, values: Values) -> Result<Arrival, Refusal>
+        ensures { result ≡ arrival_answer (arrival counts values) }
     {
-        let refusal = enter_refusal(counts, values);
-        if refusal != 0 {
-            return Arrival {
-                refusal,
-                number: 0,
-                name: 0,
-                oldest: 0,
-            };
-        }
+        enter_refusal(counts, values)?;
         let number = counts.entered + 1;
-        let edition = values.edition;
-        Arrival {
-            refusal: 0,
+        let oldest = leaving(counts);
+        Ok(Arrival {
             number,
-            name: Name::of(number, edition),
-            oldest: leaving(counts),
-        }
+            name: Name::of(number, values.edition),
+            oldest: if oldest == 0 { None } else { Some(oldest) },
+        })
     }
 }

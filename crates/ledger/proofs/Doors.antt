@@ -4,7 +4,7 @@ use mathlib.Core.Path.{◌≡◌, sym, ap, ◌∙◌}
 use mathlib.Core.Bool.{Bool, true, false, ◌&&◌}
 use Prim.Native.Nat.{ℕ}
 use native.Mathlib.Omega.{arith}
-use borrow.Author.Tests.{eqb-false}
+use borrow.Author.Tests.{eqb-true, eq-eqb}
 use lib.Dec.{eqb}
 use Rattle.laws.proofs.Tests.{Tested, passed, failed, tested, and_true, and_stops, and_no, if_so, if_not}
 use Rattle.values.specs.declared.Values.{Values}
@@ -13,10 +13,15 @@ use Rattle.board.specs.Calls.{fit_board}
 use Rattle.list.specs.Lines.{all_of}
 use Rattle.slot.specs.Fitness.{slot_fit}
 use Rattle.window.specs.Rows.{fit_window}
-use Rattle.senders.specs.declared.Noted.{Noted}
+use Rattle.std.specs.Prelude.{Result, Ok, Err}
+use Rattle.refusal.specs.declared.Refusal.{Refusal}
+use Rattle.refusal.specs.declared.Refusal.TheVariants.{Unfit}
+use Rattle.refusal.specs.Numbers.{number_of}
+use Rattle.refusal.proofs.Answers.{taken_number, taken_is, refused_number, refused_is}
+use Rattle.senders.specs.declared.Senders.{Senders}
 use Rattle.senders.specs.Rows.{fit_senders}
 use Rattle.senders.specs.Calls.{sent_refusal, enter_sent}
-use Rattle.senders.proofs.Entering.{fit_parts}
+use Rattle.senders.proofs.Entering.{fit_parts, sent-number}
 use Rattle.ledger.specs.declared.Ledger.{Ledger}
 use Rattle.ledger.specs.Calls.{fit_ledger, not_entered, entered_with, enter_call}
 
@@ -65,29 +70,36 @@ module _ (g : Ledger) (sender : ℕ) (v : Values) where
   enter_unfit no-fit = if_not _ _ (slots_not g no-fit)
 
   module _ (fit : slots_fit g ≡ true) where
-    abbrev noted : Noted
+    abbrev noted : Result Senders Refusal
     noted = enter_sent g.board.window g.senders sender v
+
+    abbrev refusal : ℕ
+    refusal = sent_refusal g.board.window.counts sender v
 
     same-fit : fit_ledger g ≡ senders-fit g
     same-fit = slots_then g fit
 
-    pub enter-refused : (noted.refusal ≡ 0 → ⊥) → enter_call g sender v ≡ not_entered g noted.refusal
+    pub enter-refused : {e : Refusal} → Err e ≡ noted → enter_call g sender v ≡ not_entered g (number_of e)
     unfolding enter_call enter_sent
-    enter-refused refused = go (tested (fit_senders g.board.window g.senders)) (tested (eqb (sent_refusal g.board.window.counts sender v) 0))
+    enter-refused {e} h = go (tested (fit_senders g.board.window g.senders)) (tested (eqb refusal 0))
       where
-        go : Tested (fit_senders g.board.window g.senders) → Tested (eqb (sent_refusal g.board.window.counts sender v) 0) → enter_call g sender v ≡ not_entered g noted.refusal
-        go (failed t) u = if_not _ _ (same-fit ∙ t) ∙ ap (not_entered g) (sym (ap (λ (n : Noted). n.refusal) (if_not _ _ t)))
-        go (passed t) (passed u) = absurd (refused (ap (λ (n : Noted). n.refusal) (if_so _ _ t ∙ if_so _ _ u)))
-        go (passed t) (failed u) = if_so _ _ (same-fit ∙ t) ∙ if_not _ _ u ∙ ap (not_entered g) (sym (ap (λ (n : Noted). n.refusal) (if_so _ _ t ∙ if_not _ _ u)))
+        go : Tested (fit_senders g.board.window g.senders) → Tested (eqb refusal 0) → enter_call g sender v ≡ not_entered g (number_of e)
+        go (failed t) u =
+            let told = h ∙ if_not _ _ t in
+            let unfit : e ≡ Unfit = cc in
+            if_not _ _ (same-fit ∙ t) ∙ ap (not_entered g) (sym (ap number_of unfit))
+        go (passed t) (passed u) = absurd (refused_number refusal _ (h ∙ if_so _ _ t) (eqb-true refusal 0 u))
+        go (passed t) (failed u) =
+            let told = h ∙ if_so _ _ t in
+            let number = ap number_of (refused_is refusal _ told) ∙ sent-number g.board.window.counts sender v (refused_number refusal _ told) in
+            if_so _ _ (same-fit ∙ t) ∙ if_not _ _ u ∙ ap (not_entered g) (sym number)
 
-    pub enter-taken : noted.refusal ≡ 0 → enter_call g sender v ≡ entered_with (enter_work g.board v) noted.senders
+    pub enter-taken : {s : Senders} → Ok s ≡ noted → enter_call g sender v ≡ entered_with (enter_work g.board v) s
     unfolding enter_call enter_sent
-    enter-taken taken = go (tested (fit_senders g.board.window g.senders)) (tested (eqb (sent_refusal g.board.window.counts sender v) 0))
+    enter-taken {s} h = go (tested (fit_senders g.board.window g.senders))
       where
-        not_24 : ◌≡◌ {A = ℕ} 24 0 → ⊥
-        not_24 e = omega arith
-
-        go : Tested (fit_senders g.board.window g.senders) → Tested (eqb (sent_refusal g.board.window.counts sender v) 0) → enter_call g sender v ≡ entered_with (enter_work g.board v) noted.senders
-        go (failed t) u = absurd (not_24 (sym (ap (λ (n : Noted). n.refusal) (if_not _ _ t)) ∙ taken))
-        go (passed t) (passed u) = if_so _ _ (same-fit ∙ t) ∙ if_so _ _ u ∙ ap (entered_with (enter_work g.board v)) (sym (ap (λ (n : Noted). n.senders) (if_so _ _ t ∙ if_so _ _ u)))
-        go (passed t) (failed u) = absurd (eqb-false (sent_refusal g.board.window.counts sender v) 0 u (sym (ap (λ (n : Noted). n.refusal) (if_so _ _ t ∙ if_not _ _ u)) ∙ taken))
+        go : Tested (fit_senders g.board.window g.senders) → enter_call g sender v ≡ entered_with (enter_work g.board v) s
+        go (failed t) = let told = h ∙ if_not _ _ t in cc
+        go (passed t) =
+            let told = h ∙ if_so _ _ t in
+            if_so _ _ (same-fit ∙ t) ∙ if_so _ _ (eq-eqb refusal 0 (taken_number refusal _ told)) ∙ ap (entered_with (enter_work g.board v)) (sym (taken_is refusal _ told))

@@ -38,7 +38,8 @@ use Rattle.board.specs.Reached as board
 use Rattle.tally.specs.declared.FromSender.{FromSender}
 use Rattle.tally.specs.declared.Tally.{Tally}
 use Rattle.tally.specs.Pass.{tally_from}
-use Rattle.senders.specs.declared.Traced.TheVariants as answer
+use Rattle.std.specs.Prelude.{Option, Some, None, Result, Ok}
+use Rattle.refusal.specs.declared.Refusal.{Refusal}
 use Rattle.senders.specs.Rows.{sent_as, held_sent, no_tally, fit_senders}
 use Rattle.senders.specs.Calls.{sent_refusal, entered, told, traced}
 use Rattle.senders.proofs.Runs.{sent_at}
@@ -52,6 +53,13 @@ use Rattle.ledger.specs.declared.Entered.{Entered}
 use Rattle.ledger.specs.Calls.{fit_ledger, with_board, set_call, remove_call, read_call, not_entered, enter_call, tally_call, report_call}
 use Rattle.ledger.specs.Reached.{values_of, Reached}
 use Rattle.ledger.proofs.Kept.{kept_fit, kept_ledger, set_window, remove_window, window_after_lem}
+
+-- A held report is answered, or that none is.
+abbrev pub found : FromSender → Result (Option FromSender) Refusal
+found x = Ok (Some x)
+
+abbrev pub not_held : Result (Option FromSender) Refusal
+not_held = Ok None
 
 -- ---- reached ledgers
 
@@ -142,19 +150,19 @@ module _ (g : Ledger) (fit : fit_ledger g ≡ true) where
   ranges = (fit_facts g.board.window facts.window).ranges
 
   -- The call answers the held report of that number with the sender that its row keeps,
-  pub report_held : (m : ℕ) → report_of g.board.window m ∈ held_reports g.board.window → report_call g m ≡ answer.Found (sent_as g.board.window g.senders.rows (report_of g.board.window m))
+  pub report_held : (m : ℕ) → report_of g.board.window m ∈ held_reports g.board.window → report_call g m ≡ found (sent_as g.board.window g.senders.rows (report_of g.board.window m))
   unfolding report_call traced
   report_held m k =
       let here = held_latest g.board.window ranges (report_of g.board.window m) k in
       if_so _ _ fit
-      ∙ if_so _ _ (holds-is (record { positive = ranges.ring.positive; within = ranges.within; first = omega (arith, here, ranges.ring.were_entered); was_entered = here.1; late = here.0 }))
+      ∙ ap (λ (o : Option FromSender). Ok o) (if_so _ _ (holds-is (record { positive = ranges.ring.positive; within = ranges.within; first = omega (arith, here, ranges.ring.were_entered); was_entered = here.1; late = here.0 })))
 
   -- and that none is held, where no held report has that number.
-  pub report_not_held : (m : ℕ) → ((r : Held) → r ∈ held_reports g.board.window → r.number ≡ m → ⊥) → report_call g m ≡ answer.NotHeld
+  pub report_not_held : (m : ℕ) → ((r : Held) → r ∈ held_reports g.board.window → r.number ≡ m → ⊥) → report_call g m ≡ not_held
   unfolding report_call traced
-  report_not_held m none = if_so _ _ fit ∙ go (tested (holds_number g.board.window.counts m))
+  report_not_held m none = if_so _ _ fit ∙ ap (λ (o : Option FromSender). Ok o) (go (tested (holds_number g.board.window.counts m)))
     where
-      go : Tested (holds_number g.board.window.counts m) → traced g.board.window g.senders m ≡ answer.NotHeld
+      go : Tested (holds_number g.board.window.counts m) → traced g.board.window g.senders m ≡ None
       go (failed t) = if_not _ _ t
       go (passed t) =
           let h = holds g.board.window.counts m t in
@@ -164,18 +172,18 @@ module _ (g : Ledger) (fit : fit_ledger g ≡ true) where
 
 -- The number of a list's line is answered with the report that entered so and its sender, and the line is that report's.
 pub record TracedTo (past : List FromSender) (d : FromSender) (g : Ledger) (rule : Rule) (e : Entry) : Type 0 where
-  pub answered : report_call g (e.name / 4097) ≡ answer.Found (get_or past (e.name / 4097 - 1) d)
+  pub answered : report_call g (e.name / 4097) ≡ found (get_or past (e.name / 4097 - 1) d)
   pub its_line : entry rule (record { number = e.name / 4097; values = (get_or past (e.name / 4097 - 1) d).values }) ≡ e
 
 -- On a reached ledger that is fit:
 module _ {n : ℕ} {past : List FromSender} {g : Ledger} (reached : Reached n past g) (fit : fit_ledger g ≡ true) where
   -- a sender's tally is answered as a fresh pass over the last of those entered gives it,
-  pub tally_answered : (sender : ℕ) → sender < 254 → tally_call g sender ≡ record { refusal = 0; tally = tally_from (latest n past) sender }
+  pub tally_answered : (sender : ℕ) → sender < 254 → tally_call g sender ≡ Ok (tally_from (latest n past) sender)
   unfolding tally_call told
   tally_answered sender there_is =
       if_so _ _ fit
       ∙ if_so _ _ (lt-ltb sender 254 there_is)
-      ∙ ap (λ (t : Tally). record { refusal = 0; tally = t }) (reached_tallies reached sender there_is ∙ ap (λ (l : List FromSender). tally_from l sender) (reached_sent reached))
+      ∙ ap (λ (t : Tally). Ok t) (reached_tallies reached sender there_is ∙ ap (λ (l : List FromSender). tally_from l sender) (reached_sent reached))
 
   ranges_here : Ranges g.board.window.counts
   ranges_here = ranges g fit
@@ -197,8 +205,8 @@ module _ {n : ℕ} {past : List FromSender} {g : Ledger} (reached : Reached n pa
       ∙ ap (λ j. get_or past j d) at
 
   -- a held number m with the report that entered as the m-th, and its sender,
-  pub report-entered : (m : ℕ) (d : FromSender) → g.board.window.counts.entered < m + g.board.window.counts.held → m ≤ g.board.window.counts.entered → report_call g m ≡ answer.Found (get_or past (m - 1) d)
-  report-entered m d late entered_by = report_held g fit m (held_in_lem g.board.window ranges_here m late entered_by) ∙ ap answer.Found (as_entered m d late entered_by)
+  pub report-entered : (m : ℕ) (d : FromSender) → g.board.window.counts.entered < m + g.board.window.counts.held → m ≤ g.board.window.counts.entered → report_call g m ≡ found (get_or past (m - 1) d)
+  report-entered m d late entered_by = report_held g fit m (held_in_lem g.board.window ranges_here m late entered_by) ∙ ap found (as_entered m d late entered_by)
 
   -- and so the number of every line that a list has.
   pub listed-traced : (rule : Rule) (k : ℕ) {e : Entry} → e ∈ top rule k (held_reports g.board.window) → (d : FromSender) → TracedTo past d g rule e
@@ -207,7 +215,7 @@ module _ {n : ℕ} {past : List FromSender} {g : Ledger} (reached : Reached n pa
       let here = held_of g.board.window ranges_here line.held in
       let number : e.name / 4097 ≡ here.0 = line.number ∙ ap (λ (r : Held). r.number) here.3 in
       record {
-        answered = ap (report_call g) number ∙ report-entered here.0 d here.1 here.2 ∙ ap (λ m. answer.Found (get_or past (m - 1) d)) (sym number);
+        answered = ap (report_call g) number ∙ report-entered here.0 d here.1 here.2 ∙ ap (λ m. found (get_or past (m - 1) d)) (sym number);
         its_line =
             ap (λ m. entry rule (record { number = m; values = (get_or past (m - 1) d).values })) number
             ∙ ap (λ (x : FromSender). entry rule (record { number = here.0; values = x.values })) (sym (as_entered here.0 d here.1 here.2))

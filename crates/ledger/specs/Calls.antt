@@ -1,5 +1,5 @@
 -- Which ledgers are fit, and what each call answers (docs/RULES.md, sections 9 and 19).
-use Rattle.std.specs.Prelude.{ℕ, Bool, false, cond, ◌&&◌, replicate, eqb}
+use Rattle.std.specs.Prelude.{ℕ, Bool, false, cond, Option, Result, Ok, Err, ◌&&◌, replicate, eqb}
 use Rattle.values.specs.declared.Values.{Values}
 use Rattle.ranking.specs.declared.Rule.{Rule}
 use Rattle.slot.specs.declared.Shown.{Shown}
@@ -10,10 +10,11 @@ use Rattle.board.specs.declared.Entered as board
 use Rattle.board.specs.Work.{fresh_board, set_work, remove_work, read_work, enter_work}
 use Rattle.board.specs.Calls.{fit_board}
 use Rattle.senders.specs.declared.Senders.{Senders}
-use Rattle.senders.specs.declared.Told.{Told}
-use Rattle.senders.specs.declared.Traced.{Traced}
-use Rattle.senders.specs.declared.Traced.TheVariants.{Refused}
-use Rattle.senders.specs.Rows.{no_tally, fit_senders, fresh_senders}
+use Rattle.refusal.specs.declared.Refusal.{Refusal}
+use Rattle.refusal.specs.declared.Refusal.TheVariants.{Unfit}
+use Rattle.tally.specs.declared.Tally.{Tally}
+use Rattle.tally.specs.declared.FromSender.{FromSender}
+use Rattle.senders.specs.Rows.{fit_senders, fresh_senders}
 use Rattle.senders.specs.Calls.{entered, sent_refusal, told, traced}
 use Rattle.ledger.specs.declared.Ledger.{Ledger}
 use Rattle.ledger.specs.declared.NewLedger.{NewLedger}
@@ -66,9 +67,9 @@ enter_call g sender v =
     (not_entered g 24)
 
 -- Reading a sender's tally: 24, 3 (rule 9.4).
-unfoldable pub tally_call : Ledger → ℕ → Told
-tally_call g sender = cond (fit_ledger g) (told g.senders sender) (record { refusal = 24; tally = no_tally })
+unfoldable pub tally_call : Ledger → ℕ → Result Tally Refusal
+tally_call g sender = cond (fit_ledger g) (told g.senders sender) (Err Unfit)
 
 -- Reading one held report: 24 (rule 9.4).
-unfoldable pub report_call : Ledger → ℕ → Traced
-report_call g number = cond (fit_ledger g) (traced g.board.window g.senders number) (Refused 24)
+unfoldable pub report_call : Ledger → ℕ → Result (Option FromSender) Refusal
+report_call g number = cond (fit_ledger g) (Ok (traced g.board.window g.senders number)) (Err Unfit)

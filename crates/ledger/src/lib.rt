@@ -7,9 +7,10 @@ ghost use Rattle.ledger.specs.Calls.{fit_ledger, with_board, fresh_ledger, set_c
 
 use board::Board;
 use ranking::Rule;
-use senders::{Senders, Told, Traced};
+use refusal::Refusal;
+use senders::Senders;
 use slot::{Gauge, Shown};
-use tally::Tally;
+use tally::{FromSender, Tally};
 use values::Values;
 
 // The window with its questions, and beside it the senders of the held reports and every sender's tally.
@@ -71,12 +72,7 @@ impl Ledger {
     pub fn fit(self) -> bool
         ensures { result ≡ fit_ledger self }
     {
-        let board = self.board;
-        let senders = self.senders;
-        if senders.fit(board.window) {
-            return board.slots_fit();
-        }
-        false
+        self.senders.fit(self.board.window) && self.board.slots_fit()
     }
 
     // Sets a question in an empty slot and searches it: the steps. Refused 24, 13, 14, 15, 30, 33, 16.
@@ -139,38 +135,30 @@ impl Ledger {
         if !board.slots_fit() {
             return self.not_entered(Ledger::UNFIT);
         }
-        let noted = senders.enter(board.window, sender, values);
-        if noted.refusal != 0 {
-            return self.not_entered(noted.refusal);
+        match senders.enter(board.window, sender, values) {
+            Ok(next) => self.entering(values, next),
+            Err(refusal) => self.not_entered(refusal.number()),
         }
-        let next = noted.senders;
-        self.entering(values, next)
     }
 
     // What a sender has in the window. Refused 24, 3.
-    pub fn tally(self, sender: u8) -> Told
+    pub fn tally(self, sender: u8) -> Result<Tally, Refusal>
         ensures { result ≡ tally_call self sender }
     {
         if !self.fit() {
-            return Told {
-                refusal: Ledger::UNFIT,
-                tally: Tally::none(),
-            };
+            return Err(Refusal::Unfit);
         }
-        let senders = self.senders;
-        senders.tally(sender)
+        self.senders.tally(sender)
     }
 
-    // The held report of that number with its sender. Refused 24.
-    pub fn report(self, number: u32) -> Traced
+    // The held report of that number with its sender, if it is held. Refused 24.
+    pub fn report(self, number: u32) -> Result<Option<FromSender>, Refusal>
         ensures { result ≡ report_call self number }
     {
         if !self.fit() {
-            return Traced::Refused(Ledger::UNFIT);
+            return Err(Refusal::Unfit);
         }
-        let board = self.board;
-        let senders = self.senders;
-        senders.report(board.window, number)
+        Ok(self.senders.report(self.board.window, number))
     }
 
     // The board enters a report that is not refused; these senders and tallies stand beside it then.

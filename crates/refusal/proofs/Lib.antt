@@ -1,3 +1,4 @@
 -- What is proved of `refusal` beside its functions.
 pub mod Numbers
 pub mod Outcomes
+pub mod Answers

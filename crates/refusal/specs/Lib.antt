@@ -1,2 +1,3 @@
 -- What the functions of `refusal` are held to.
 pub mod Numbers
+pub mod Answers

@@ -333,17 +333,29 @@ fn brings(
         Answer::Kept => not_brought(false, 0),
         Answer::Complete(r) => {
             let values = r.values;
-            let arrival = Arrival::of(counts, values);
-            Brought {
-                refused: arrival.refusal != 0,
-                code: arrival.refusal,
-                number: arrival.number,
-                gone: arrival.oldest,
-                row: Row {
-                    loss: values.loss,
-                    shake: values.shake,
-                    name: arrival.name,
+            let mut row = Row {
+                loss: values.loss,
+                shake: values.shake,
+                name: 0,
+            };
+            match Arrival::of(counts, values) {
+                Err(refusal) => Brought {
+                    refused: true,
+                    code: refusal.number(),
+                    number: 0,
+                    gone: 0,
+                    row,
                 },
+                Ok(arrival) => {
+                    row.name = arrival.name;
+                    Brought {
+                        refused: false,
+                        code: 0,
+                        number: arrival.number,
+                        gone: arrival.oldest.unwrap_or(0),
+                        row,
+                    }
+                }
             }
         }
     }

@@ -1,16 +1,13 @@
--- A refusal, or the entry.
--- Assumes nothing.
-use mathlib.Core.Path.{sym, ap, ◌∙◌}
-use mathlib.Core.Bool.{false}
-use lib.ListN.{replicate}
-use Rattle.board.specs.Work.{enter_work}
-use Rattle.board.proofs.Refusals.{zero_not}
+-- A refusal by its number, or the entry.
+use Rattle.std.proofs.Common.{sym, ap, ◌∙◌}
+use Rattle.board.specs.Work.{not_entered, enter_work}
+use Rattle.refusal.proofs.Answers.{refused_number}
+use Rattle.board.proofs.Refusals.{zero_not, entry-number}
 use Rattle.board.proofs.Board.enter_work.Goals as goal
 
-pub returns-then-refusal-ne0 : goal.returns-then-refusal-ne0
+pub returns-in-Err : goal.returns-in-Err
 unfolding enter_work
-returns-then-refusal-ne0 c =
+returns-in-Err c =
     c.not_entered.ensures
-    ∙ sym
-    (zero_not _ _ (λ z. c.if-refusal-ne0.true (c.enter_refusal-refusal.ensures ∙ z))
-    ∙ ap (λ r. record { refusal = r; number = 0; searched = replicate 32 false; steps = replicate 32 0; board = c.args.self }) (sym c.enter_refusal-refusal.ensures))
+    ∙ ap (not_entered c.args.self) (c.number.ensures ∙ entry-number c.args.self.window.counts c.args.values c.in-Err.ensures)
+    ∙ sym (zero_not _ _ (refused_number _ (tt {0}) c.in-Err.ensures))

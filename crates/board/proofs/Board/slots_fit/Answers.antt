@@ -1,26 +1,14 @@
 -- A walk over the slots.
--- Assumes nothing.
-use mathlib.Core.Path.{refl, sym, ◌∙◌}
-use native.Mathlib.Omega.{arith}
-use borrow.Author.Tests.{not-true, not-false}
-use Rattle.board.proofs.Slots.{walk_ends, walk_fails, walk_on}
-use borrow.Author.Rules.{rules}
-use mathlib.Core.Path.{ap}
-use mathlib.Core.Bool.{not}
+use Rattle.std.proofs.Common.{◌≡◌, true, false, rules}
+use Rattle.std.proofs.lemmas.Iterator.{cases_from_all, YieldsList-from_slice}
+use borrow.Author.Tests.{tests}
+use Rattle.slot.specs.Fitness.{slot_fit}
+use Rattle.slot.specs.Gauges.{no_question}
+use Rattle.board.proofs.Slots.{all_told}
 use Rattle.board.proofs.Board.slots_fit.Goals as goal
 
-pub loop-i-init : goal.loop-i-init
-loop-i-init c = record { up_to = search rules; many = c.well_formed.0.1.1.1.0.1.0.1; decides = refl }
-
-pub returns-then-not-fit : goal.returns-then-not-fit
-returns-then-not-fit c =
-    let a = c.args.self in
-    walk_fails c.args.self.window c.args.self.slots c.loop-i.i c.loop-i.invariant (omega arith) (sym c.fit.ensures ∙ not-true _ (ap not c.if-not-fit.true))
-
-pub loop-i-preserved : goal.loop-i-preserved
-loop-i-preserved c =
-    let a = c.args.self in
-    walk_on c.args.self.window c.args.self.slots c.loop-i.i c.loop-i.invariant (omega arith) (sym c.fit.ensures ∙ not-false _ (ap not c.if-not-fit.false))
-
 pub returns : goal.returns
-returns c = walk_ends _ _ _ c.loop-i.invariant c.loop-i-test.false
+returns c =
+    all_told no_question (slot_fit c.args.self.window) c.args.self.slots c.all.result
+    (cases_from_all c.all.new.self _ _ (λ q. slot_fit c.args.self.window q ≡ true) (λ q. slot_fit c.args.self.window q ≡ false) c.all.ensures.ran
+    (YieldsList-from_slice c.args.self.slots cc) (λ x q k. search (rules, tests)) (λ x q k. search (rules, tests)))

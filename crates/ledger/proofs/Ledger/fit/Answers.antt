@@ -7,5 +7,5 @@ use Rattle.ledger.proofs.Ledger.fit.Goals as goal
 pub returns-then-fit : goal.returns-then-fit
 returns-then-fit c = c.slots_fit.ensures ∙ sym (fit_then c.args.self (sym c.fit.ensures ∙ c.if-fit.true))
 
-pub returns : goal.returns
-returns c = sym (fit_not c.args.self (sym c.fit.ensures ∙ c.if-fit.false))
+pub returns-else-fit : goal.returns-else-fit
+returns-else-fit c = c.if-fit.false ∙ sym (fit_not c.args.self (sym c.fit.ensures ∙ c.if-fit.false))

@@ -5,6 +5,7 @@ use borrow.Author.Tests.{not-true, not-false}
 use Rattle.laws.proofs.Tests.{if_so, if_not}
 use Rattle.ledger.specs.Calls.{report_call}
 use mathlib.Core.Path.{ap}
+use Rattle.std.specs.Prelude.{Ok}
 use mathlib.Core.Bool.{not}
 use Rattle.ledger.proofs.Ledger.report.Goals as goal
 
@@ -14,4 +15,4 @@ returns-then-not-fit c = sym (if_not _ _ (sym c.fit.ensures ∙ not-true _ (ap n
 
 pub returns : goal.returns
 unfolding report_call
-returns c = c.report.ensures ∙ sym (if_so _ _ (sym c.fit.ensures ∙ not-false _ (ap not c.if-not-fit.false)))
+returns c = ap (λ r. Ok r) c.report.ensures ∙ sym (if_so _ _ (sym c.fit.ensures ∙ not-false _ (ap not c.if-not-fit.false)))

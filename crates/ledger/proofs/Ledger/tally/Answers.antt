@@ -10,7 +10,7 @@ use Rattle.ledger.proofs.Ledger.tally.Goals as goal
 
 pub returns-then-not-fit : goal.returns-then-not-fit
 unfolding tally_call
-returns-then-not-fit c = rw c.none.ensures (sym (if_not _ _ (sym c.fit.ensures ∙ not-true _ (ap not c.if-not-fit.true))))
+returns-then-not-fit c = sym (if_not _ _ (sym c.fit.ensures ∙ not-true _ (ap not c.if-not-fit.true)))
 
 pub returns : goal.returns
 unfolding tally_call
