@@ -2,7 +2,6 @@
 // numbers. A number that isn't there is 0.
 #![tactic(auto)]
 
-
 // A line without its end, which the last one may lack.
 pub fn without_end(line: &[u8]) -> &[u8] {
     line.strip_suffix(b"\n").unwrap_or(line)

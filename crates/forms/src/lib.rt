@@ -100,7 +100,8 @@ impl Form {
     fn words(self) -> &'static [u8] {
         match self {
             Form::Window => b"window N; N is 0 to 65535",
-            Form::Set => b"set SLOT K A B [heat C] [loss LOW HIGH] [shake LOW HIGH] [rule R]; SLOT, K and R are 0 to 255, A, B and C -32768 to 32767, LOW and HIGH 0 to 65535",
+            Form::Set =>
+                b"set SLOT K A B [heat C] [loss LOW HIGH] [shake LOW HIGH] [rule R]; SLOT, K and R are 0 to 255, A, B and C -32768 to 32767, LOW and HIGH 0 to 65535",
             Form::Remove => b"remove SLOT; SLOT is 0 to 255",
             Form::Read => b"read SLOT; SLOT is 0 to 255",
             Form::Enter => b"enter LOSS SHAKE [heat H]; each is 0 to 65535",
@@ -109,19 +110,28 @@ impl Form {
             Form::Marks => b"marks SLOT; SLOT is 0 to 31",
             Form::Steps => b"steps SLOT; SLOT is 0 to 31",
             Form::Held => b"held",
-            Form::Frame => b"frame ID DATA [at MS]; ID is 1 to 8 hexadecimal digits, DATA an even number of them, MS 0 to 4294967295",
+            Form::Frame =>
+                b"frame ID DATA [at MS]; ID is 1 to 8 hexadecimal digits, DATA an even number of them, MS 0 to 4294967295",
             Form::Session => b"session SENDER; SENDER is 0 to 253",
             Form::Payload => b"payload BYTES; BYTES is an even number of hexadecimal digits",
-            Form::Write => b"write SENDER LOSS SHAKE OWN [heat H] [note BYTES] [room N]; SENDER is 0 to 255, LOSS, SHAKE and H 0 to 65535, OWN and N 0 to 4294967295, BYTES an even number of hexadecimal digits",
-            Form::PokeWindow => b"poke window SIZE ENTERED HELD; SIZE and HELD are 0 to 65535, ENTERED 0 to 4294967295",
-            Form::PokeRow => b"poke row ROW NUMBER LOSS SHAKE [heat H]; ROW is 0 to 1023, NUMBER 0 to 1048319, LOSS and SHAKE 0 to 65535, H 0 to 4095",
-            Form::PokeSlot => b"poke slot SLOT K A B LEN NEXT [heat C] [loss LOW HIGH] [shake LOW HIGH] [rule R]; SLOT is 0 to 31, K, LEN and R 0 to 255, A, B and C -32768 to 32767, NEXT, LOW and HIGH 0 to 65535",
-            Form::PokeLine => b"poke line SLOT PLACE NUMBER SCORE [heat H]; SLOT is 0 to 31, PLACE 0 to 15, NUMBER 0 to 1048319, SCORE -2147483648 to 2147483647, H 0 to 4095",
-            Form::PokeSession => b"poke session SENDER SIZE COUNT NEXT [at MS]; SENDER is 0 to 253, MS 0 to 4294967295, the others 0 to 255",
-            Form::PokeByte => b"poke byte SENDER PLACE VALUE; SENDER is 0 to 253, PLACE 0 to 88, VALUE 0 to 255",
+            Form::Write =>
+                b"write SENDER LOSS SHAKE OWN [heat H] [note BYTES] [room N]; SENDER is 0 to 255, LOSS, SHAKE and H 0 to 65535, OWN and N 0 to 4294967295, BYTES an even number of hexadecimal digits",
+            Form::PokeWindow =>
+                b"poke window SIZE ENTERED HELD; SIZE and HELD are 0 to 65535, ENTERED 0 to 4294967295",
+            Form::PokeRow =>
+                b"poke row ROW NUMBER LOSS SHAKE [heat H]; ROW is 0 to 1023, NUMBER 0 to 1048319, LOSS and SHAKE 0 to 65535, H 0 to 4095",
+            Form::PokeSlot =>
+                b"poke slot SLOT K A B LEN NEXT [heat C] [loss LOW HIGH] [shake LOW HIGH] [rule R]; SLOT is 0 to 31, K, LEN and R 0 to 255, A, B and C -32768 to 32767, NEXT, LOW and HIGH 0 to 65535",
+            Form::PokeLine =>
+                b"poke line SLOT PLACE NUMBER SCORE [heat H]; SLOT is 0 to 31, PLACE 0 to 15, NUMBER 0 to 1048319, SCORE -2147483648 to 2147483647, H 0 to 4095",
+            Form::PokeSession =>
+                b"poke session SENDER SIZE COUNT NEXT [at MS]; SENDER is 0 to 253, MS 0 to 4294967295, the others 0 to 255",
+            Form::PokeByte =>
+                b"poke byte SENDER PLACE VALUE; SENDER is 0 to 253, PLACE 0 to 88, VALUE 0 to 255",
             Form::PokeUntimed => b"poke untimed SENDER MS; SENDER is 0 to 253, MS 0 to 4294967295",
             Form::Help => b"help",
-            Form::Unknown => b"window, set, remove, read, enter, begin, step, marks, steps, held, frame, session, payload, write, poke or help",
+            Form::Unknown =>
+                b"window, set, remove, read, enter, begin, step, marks, steps, held, frame, session, payload, write, poke or help",
             Form::UnknownPoke => b"poke window, row, slot, line, session, byte or untimed",
         }
     }

@@ -1,7 +1,6 @@
 // The words of a line that are left, read one after another: each as a number of its range, or as bytes.
 #![tactic(auto)]
 
-
 // What is left of a line.
 #[derive(Clone, Copy)]
 pub struct Words<'a> {
