@@ -10,11 +10,11 @@ use Rattle.question.proofs.Question.step.Goals as goal
 pub returns : goal.returns
 returns c =
     elim c.if-fit.branch [
-      then-fit w ↦
-        ap (λ q. Ok q) c.stepped.ensures
-        ∙ sym
-        (ap answered
-        (step_goes c.args.window c.args.self (sym c.fit.ensures ∙ w.if-fit.true) (sym w.fit-then-fit.ensures ∙ sym w.value-is ∙ c.if-not-fit.false)
-        (sym c.finished.ensures ∙ c.if-finished.false)))
-    | else-fit w ↦ cc
+      | then-fit w ↦
+          ap (λ q. Ok q) c.stepped.ensures
+          ∙ sym
+          (ap answered
+          (step_goes c.args.window c.args.self (sym c.fit.ensures ∙ w.if-fit.true) (sym w.fit-then-fit.ensures ∙ sym w.value-is ∙ c.if-not-fit.false)
+          (sym c.finished.ensures ∙ c.if-finished.false)))
+      | else-fit w ↦ cc
     ]
