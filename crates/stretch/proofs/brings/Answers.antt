@@ -1,5 +1,5 @@
 -- By the three answers, and by what an entry comes to.
-use Rattle.std.proofs.Common.{◌≡◌, ℕ, ◌<◌, refl, ap, sym, ◌∙◌, Bool, true, false, not, eqb, arith}
+use Rattle.std.proofs.Common.{◌≡◌, ℕ, refl, ap, sym, ◌∙◌, true, false, not, eqb, arith}
 use Rattle.std.specs.Option.{unwrap_or}
 use borrow.Author.Tests.{ne_eqb}
 use Rattle.refusal.specs.declared.Refusal.{Refusal}
