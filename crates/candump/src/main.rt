@@ -5,7 +5,7 @@
 #![tactic(auto)]
 
 use capture::Sort;
-use input::{Input, ReadFailed};
+use input::Input;
 use items::Item;
 use stamps::{Since, Stamp};
 use std::env::Env;
@@ -72,43 +72,32 @@ fn argument(rt: &impl Env, n: usize, word: &mut [u8]) -> usize {
     rt.arg(n, word).unwrap_or(0)
 }
 
-// Takes line after line, to the end of the text, and then tells the counts; or to a read or a write that fails, which is said. A proved
-// loop has to end, so it counts its turns down from a number that no run uses up.
+// Takes line after line, to the end of the text, and then tells the counts; or to a read or a write that fails, which is said.
 fn run(reader: &mut impl Read, out: &impl Print, err: &impl Print, asked: Asked, name: &[u8]) {
     let mut state = Reader::fresh();
     let mut input = Input::fresh();
     let mut line = [0u8; Input::LONGEST];
     let mut bus = [0u8; Input::LONGEST];
     let mut space = [0u8; 4096];
-    let mut turns = u64::MAX;
-    while turns > 0 {
-        turns -= 1;
-        let next = input.next(reader, &mut line, &mut space);
-        let Ok(Some(found)) = next else {
-            let counts = state.counts;
-            stopped(err, next, asked, counts);
-            break;
-        };
-        input = found;
-        state = state.take(out, err, found, &line, asked, name, &mut bus);
+    for _ in 0..u64::MAX {
+        match input.next(reader, &mut line, &mut space) {
+            Ok(Some(found)) => {
+                input = found;
+                state = state.take(out, err, found, &line, asked, name, &mut bus);
+            }
+            Ok(None) => {
+                summary(err, asked, state.counts);
+                break;
+            }
+            Err(_) => {
+                say(err, b"cart candump: the input can't be read\n");
+                break;
+            }
+        }
         if !state.going {
             break;
         }
     }
-}
-
-// Why no line comes: the text has ended, with so many lines of each sort, or it can't be read.
-fn stopped(
-    err: &impl Print,
-    next: Result<Option<Input>, ReadFailed>,
-    asked: Asked,
-    counts: Counts,
-) {
-    if next.is_err() {
-        say(err, b"cart candump: the input can't be read\n");
-        return;
-    }
-    summary(err, asked, counts);
 }
 
 impl Reader {
@@ -165,7 +154,7 @@ impl Reader {
     // Counts a written frame that has no time, keeps the time of one that has, and names the first that is before the last.
     fn timed(mut self, err: &impl Print, number: u64, stamp: Option<Stamp>) -> Reader {
         let Some(time) = stamp else {
-            self.counts.untimed = one_more(self.counts.untimed);
+            self.counts.untimed = self.counts.untimed.wrapping_add(1);
             return self;
         };
         let last = self.last.map_or(0, |last| last.nanos);
@@ -276,28 +265,24 @@ fn say_sort(err: &impl Print, number: u64, sort: Sort) {
 fn counted(counts: Counts, sort: Sort) -> Counts {
     let mut c = counts;
     match sort {
-        Sort::Frame => c.frames = one_more(c.frames),
+        Sort::Frame => c.frames = c.frames.wrapping_add(1),
         Sort::Marked => {
-            c.frames = one_more(c.frames);
-            c.marked = one_more(c.marked);
+            c.frames = c.frames.wrapping_add(1);
+            c.marked = c.marked.wrapping_add(1);
         }
-        Sort::Foreign => c.foreign = one_more(c.foreign),
-        Sort::Elsewhere => c.elsewhere = one_more(c.elsewhere),
-        Sort::Short => c.short = one_more(c.short),
-        Sort::Remote => c.remote = one_more(c.remote),
-        Sort::Error => c.error = one_more(c.error),
-        Sort::Fd => c.fd = one_more(c.fd),
-        Sort::Length => c.length = one_more(c.length),
-        Sort::Beyond => c.beyond = one_more(c.beyond),
-        Sort::Dropped => c.dropped = one_more(c.dropped),
+        Sort::Foreign => c.foreign = c.foreign.wrapping_add(1),
+        Sort::Elsewhere => c.elsewhere = c.elsewhere.wrapping_add(1),
+        Sort::Short => c.short = c.short.wrapping_add(1),
+        Sort::Remote => c.remote = c.remote.wrapping_add(1),
+        Sort::Error => c.error = c.error.wrapping_add(1),
+        Sort::Fd => c.fd = c.fd.wrapping_add(1),
+        Sort::Length => c.length = c.length.wrapping_add(1),
+        Sort::Beyond => c.beyond = c.beyond.wrapping_add(1),
+        Sort::Dropped => c.dropped = c.dropped.wrapping_add(1),
         Sort::Nothing => {}
-        Sort::Broken => c.broken = one_more(c.broken),
+        Sort::Broken => c.broken = c.broken.wrapping_add(1),
     }
     c
-}
-
-fn one_more(n: u64) -> u64 {
-    n.wrapping_add(1)
 }
 
 // A number and what it counts.
