@@ -22,17 +22,18 @@ pub eight_of : (s : Setting) → take 8 (ties_bytes s) ≡ heat_bytes s
 unfolding setting_bytes heat_bytes ties_bytes bytes
 eight_of s = refl
 
--- A frame's tag and length, the bytes before its identifier, the identifier and the data.
-pub frame-stored : (b : List ℕ) {b₁ b₂ b₃ b₄ b₅ : List ℕ} (at tag : ℕ) (w : List ℕ) (id : ℕ) (d : List ℕ) → b₁ ≡ set b at tag
-    → b₂ ≡ sets b₁ (at + 1) (bytes 2 ((length w + 4 + length d) % 65536)) → b₃ ≡ sets b₂ (at + 3) w → b₄ ≡ sets b₃ (at + 3 + length w) (bytes 4 id)
-    → b₅ ≡ sets b₄ (at + 3 + length w + 4) d → b₅ ≡ sets b at (field tag (w ++ (bytes 4 id ++ d)))
-frame-stored b {b₁} {b₂} {b₃} {b₄} {b₅} at tag w id d e₁ e₂ e₃ e₄ e₅ =
+-- A frame's tag and length, the bytes before its identifier, the identifier and the data, each behind the last.
+pub frame_stored : (b : List ℕ) (at tag : ℕ) (w : List ℕ) (id : ℕ) (d : List ℕ)
+    → sets (sets (sets (sets (set b at tag) (at + 1) (bytes 2 ((length w + 4 + length d) % 65536))) (at + 3) w) (at + 3 + length w) (bytes 4 id)) (at + 3 + length w + 4) d
+    ≡ sets b at (field tag (w ++ (bytes 4 id ++ d)))
+frame_stored b at tag w id d =
     let value = w ++ (bytes 4 id ++ d) in
     let size = length w + 4 + length d in
+    let b₂ = sets (set b at tag) (at + 1) (bytes 2 (size % 65536)) in
     let long : length value ≡ size = omega (arith, length-append w (bytes 4 id ++ d), length-append (bytes 4 id) d, length-bytes 4 id) in
-    let row : b₅ ≡ sets b₂ (at + 3) value =
-    rw (e₅, e₄, e₃, sets-append b₂ (at + 3) w (bytes 4 id ++ d), sets-append (sets b₂ (at + 3) w) (at + 3 + length w) (bytes 4 id) d, length-bytes 4 id) in
-    put_value b at tag (size % 65536) value (head-low tag size ∙ ap (head tag) (sym long)) (put_tag b at tag (size % 65536) e₁ e₂) row
+    let row : sets (sets (sets b₂ (at + 3) w) (at + 3 + length w) (bytes 4 id)) (at + 3 + length w + 4) d ≡ sets b₂ (at + 3) value =
+    rw (sets-append b₂ (at + 3) w (bytes 4 id ++ d), sets-append (sets b₂ (at + 3) w) (at + 3 + length w) (bytes 4 id) d, length-bytes 4 id) refl in
+    put_value b at tag (size % 65536) value (head-low tag size ∙ ap (head tag) (sym long)) (put_tag b at tag (size % 65536) refl refl) row
 
 pub row_long : (tag : ℕ) (w : List ℕ) (id : ℕ) (d : List ℕ) → length (field tag (w ++ (bytes 4 id ++ d))) ≡ 3 + (length w + 4 + length d)
 row_long tag w id d =
@@ -44,3 +45,5 @@ frame_long id d = omega (arith, row_long 18 [] id d)
 
 pub timed_long : (time id : ℕ) (d : List ℕ) → length (field 21 (bytes 4 time ++ (bytes 4 id ++ d))) ≡ 3 + 4 + 4 + length d
 timed_long time id d = omega (arith, row_long 21 (bytes 4 time) id d, length-bytes 4 time)
+
+pub ruleset field_long = (length-field)

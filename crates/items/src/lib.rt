@@ -193,6 +193,7 @@ pub fn signed16(n: u16) -> i16
 }
 
 // Stores an item, and answers how many bytes it takes.
+#[tactic(auto, using(crate::proofs::Writing::field_long))]
 fn put_value(room: &mut [u8], at: usize, tag: u8, value: &[u8]) -> usize
     ensures value { result ≡ length (field tag value.now) }
     ensures room_after { room.new ≡ sets room.old at (field tag value.now) }
@@ -202,6 +203,7 @@ fn put_value(room: &mut [u8], at: usize, tag: u8, value: &[u8]) -> usize
 }
 
 // Stores an item that is a frame, with `first` before its identifier, the bytes of its time or none, and answers how many bytes it takes.
+#[tactic(auto, using(crate::proofs::Writing::row_long, crate::proofs::Writing::frame_stored, wire::proofs::Stores::sets_past))]
 fn put_frame(room: &mut [u8], at: usize, tag: u8, first: &[u8], id: u32, data: &[u8]) -> usize
     requires { length first.now ≤ 4 }
     ensures value { result ≡ length (field tag (first.now ++ (bytes 4 id ++ «data».now))) }

@@ -5,14 +5,11 @@ use mathlib.Core.Path.{◌≡◌, refl, sym, ◌∙◌, ap, ap₂}
 use mathlib.Core.Bool.{Bool, true, false}
 use mathlib.Core.Logic.{⊎_elim, ◌⊎◌, inl, inr}
 use mathlib.Core.List.{List, [], ◌∷◌, ◌++◌, append_assoc, append-nil, tail}
-use Prim.Native.Nat.{ℕ, zero, suc, pred, ◌+◌, ◌-◌, ◌*◌, ◌/◌, ◌%◌, ◌^◌, ◌≤◌, ◌<◌}
+use Prim.Native.Nat.{ℕ, zero, suc, pred, ◌+◌, ◌-◌, ◌*◌, ◌/◌, ◌%◌, ◌≤◌, ◌<◌}
 use native.Mathlib.Omega.{arith}
 use borrow.Author.Tests.{lt-ltb, le-ltb, ltb-true, ltb-false}
 use lib.Dec.{ltb}
 use lib.IntN.{ℤ, pos, negsuc}
-use lib.Signed.{mag}
-use Rattle.std.specs.Fmt as fmt
-use Rattle.std.proofs.lemmas.Fmt.{decimal_digit, decimal_step}
 use Rattle.text.specs.Text.{spelled, decimal, signed_decimal, read_on}
 
 pub below_or : (n m : ℕ) (b : Bool) → ltb n m ≡ b → (n < m) ⊎ (m ≤ n)
@@ -152,16 +149,3 @@ signed_injective (negsuc m) (pos n) e = absurd (decimal_no_minus n (decimal (suc
 signed_injective (negsuc m) (negsuc n) e =
     let h : suc m ≡ suc n = decimal_injective (suc m) (suc n) (ap tail e) in
     ap negsuc (ap pred h)
-
--- ---- as the library writes it
-
--- Both write a number's tenth part and then its last digit.
-pub library_decimal : (n : ℕ) → n < 2 ^ 64 → fmt.decimal n ≡ decimal n
-library_decimal =
-    by_tens (λ n. n < 2 ^ 64 → fmt.decimal n ≡ decimal n) (λ n h fits. decimal_digit n h ∙ sym (decimal_one n h))
-    (λ n h rest fits. decimal_step n h fits ∙ rw (decimal_more n h, rest (omega arith)))
-
-pub library_signed : (z : ℤ) → mag z < 2 ^ 63 → fmt.signed_decimal z ≡ signed_decimal z
-unfolding signed_decimal
-library_signed (pos n) h = library_decimal n (omega arith)
-library_signed (negsuc n) h = ap (λ (l : List ℕ). 45 ∷ l) (library_decimal (suc n) (omega arith))

@@ -10,6 +10,7 @@ use lib.IntN.{ℤ}
 use lib.Dec.{ltb}
 use lib.ListN.{length, get_or, take, length-take}
 use lib.Seq.{take_all}
+use Rattle.std.proofs.lemmas.List.{take_min}
 use Rattle.text.specs.Text.{Entry, spaced, entry_text, entries_text, q_line, entries_of}
 use Rattle.text.proofs.Decimal.{below_or}
 
@@ -48,17 +49,10 @@ listed_first (suc n) [] ss = refl
 listed_first (suc n) (x ∷ ns) [] = refl
 listed_first (suc n) (x ∷ ns) (s ∷ ss) = ap (λ (es : List Entry). record { number = x; score = s } ∷ es) (listed_first n ns ss)
 
--- Past the end of a list there is nothing to take.
-take_within : {A : Type 0} (n : ℕ) (l : List A) → take (min n (length l)) l ≡ take n l
-take_within n l =
-    ⊎_elim (λ s. let e : min n (length l) ≡ n = omega arith in rw e)
-    (λ m. take_all (min n (length l)) l (omega arith) ∙ sym (take_all n l (omega arith)))
-    (below_or n (length l) (ltb n (length l)) refl)
-
 -- A Q line of the first n entries shows as many as there are.
 pub q_line_shown : (slot n shown : ℕ) (es : List Entry) → shown ≡ min n (length es)
     → 81 ∷ [] ++ spaced slot ++ spaced shown ++ entries_text (take shown es) ++ 10 ∷ [] ≡ q_line slot (take n es)
 unfolding q_line
 q_line_shown slot n shown es e =
     ap₂ (λ (k : ℕ) (l : List Entry). 81 ∷ [] ++ spaced slot ++ spaced k ++ entries_text l ++ 10 ∷ []) (e ∙ sym (length-take n es))
-    (ap (λ (k : ℕ). take k es) e ∙ take_within n es)
+    (ap (λ (k : ℕ). take k es) e ∙ take_min n es)

@@ -23,6 +23,13 @@ put e = record { place = e.0; bytes = e.1 }
 pub both : {l left : List ℕ} {at next : ℕ} {text : List ℕ} → Put l at text next left → (next ≡ behind at text) × (left ≡ sets l at text)
 both p = (p.place, p.bytes)
 
+-- The clauses of a function that stored a text, as that fact, and the fact as the clauses.
+pub stored : {l left : List ℕ} {at next : ℕ} {text : List ℕ} → record { value : next ≡ behind at text; buf_after : left ≡ sets l at text } → Put l at text next left
+stored e = put (e.value, e.buf_after)
+
+pub clauses : {l left : List ℕ} {at next : ℕ} {text : List ℕ} → Put l at text next left → record { value : next ≡ behind at text; buf_after : left ≡ sets l at text }
+clauses p = record { value = p.place; buf_after = p.bytes }
+
 behind-append : (at : ℕ) (v w : List ℕ) → behind (behind at v) w ≡ behind at (v ++ w)
 unfolding behind
 behind-append at v w = rw length-append (omega arith)

@@ -30,21 +30,20 @@ impl Text {
 }
 
 // Stores a number.
-#[tactic(auto, using(crate::proofs::Decimal::library_decimal))]
 pub fn put_decimal(buf: &mut [u8], at: usize, n: u64) -> usize
     ensures value { result ≡ behind at (decimal n) }
     ensures buf_after { buf.new ≡ sets buf.old at (decimal n) }
 {
-    put_text(buf, at, itoa::Buffer::new().format(n).as_bytes())
+    put_text(buf, at, spell(&mut [0; Text::NUMBER], n))
 }
 
 // Stores a number that may be negative.
-#[tactic(auto, using(crate::proofs::Decimal::library_signed))]
 pub fn put_signed(buf: &mut [u8], at: usize, z: i32) -> usize
     ensures value { result ≡ behind at (signed_decimal z) }
     ensures buf_after { buf.new ≡ sets buf.old at (signed_decimal z) }
 {
-    put_text(buf, at, itoa::Buffer::new().format(z).as_bytes())
+    let next = if z < 0 { put_byte(buf, at, b'-') } else { at };
+    put_decimal(buf, next, u64::from(z.unsigned_abs()))
 }
 
 // Stores the line of a search: the item, the slot and the steps.
@@ -139,4 +138,20 @@ fn put_text(buf: &mut [u8], at: usize, text: &[u8]) -> usize
 {
     wire::put_all(buf, at, text);
     at.saturating_add(text.len())
+}
+
+// The digits of n, which stand at the end of `room`.
+// Stays: by hand, for `value` and `buf_after` of `put_decimal`; `write!` and `fmt::InlineText` don't promise that all of n is written.
+fn spell(room: &mut [u8; Text::NUMBER], n: u64) -> &[u8]
+    ensures { result.now ≡ decimal n }
+{
+    let mut rest = n;
+    for i in (0..Text::NUMBER).rev() {
+        room[i] = b'0' + (rest % 10) as u8;
+        rest /= 10;
+        if rest == 0 {
+            return &room[i..];
+        }
+    }
+    room
 }

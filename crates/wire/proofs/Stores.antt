@@ -29,16 +29,14 @@ sets_cut l i (a ∷ v) zero h = sym (sets_past l i (a ∷ v) (omega arith))
 sets_cut l i (a ∷ v) (suc n) h = sets_cut (set l i a) (suc i) v n (rw length-set (omega arith))
 
 -- A copy of as many of a value's bytes as there is room for.
-pub part_copied : (l : List ℕ) (i k n : ℕ) (v : List ℕ) {w : List ℕ} → i ≤ length l → n ≡ min (length v) (length l - i) → k ≡ n → w ≡ take n v
-    → put_mid i k l w ≡ sets l i v
-part_copied l i k n v h fewer e same =
-    let taken : length (take n v) ≡ n = length-take-le n v (omega arith) in
-    let long : i + length (take n v) ≤ length l = omega arith in
-    let over : k ≡ length (take n v) = omega arith in
-    let all : sets l i (take n v) ≡ sets l i v = grind (arith, sets_cut l i v n, take_all n v) in
-    sym (rw (sets-eq (take n v) l i long, append_assoc) (rw (← over, same, drop-drop) refl)) ∙ all
+pub part_copied : (l : List ℕ) (i k : ℕ) (v w : List ℕ) → i ≤ length l → k ≡ min (length v) (length l - i) → w ≡ take k v → put_mid i k l w ≡ sets l i v
+part_copied l i k v w h fewer same =
+    let taken : length (take k v) ≡ k = length-take-le k v (omega arith) in
+    let long : i + length (take k v) ≤ length l = omega arith in
+    let all : sets l i (take k v) ≡ sets l i v = grind (arith, sets_cut l i v k, take_all k v) in
+    sym (rw (sets-eq (take k v) l i long, append_assoc) (rw (taken, same, drop-drop) refl)) ∙ all
 
-length-head : (tag n : ℕ) → length (head tag n) ≡ 3
+pub length-head : (tag n : ℕ) → length (head tag n) ≡ 3
 unfolding head
 length-head tag n = ap suc (length-bytes 2 n)
 
@@ -56,3 +54,6 @@ put_value b at tag n v same e₁ e₂ = rw (e₂, e₁, same, sets-append b at (
 pub head-low : (tag n : ℕ) → head tag (n % 65536) ≡ head tag n
 unfolding head
 head-low tag n = rw (bytes_low n)
+
+-- A field is its head and its value in a row.
+pub ruleset in_a_row = (sets-append, sets_past, length-head, head-low)

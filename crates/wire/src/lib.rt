@@ -121,7 +121,7 @@ pub fn put32(buf: &mut [u8], at: usize, x: u32)
 }
 
 // Stores all of `value` from `at` on.
-#[tactic(auto, using(crate::proofs::Stores::sets_past))]
+#[tactic(auto, using(crate::proofs::Stores::sets_past, crate::proofs::Stores::part_copied))]
 pub fn put_all(buf: &mut [u8], at: usize, value: &[u8])
     ensures { buf.new ≡ sets buf.old at value.now }
 {
@@ -132,7 +132,7 @@ pub fn put_all(buf: &mut [u8], at: usize, value: &[u8])
 }
 
 // Stores a field from `at` on: the tag, the length and the value.
-#[tactic(auto, using(crate::proofs::Stores::sets_past))]
+#[tactic(auto, using(crate::proofs::Stores::in_a_row), unfolding(crate::specs::Bytes::field))]
 pub fn put_field(buf: &mut [u8], at: usize, tag: u8, value: &[u8])
     ensures { buf.new ≡ sets buf.old at (field tag value.now) }
 {
