@@ -7,6 +7,7 @@ use mathlib.Core.List.Memᴰ
 use mathlib.Core.List.{List, [], ◌∷◌}
 use mathlib.Core.Logic.{⊎_elim}
 use Prim.Native.Nat.{ℕ, zero, suc, ◌+◌, ◌-◌, ◌/◌, min, ◌≤◌, ◌<◌}
+use native.Mathlib.Numerals.{add-one}
 use native.Mathlib.Omega.{arith}
 use lib.Dec.{eqb}
 use lib.IntN.{ℤ}
@@ -87,6 +88,17 @@ module _ (w : Window) where
   same_rows r zero m e = let none : r ≡ m = omega arith in subst (λ n. Same (standing w r) (standing w n)) none (itself (standing w r))
   same_rows r (suc n) m e = joined (swap_rows r (suc r) n (standing w r)) (same_rows (suc r) n m (omega arith))
 
+-- a row more on the way up
+pub row_up : (w : Window) (row : ℕ) → standing w (row + 1) ≡ with_row w row (standing w row)
+row_up w row = ap (standing w) (add-one row)
+
+-- and on the way down
+pub row_down : (w : Window) (hs : List Held) (row high : ℕ) → 0 < row → row ≤ high → with_rows w (row - 1) (high - (row - 1)) hs ≡ with_row w (row - 1) (with_rows w row (high - row) hs)
+row_down w hs row high h h' =
+    let one : suc (row - 1) ≡ row = omega arith in
+    let more : high - (row - 1) ≡ suc (high - row) = omega arith in
+    ap (λ n. with_rows w (row - 1) n hs) more ∙ ap (λ r. with_row w (row - 1) (with_rows w r (high - row) hs)) one
+
 -- ---- a pass over rows
 
 -- The arrays have the best k of the reports so far, and the bar and its least score are theirs.
@@ -100,9 +112,12 @@ pub gathered_none : (rule : Rule) (k : ℕ) → columns_of [] ≡ columns_of (to
 gathered_none rule k = best_none (above rule) k ∙ ap (λ l. columns_of (best (above rule) k l)) (sym (entries_none rule))
 
 -- after the last, where they were taken from the last down
-pub gathered_down : (rule : Rule) (k : ℕ) (w : Window) (low high : ℕ) → low ≤ high → top rule k (with_rows w low (high - low) (standing w low)) ≡ top rule k (standing w high)
-gathered_down rule k w low high h =
-    top-same rule k (with_rows w low (high - low) (standing w low)) (standing w high) (same_rows w low (high - low) high (omega arith))
+pub gathered_down : (rule : Rule) (k : ℕ) (w : Window) (low row high : ℕ) → low ≤ row → row ≤ low → low ≤ high → columns_of (top rule k (with_rows w row (high - row) (standing w low))) ≡ columns_of (top rule k (standing w high))
+gathered_down rule k w low row high h h' h'' =
+    let end : row ≡ low = omega arith in
+    ap columns_of
+    (ap (λ r. top rule k (with_rows w r (high - r) (standing w low))) end
+    ∙ top-same rule k (with_rows w low (high - low) (standing w low)) (standing w high) (same_rows w low (high - low) high (omega arith)))
 
 module _ (rule : Rule) (k : ℕ) (small : k ≤ 16) (hs : List Held) where
   few_k : length (top rule k hs) ≤ k
@@ -195,44 +210,47 @@ module _ {rule : Rule} {k : ℕ} {hs : List Held} {ns : List ℕ} {ss : List ℤ
   same_bar = p.bar_is ∙ bar_read rule k small hs p.lines
 
   -- a row more, by what its score's test and the bar say of its report
-  module _ (w : Window) (r : ℕ) {sc : Option ℤ} (is : sc ≡ from_least least (score rule (report_in w r).values)) where
+  module _ (w : Window) (r : ℕ) {hs' : List Held} (more : hs' ≡ with_row w r hs) {sc : Option ℤ} (scored : (sc ≡ from_least least (score rule (report_in w r).values)) × ScoreFits rule (report_in w r).values) where
     abbrev own_entry : Entry
     own_entry = entry rule (report_in w r)
 
-    stays : top rule k hs ≡ top rule k (with_row w r hs) → Pass rule k (with_row w r hs) ns ss len bar least
-    stays e = record { lines = p.lines ∙ ap columns_of e; bar_is = p.bar_is; least-is = p.least-is }
+    stays : top rule k hs ≡ top rule k (with_row w r hs) → Pass rule k hs' ns ss len bar least
+    stays e = record { lines = p.lines ∙ ap columns_of (e ∙ ap (top rule k) (sym more)); bar_is = p.bar_is; least-is = p.least-is }
 
-    pub pass_out : ScoreFits rule (report_in w r).values → sc ≡ None → Pass rule k (with_row w r hs) ns ss len bar least
-    pass_out fits none =
+    pub pass_out : sc ≡ None → Pass rule k hs' ns ss len bar least
+    pass_out none =
         stays
         (⊎_elim (row_out rule k small hs w r)
         (λ low. row_skips rule k small hs w r low.0
         (ap (λ b. admits (above rule) b own_entry) (sym same_bar)
-        ∙ admits_under (above rule) bar own_entry (score_below rule) fits.sfits (ap (lt_z own_entry.score) (sym p.least-is) ∙ low.1)))
-        (from_none least (score rule (report_in w r).values) (sym is ∙ none)))
+        ∙ admits_under (above rule) bar own_entry (score_below rule) scored.1.sfits (ap (lt_z own_entry.score) (sym p.least-is) ∙ low.1)))
+        (from_none least (score rule (report_in w r).values) (sym scored.0 ∙ none)))
 
-    module _ {own : ℤ} (scored : sc ≡ Some own) (fits : mag own < 2147483648) where
+    module _ {own : ℤ} (some : sc ≡ Some own) where
       -- the report's entry as the code has it
       abbrev read : Entry
       read = record { name = get_or w.rows.names r 0; score = to_z w32 (of_z w32 own) }
 
       score-is : score rule (report_in w r).values ≡ Some own
-      score-is = from_is least (score rule (report_in w r).values) own (sym is ∙ scored)
+      score-is = from_is least (score rule (report_in w r).values) own (sym scored.0 ∙ some)
 
       read_is : read ≡ own_entry
       read_is =
-          ap₂ (λ n s. record { name = n; score = s }) (sym (name_back (get_or w.rows.names r 0))) (kept w32 own fits ∙ sym (ap points score-is))
+          ap₂ (λ n s. record { name = n; score = s }) (sym (name_back (get_or w.rows.names r 0)))
+          (ap (λ s. to_z w32 (of_z w32 s)) (sym (ap points score-is)) ∙ kept w32 (points (score rule (report_in w r).values)) scored.1.sfits)
 
-      test_is : admits (above rule) (bar_of (columns_of (top rule k hs)) k) own_entry ≡ admits (above rule) bar read
-      test_is = sym (ap₂ (admits (above rule)) same_bar read_is)
+      -- what is told of it
+      module _ {t : Bool} (told : t ≡ admits (above rule) bar read) where
+        test_is : admits (above rule) (bar_of (columns_of (top rule k hs)) k) own_entry ≡ t
+        test_is = sym (told ∙ ap₂ (admits (above rule)) same_bar read_is)
 
-      pub pass_skips : admits (above rule) bar read ≡ false → Pass rule k (with_row w r hs) ns ss len bar least
-      pass_skips h = stays (row_skips rule k small hs w r (ap is_scored score-is) (test_is ∙ h))
+        pub pass_skips : t ≡ false → Pass rule k hs' ns ss len bar least
+        pass_skips e = stays (row_skips rule k small hs w r (ap is_scored score-is) (test_is ∙ e))
 
-      pub pass_puts : {ns' : List ℕ} {ss' : List ℤ} {len' : ℕ} {bar' : Bar} {least' : ℤ} → admits (above rule) bar read ≡ true → Placing (above rule) read len k (lines_of ns ss) (lines_of ns' ss') len' → Roomy ns' ss' → bar' ≡ bar_at ns' ss' len' (eqb len' k) → least' ≡ least_at bar' → Pass rule k (with_row w r hs) ns' ss' len' bar' least'
-      pass_puts h placing room b l =
-          record {
-            lines = row_places rule k small hs w r read p.lines room placing read_is (ap is_scored score-is) (test_is ∙ h);
-            bar_is = b;
-            least-is = l;
-          }
+        pub pass_puts : t ≡ true → {ns' : List ℕ} {ss' : List ℤ} {len' : ℕ} {bar' : Bar} {s : ℤ} → Placing (above rule) read len k (lines_of ns ss) (lines_of ns' ss') len' × Roomy ns' ss' → bar' ≡ bar_at ns' ss' len' (eqb len' k) → mag s < 2147483648 → s ≡ least_at bar' → Pass rule k hs' ns' ss' len' bar' (to_z w32 (of_z w32 s))
+        pass_puts e {ns'} {ss'} {len'} {bar'} {s} placing b fits l =
+            record {
+              lines = row_places rule k small hs w r read p.lines placing.1 placing.0 read_is (ap is_scored score-is) (test_is ∙ e) ∙ ap (λ l. columns_of (top rule k l)) (sym more);
+              bar_is = b;
+              least-is = kept w32 s fits ∙ l;
+            }

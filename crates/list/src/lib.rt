@@ -205,14 +205,10 @@ fn upward<'a, 'b>(
     let mut len: usize = 0;
     let mut bar = bar_in(found, by, len, len == most);
     let mut least = bar.least();
-    let mut row: usize = 0;
-    let mut stop = end;
-    while row < stop {
-        let here = row;
-        row += 1;
-        let loss = rows.losses[here];
-        let shake = rows.shakes[here];
-        let name = rows.names[here];
+    for row in 0..end {
+        let loss = rows.losses[row];
+        let shake = rows.shakes[row];
+        let name = rows.names[row];
         let Some(score) = rule.score_from(loss, shake, name, least) else {
             continue;
         };
@@ -220,14 +216,13 @@ fn upward<'a, 'b>(
             continue;
         }
         if bar.turns(rule, score) {
-            stop = here;
-            continue;
+            return Passed { len, rows: row };
         }
         len = put_in(rule, found, by, len, most, name, score);
         bar = bar_in(found, by, len, len == most);
         least = bar.least();
     }
-    Passed { len, rows: stop }
+    Passed { len, rows: end }
 }
 
 // The best of the first `low` rows, which the arrays have, and of those from there to `high`, read from the last down: how
@@ -249,9 +244,7 @@ fn downward<'a, 'b>(
     let mut len = had;
     let mut bar = bar_in(found, by, len, len == most);
     let mut least = bar.least();
-    let mut row = high;
-    while low < row {
-        row -= 1;
+    for row in (low..high).rev() {
         let loss = rows.losses[row];
         let shake = rows.shakes[row];
         let name = rows.names[row];

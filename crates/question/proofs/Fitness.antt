@@ -7,11 +7,17 @@ use native.Mathlib.Nat.{mod-lt}
 use native.Mathlib.Omega.{arith}
 use borrow.Author.Tests.{leb-true, leb-false, le-leb, lt-leb, ltb-true, eq-eqb, ne_eqb}
 use lib.Dec.{leb, ltb, eqb}
+use lib.IntN.{ℤ}
 use lib.ListN.{get_or}
+use lib.Signed.{lt_z}
+use Rattle.std.specs.Prelude.{Option, Some, None}
+use Rattle.std.specs.Option.{option_eq}
+use Rattle.std.specs.Ordering.{int_eq}
 use Rattle.laws.specs.Whole.{equal}
 use Rattle.laws.proofs.Tests.{Tested, passed, failed, tested, and_both, and_true, and_after, and_stops, and_no}
 use Rattle.values.proofs.Names.{name_back}
 use Rattle.ranking.specs.declared.Rule.{Rule}
+use Rattle.ranking.specs.Cells.{score, is_scored, points}
 use Rattle.ranking.specs.Standing.{Held, Entry, is_counted, entry}
 use Rattle.window.specs.declared.Counts.{Counts}
 use Rattle.window.specs.declared.Window.{Window}
@@ -59,6 +65,17 @@ row_within {c} {m} h = omega (arith, mod-lt (m - 1) h.positive, h.within)
 
 -- ---- a line and the row of its number
 
+-- the library's test of scores is the rules'
+same_test : (a b : ℤ) → int_eq a b ≡ equal b a
+unfolding equal
+same_test a b = go (tested (lt_z a b)) (tested (lt_z b a))
+  where
+    go : Tested (lt_z a b) → Tested (lt_z b a) → int_eq a b ≡ equal b a
+    go (passed e) (passed f) = rw (e, f)
+    go (passed e) (failed f) = rw (e, f)
+    go (failed e) (passed f) = rw (e, f)
+    go (failed e) (failed f) = rw (e, f)
+
 module _ (w : Window) (rule : Rule) (e : Entry) (m : ℕ) (is : m ≡ e.name / 4097) where
   abbrev row : Held
   row = report_in w (row_of w.counts.size m)
@@ -90,6 +107,11 @@ module _ (w : Window) (rule : Rule) (e : Entry) (m : ℕ) (is : m ≡ e.name / 4
       by_row
       ∙ and_after (is_line_of rule e row) h
       ∙ and_after (equal e.score (entry rule row).score) (and_true counted (eq-eqb e.name (entry rule row).name (name ∙ sym row_name)))
+
+  -- the row's score is compared with the line's
+  pub line_read : holds_number w.counts m ≡ true → e.name ≡ get_or w.rows.names (row_of w.counts.size m) 0 → (own : Option ℤ) → score rule row.values ≡ own → option_eq int_eq own (Some e.score) ≡ held_as w rule e
+  line_read h name None z = sym (line_out (ap is_scored z))
+  line_read h name (Some s) z = same_test s e.score ∙ ap (equal e.score) (sym (ap points z)) ∙ sym (line_score h name (ap is_scored z))
 
 -- a list no longer than k is no longer than the smaller of k and what is held
 pub min_test : (len k held : ℕ) → len ≤ k → leb len (min k held) ≡ leb len held

@@ -131,28 +131,9 @@ module _ (q : Question) (small : q.k ≤ 16) (w : Window) where
           ∙ ap (λ hs. listing (lines q ++ entries q.rule hs)) (sym (only_yes (in_cell q.next) (report_in w row) (standing w row) t))
           ∙ ap rows (sym (if_not (standing w row) (report_in w row ∷ standing w row) z))
 
--- a list that is ranked first
-module _ (q first : Question) (small : q.k ≤ 16) (e : first ≡ with_list q (best (above q.rule) q.k (lines q))) (w : Window) where
-  first-lines : lines first ≡ best (above q.rule) q.k (lines q)
-  first-lines =
-      ap lines e
-      ∙ lines_back (best (above q.rule) q.k (lines q)) (omega (arith, length_best_le (above q.rule) (above_strict q.rule) q.k (lines q)))
-
-  -- and then rows are taken: as if it had not been
-  pub taken-same : (n : ℕ) → list_taken first w n ≡ list_taken q w n
-  taken-same n =
-      ap₂ (λ b l. with_list b (best (above b.rule) b.k (l ++ rows b))) e first-lines
-      ∙ ap (with_list q) (best-append (above q.rule) (above_strict q.rule) q.k (lines q) (rows q))
-    where
-      rows : Question → List Entry
-      rows b = entries b.rule (only (in_cell b.next) (standing w n))
-
   -- before the first row
-  pub taken_none : first ≡ list_taken first w 0
-  taken_none =
-      e
-      ∙ ap (λ l. with_list q (best (above q.rule) q.k l)) (sym (ap (λ l. lines q ++ l) (entries_none q.rule) ∙ append-nil (lines q)))
-      ∙ sym (taken-same 0)
+  pub taken_none : with_list q (best (above q.rule) q.k (lines q)) ≡ list_taken q w 0
+  taken_none = ap (λ l. with_list q (best (above q.rule) q.k l)) (sym (ap (λ l. lines q ++ l) (entries_none q.rule) ∙ append-nil (lines q)))
 
 -- ---- a step
 

@@ -154,21 +154,17 @@ impl Question {
     }
 
     // The report of one row joins the lines, if it lies in the next cell and counts.
+    #[tactic(auto, unfolding(crate::specs::Inner::taking))]
     fn taking(self, row: Row) -> Question
         ensures { result ≡ taking self (report_at row) }
     {
-        let name = row.name;
-        if Name::number(name) == 0 {
-            return self;
-        }
-        let next = self.next;
         let values = row.values();
-        let cell = Grid::cell(values) as u16;
-        if cell != next {
+        let cell = u16::from(Grid::cell(values));
+        if Name::number(row.name) == 0 || cell != self.next {
             return self;
         }
         match self.rule.score(values) {
-            Some(score) => self.cut_with(name, score),
+            Some(score) => self.cut_with(row.name, score),
             None => self,
         }
     }
@@ -179,13 +175,8 @@ impl Question {
         ensures { result ≡ list_taken self window row_count }
     {
         let mut list = self.ranked();
-        let mut row: usize = 0;
-        while row < Window::ROWS {
-            let loss = window.rows.losses[row];
-            let shake = window.rows.shakes[row];
-            let name = window.rows.names[row];
-            list = list.taking(Row { loss, shake, name });
-            row += 1;
+        for row in 0..Window::ROWS {
+            list = list.taking(window.rows.row(row));
         }
         list
     }
@@ -368,30 +359,17 @@ impl Question {
 }
 
 // The window holds the report of that name, which has its edition too, and it counts, with that score.
+#[tactic(auto, unfolding(crate::specs::Calls::held_as))]
 fn held_as(window: Window, rule: Rule, name: u32, score: i32) -> bool
     ensures { result ≡ held_as window rule (record { name = name; score = score }) }
 {
-    let counts = window.counts;
     let number = Name::number(name);
-    if !holds_number(counts, number) {
+    if !holds_number(window.counts, number) {
         return false;
     }
-    let row = ((number - 1) % (counts.size as u32)) as usize;
-    let loss = window.rows.losses[row];
-    let shake = window.rows.shakes[row];
-    let own_name = window.rows.names[row];
-    if name != own_name {
-        return false;
-    }
-    let held = Row {
-        loss,
-        shake,
-        name: own_name,
-    };
-    match rule.score(held.values()) {
-        Some(own) => score == own,
-        None => false,
-    }
+    let row = (number - 1) % u32::from(window.counts.size);
+    let held = window.rows.row(row as usize);
+    name == held.name && rule.score(held.values()) == Some(score)
 }
 
 // A window of these counts holds the report of that number.

@@ -53,6 +53,7 @@ impl Gauge {
             least: 0,
             low: 0,
         };
+        // Stays: `slots.map(..)` takes the array by value, which copies 32 questions on each entry of a report.
         let mut gauges = [none; Gauge::SLOTS];
         for i in 0..Gauge::SLOTS {
             gauges[i] = Gauge::of(slots[i]);
@@ -64,14 +65,10 @@ impl Gauge {
     pub fn in_use(slots: [Question; Gauge::SLOTS]) -> usize
         ensures { result ≡ in_use slot_count slots }
     {
-        // Stays: a loop down; tried `rposition`, and what it promises of a run from the back didn't give the contract.
-        let mut used: usize = Gauge::SLOTS;
-        while 0 < used {
-            let last = used - 1;
+        for last in (0..Gauge::SLOTS).rev() {
             if !idle(slots[last].k, slots[last].len) {
-                return used;
+                return last + 1;
             }
-            used = last;
         }
         0
     }
