@@ -2,11 +2,16 @@
 -- Assumes nothing.
 use mathlib.Core.Path.{◌≡◌, refl}
 use mathlib.Core.List.{[], ◌∷◌}
-use Rattle.std.proofs.Common.{None}
+use Rattle.std.proofs.Common.{ℕ, Option, Some, None}
 use Rattle.lines.specs.Words.{run_length}
 use Rattle.lines.specs.Numbers.{digit_of, with_digit, number_on, number_in}
+use Rattle.stamps.specs.declared.Stamp.{Stamp}
 use Rattle.stamps.specs.declared.Since.TheVariants.{At, Beyond}
-use Rattle.stamps.specs.Stamps.{a_stamp, bare, point_at, fraction_in, stamp_of, seconds_of, seconds_in, leap_day, day_of, is_date, day_in, is_clock, clock_in, seconds_from, dated_in, earliest, between, since_of}
+use Rattle.stamps.specs.Stamps.{bare, point_at, fraction_in, stamp_of, seconds_of, seconds_in, leap_day, day_of, is_date, day_in, is_clock, clock_in, seconds_from, dated_in, earliest, between, since_of}
+
+-- A time of so many nanoseconds.
+abbrev a_stamp : ℕ → Option Stamp
+a_stamp n = Some (record { nanos = n })
 
 -- `(1436509052.249713)`, and a fraction of one digit, which is tenths: `(0.1)`.
 micros : seconds_in (40 ∷ 49 ∷ 52 ∷ 51 ∷ 54 ∷ 53 ∷ 48 ∷ 57 ∷ 48 ∷ 53 ∷ 50 ∷ 46 ∷ 50 ∷ 52 ∷ 57 ∷ 55 ∷ 49 ∷ 51 ∷ 41 ∷ []) ≡ a_stamp 1436509052249713000

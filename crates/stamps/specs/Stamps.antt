@@ -9,9 +9,6 @@ use Rattle.stamps.specs.declared.Stamp.{Stamp}
 use Rattle.stamps.specs.declared.Since.{Since}
 use Rattle.stamps.specs.declared.Since.TheVariants.{Unknown, At, Beyond}
 
-abbrev pub a_stamp : ℕ → Option Stamp
-a_stamp n = Some (record { nanos = n })
-
 -- ---- reading
 
 -- The fraction of a second that up to nine digits behind the point stand for, in nanoseconds: those that aren't there are 0.
