@@ -1,18 +1,15 @@
 -- The texts of entries in a row: one more entry is its text behind the others'.
 -- Assumes nothing.
 use mathlib.Core.Path.{◌≡◌, refl, sym, ap, ap₂, ◌∙◌}
-use mathlib.Core.Logic.{⊎_elim}
 use mathlib.Core.List.{List, [], ◌∷◌, ◌++◌, append_assoc, append-nil}
 use Prim.Native.Nat.{ℕ, zero, suc, ◌+◌, ◌<◌, min}
 use native.Mathlib.Numerals.{add-one}
 use native.Mathlib.Omega.{arith}
 use lib.IntN.{ℤ}
-use lib.Dec.{ltb}
 use lib.ListN.{length, get_or, take, length-take}
 use lib.Seq.{take_all}
 use Rattle.std.proofs.lemmas.List.{take_min}
 use Rattle.text.specs.Text.{Entry, spaced, entry_text, entries_text, q_line, entries_of}
-use Rattle.text.proofs.Decimal.{below_or}
 
 entries_next : (ns : List ℕ) (ss : List ℤ) (d : ℤ) (i : ℕ) → i < length ns → i < length ss
     → entries_text (take i (entries_of ns ss)) ++ entry_text (record { number = get_or ns i 0; score = get_or ss i d }) ≡ entries_text (take (suc i) (entries_of ns ss))

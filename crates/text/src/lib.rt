@@ -47,6 +47,7 @@ pub fn put_signed(buf: &mut [u8], at: usize, z: i32) -> usize
 }
 
 // Stores the line of a search: the item, the slot and the steps.
+#[tactic(auto, using(crate::proofs::Places::in_a_row), unfolding(crate::specs::Text::s_line))]
 pub fn put_s(buf: &mut [u8], at: usize, item: u64, slot: u8, steps: u16) -> usize
     ensures value { result ≡ behind at (s_line item slot steps) }
     ensures buf_after { buf.new ≡ sets buf.old at (s_line item slot steps) }
@@ -59,6 +60,7 @@ pub fn put_s(buf: &mut [u8], at: usize, item: u64, slot: u8, steps: u16) -> usiz
 }
 
 // Stores the line of a refusal: the item and the refusal's number.
+#[tactic(auto, using(crate::proofs::Places::in_a_row), unfolding(crate::specs::Text::r_line))]
 pub fn put_r(buf: &mut [u8], at: usize, item: u64, code: u8) -> usize
     ensures value { result ≡ behind at (r_line item code) }
     ensures buf_after { buf.new ≡ sets buf.old at (r_line item code) }
@@ -104,6 +106,7 @@ fn put_entries(buf: &mut [u8], at: usize, numbers: &[u32], scores: &[i32]) -> us
 }
 
 // Stores a number and a score.
+#[tactic(auto, using(crate::proofs::Places::in_a_row), unfolding(crate::specs::Text::entry_text))]
 fn put_entry(buf: &mut [u8], at: usize, number: u32, score: i32) -> usize
     ensures value { result ≡ behind at (entry_text (record { number = number; score = score })) }
     ensures buf_after { buf.new ≡ sets buf.old at (entry_text (record { number = number; score = score })) }
@@ -114,6 +117,7 @@ fn put_entry(buf: &mut [u8], at: usize, number: u32, score: i32) -> usize
 }
 
 // Stores a space and a number.
+#[tactic(auto, using(crate::proofs::Places::in_a_row), unfolding(crate::specs::Text::spaced))]
 fn put_spaced(buf: &mut [u8], at: usize, n: u64) -> usize
     ensures value { result ≡ behind at (spaced n) }
     ensures buf_after { buf.new ≡ sets buf.old at (spaced n) }
