@@ -53,3 +53,10 @@ unfolding q_line
 q_line_shown slot n shown es e =
     ap₂ (λ (k : ℕ) (l : List Entry). 81 ∷ [] ++ spaced slot ++ spaced k ++ entries_text l ++ 10 ∷ []) (e ∙ sym (length-take n es))
     (ap (λ (k : ℕ). take k es) e ∙ take_min n es)
+
+-- The same over the numbers and scores themselves, of which there are 16.
+pub q_line_of : (slot n : ℕ) (ns : List ℕ) (ss : List ℤ) → length ns ≡ 16 → length ss ≡ 16
+    → q_line slot (take n (entries_of ns ss))
+    ≡ 81 ∷ [] ++ spaced slot ++ spaced (min n 16) ++ entries_text (entries_of (take (min n 16) ns) (take (min n 16) ss)) ++ 10 ∷ []
+q_line_of slot n ns ss hn hs =
+    rw (listed_first (min n 16) ns ss) (sym (q_line_shown slot n (min n 16) (entries_of ns ss) (omega (arith, length_listed ns ss))))

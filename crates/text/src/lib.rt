@@ -38,6 +38,7 @@ pub fn put_decimal(buf: &mut [u8], at: usize, n: u64) -> usize
 }
 
 // Stores a number that may be negative.
+#[tactic(auto, using(crate::proofs::Places::in_a_row, crate::proofs::Decimal::signed_minus, crate::proofs::Decimal::signed_plain))]
 pub fn put_signed(buf: &mut [u8], at: usize, z: i32) -> usize
     ensures value { result ≡ behind at (signed_decimal z) }
     ensures buf_after { buf.new ≡ sets buf.old at (signed_decimal z) }
@@ -74,6 +75,7 @@ pub fn put_r(buf: &mut [u8], at: usize, item: u64, code: u8) -> usize
 // Stores the line of a question's list: the slot, and the first n of the numbers with their scores, or all of them where
 // there are fewer.
 // Stays: numbers and scores in two arrays, as a question's list keeps them; pairs would cost a copy of both.
+#[tactic(auto, using(crate::proofs::Places::in_a_row, crate::proofs::Lists::q_line_of))]
 pub fn put_q(
     buf: &mut [u8],
     at: usize,
