@@ -9,7 +9,11 @@ use Prim.Native.Nat.{ℕ, zero, suc, pred, ◌+◌, ◌-◌, ◌*◌, ◌/◌, �
 use native.Mathlib.Omega.{arith}
 use borrow.Author.Tests.{lt-ltb, le-ltb, ltb-true, ltb-false}
 use lib.Dec.{ltb}
-use lib.IntN.{ℤ, pos, negsuc}
+use lib.IntN.{ℤ, pos, negsuc, nat_abs}
+use lib.Signed.{lt_z}
+use mir.Facts.{to_z-of_z}
+use mir.Syntax.{w32}
+use mir.Val.{SFits, to_z, of_z}
 use Rattle.text.specs.Text.{spelled, decimal, signed_decimal, read_on}
 
 pub below_or : (n m : ℕ) (b : Bool) → ltb n m ≡ b → (n < m) ⊎ (m ≤ n)
@@ -149,3 +153,21 @@ signed_injective (negsuc m) (pos n) e = absurd (decimal_no_minus n (decimal (suc
 signed_injective (negsuc m) (negsuc n) e =
     let h : suc m ≡ suc n = decimal_injective (suc m) (suc n) (ap tail e) in
     ap negsuc (ap pred h)
+
+below_nought : (z : ℤ) → lt_z z (pos 0) ≡ true → signed_decimal z ≡ 45 ∷ decimal (nat_abs z)
+unfolding signed_decimal
+below_nought (pos n) h = absurd (omega (arith, ltb-true n 0 h))
+below_nought (negsuc n) h = refl
+
+not_below : (z : ℤ) → lt_z z (pos 0) ≡ false → signed_decimal z ≡ decimal (nat_abs z)
+unfolding signed_decimal
+not_below (pos n) h = refl
+not_below (negsuc n) h = cc
+
+-- A minus where it is below 0, and the number without its sign, as the machine holds them.
+module _ (z : ℤ) (fits : SFits w32 z) where
+  pub signed_minus : lt_z (to_z w32 (of_z w32 z)) (pos 0) ≡ true → signed_decimal z ≡ 45 ∷ decimal (nat_abs (to_z w32 (of_z w32 z)))
+  signed_minus h = rw (to_z-of_z fits) (below_nought z (rw (to_z-of_z fits) at h))
+
+  pub signed_plain : lt_z (to_z w32 (of_z w32 z)) (pos 0) ≡ false → signed_decimal z ≡ decimal (nat_abs (to_z w32 (of_z w32 z)))
+  signed_plain h = rw (to_z-of_z fits) (not_below z (rw (to_z-of_z fits) at h))

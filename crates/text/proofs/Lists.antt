@@ -1,18 +1,15 @@
 -- The texts of entries in a row: one more entry is its text behind the others'.
 -- Assumes nothing.
 use mathlib.Core.Path.{◌≡◌, refl, sym, ap, ap₂, ◌∙◌}
-use mathlib.Core.Logic.{⊎_elim}
 use mathlib.Core.List.{List, [], ◌∷◌, ◌++◌, append_assoc, append-nil}
 use Prim.Native.Nat.{ℕ, zero, suc, ◌+◌, ◌<◌, min}
 use native.Mathlib.Numerals.{add-one}
 use native.Mathlib.Omega.{arith}
 use lib.IntN.{ℤ}
-use lib.Dec.{ltb}
 use lib.ListN.{length, get_or, take, length-take}
 use lib.Seq.{take_all}
 use Rattle.std.proofs.lemmas.List.{take_min}
 use Rattle.text.specs.Text.{Entry, spaced, entry_text, entries_text, q_line, entries_of}
-use Rattle.text.proofs.Decimal.{below_or}
 
 entries_next : (ns : List ℕ) (ss : List ℤ) (d : ℤ) (i : ℕ) → i < length ns → i < length ss
     → entries_text (take i (entries_of ns ss)) ++ entry_text (record { number = get_or ns i 0; score = get_or ss i d }) ≡ entries_text (take (suc i) (entries_of ns ss))
@@ -56,3 +53,10 @@ unfolding q_line
 q_line_shown slot n shown es e =
     ap₂ (λ (k : ℕ) (l : List Entry). 81 ∷ [] ++ spaced slot ++ spaced k ++ entries_text l ++ 10 ∷ []) (e ∙ sym (length-take n es))
     (ap (λ (k : ℕ). take k es) e ∙ take_min n es)
+
+-- The same over the numbers and scores themselves, of which there are 16.
+pub q_line_of : (slot n : ℕ) (ns : List ℕ) (ss : List ℤ) → length ns ≡ 16 → length ss ≡ 16
+    → q_line slot (take n (entries_of ns ss))
+    ≡ 81 ∷ [] ++ spaced slot ++ spaced (min n 16) ++ entries_text (entries_of (take (min n 16) ns) (take (min n 16) ss)) ++ 10 ∷ []
+q_line_of slot n ns ss hn hs =
+    rw (listed_first (min n 16) ns ss) (sym (q_line_shown slot n (min n 16) (entries_of ns ss) (omega (arith, length_listed ns ss))))

@@ -2,11 +2,11 @@
 -- Assumes nothing.
 use mathlib.Core.Path.{◌≡◌, refl, sym, ◌∙◌, ap, ap₂, subst}
 use mathlib.Core.Logic.{⊎_elim}
-use mathlib.Core.List.{List, [], ◌++◌}
+use mathlib.Core.List.{List, [], ◌∷◌, ◌++◌}
 use Prim.Native.Nat.{ℕ, ◌+◌, ◌-◌, ◌^◌, ◌≤◌, ◌<◌, min}
 use native.Mathlib.Omega.{arith}
 use lib.Dec.{ltb}
-use lib.ListN.{length, take, drop, length-append}
+use lib.ListN.{length, take, drop, set, length-append}
 use lib.Seq.{sets, length-sets, sets-eq}
 use Rattle.wire.proofs.Stores.{sets-append, sets_past}
 use Rattle.text.specs.Text.{behind}
@@ -30,9 +30,9 @@ stored e = put (e.value, e.buf_after)
 pub clauses : {l left : List ℕ} {at next : ℕ} {text : List ℕ} → Put l at text next left → record { value : next ≡ behind at text; buf_after : left ≡ sets l at text }
 clauses p = record { value = p.place; buf_after = p.bytes }
 
-behind-append : (at : ℕ) (v w : List ℕ) → behind (behind at v) w ≡ behind at (v ++ w)
+pub behind_append : (at : ℕ) (v w : List ℕ) → behind (behind at v) w ≡ behind at (v ++ w)
 unfolding behind
-behind-append at v w = rw length-append (omega arith)
+behind_append at v w = rw length-append (omega arith)
 
 -- A place that was cut to the largest `usize` lies past the end, as the true one does.
 sets_behind : (l : List ℕ) (at : ℕ) (v w : List ℕ) → length l < 2 ^ 64 → sets l (behind at v) w ≡ sets l (at + length v) w
@@ -43,11 +43,23 @@ sets_behind l at v w h =
     (λ m. sets_past l (min (at + length v) (2 ^ 64 - 1)) w (omega arith) ∙ sym (sets_past l (at + length v) w (omega arith)))
     (below_or (at + length v) (2 ^ 64) (ltb (at + length v) (2 ^ 64)) refl)
 
+pub sets_then : (l : List ℕ) (at : ℕ) (v w : List ℕ) → length l < 2 ^ 64 → sets (sets l at v) (behind at v) w ≡ sets l at (v ++ w)
+sets_then l at v w h = sets_behind (sets l at v) at v w (rw length-sets h) ∙ sym (sets-append l at v w)
+
+pub set_then : (l : List ℕ) (at b : ℕ) (w : List ℕ) → length l < 2 ^ 64 → sets (set l at b) (behind at (b ∷ [])) w ≡ sets l at (b ∷ w)
+set_then l at b w h = sets_then l at (b ∷ []) w h
+
+pub set_last : (l : List ℕ) (at : ℕ) (v : List ℕ) (b : ℕ) → length l < 2 ^ 64 → set (sets l at v) (behind at v) b ≡ sets l at (v ++ (b ∷ []))
+set_last l at v b h = sets_then l at v (b ∷ []) h
+
+-- What a function needs that stores its parts one behind the other.
+pub ruleset in_a_row = (behind_append, sets_then, set_then, set_last)
+
 -- One text behind another.
 pub then : {l l₁ l₂ : List ℕ} {at p q : ℕ} {v w : List ℕ} → length l < 2 ^ 64 → Put l at v p l₁ → Put l₁ p w q l₂ → Put l at (v ++ w) q l₂
 then {l} {l₁} {l₂} {at} {p} {q} {v} {w} h a b =
     record {
-      place = b.place ∙ ap (λ (k : ℕ). behind k w) a.place ∙ behind-append at v w;
+      place = b.place ∙ ap (λ (k : ℕ). behind k w) a.place ∙ behind_append at v w;
       bytes =
           b.bytes ∙ ap₂ (λ (r : List ℕ) (k : ℕ). sets r k w) a.bytes a.place
           ∙ sets_behind (sets l at v) at v w (rw length-sets h) ∙ sym (sets-append l at v w);

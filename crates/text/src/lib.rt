@@ -38,6 +38,7 @@ pub fn put_decimal(buf: &mut [u8], at: usize, n: u64) -> usize
 }
 
 // Stores a number that may be negative.
+#[tactic(auto, using(crate::proofs::Places::in_a_row, crate::proofs::Decimal::signed_minus, crate::proofs::Decimal::signed_plain))]
 pub fn put_signed(buf: &mut [u8], at: usize, z: i32) -> usize
     ensures value { result ≡ behind at (signed_decimal z) }
     ensures buf_after { buf.new ≡ sets buf.old at (signed_decimal z) }
@@ -47,6 +48,7 @@ pub fn put_signed(buf: &mut [u8], at: usize, z: i32) -> usize
 }
 
 // Stores the line of a search: the item, the slot and the steps.
+#[tactic(auto, using(crate::proofs::Places::in_a_row), unfolding(crate::specs::Text::s_line))]
 pub fn put_s(buf: &mut [u8], at: usize, item: u64, slot: u8, steps: u16) -> usize
     ensures value { result ≡ behind at (s_line item slot steps) }
     ensures buf_after { buf.new ≡ sets buf.old at (s_line item slot steps) }
@@ -59,6 +61,7 @@ pub fn put_s(buf: &mut [u8], at: usize, item: u64, slot: u8, steps: u16) -> usiz
 }
 
 // Stores the line of a refusal: the item and the refusal's number.
+#[tactic(auto, using(crate::proofs::Places::in_a_row), unfolding(crate::specs::Text::r_line))]
 pub fn put_r(buf: &mut [u8], at: usize, item: u64, code: u8) -> usize
     ensures value { result ≡ behind at (r_line item code) }
     ensures buf_after { buf.new ≡ sets buf.old at (r_line item code) }
@@ -72,6 +75,7 @@ pub fn put_r(buf: &mut [u8], at: usize, item: u64, code: u8) -> usize
 // Stores the line of a question's list: the slot, and the first n of the numbers with their scores, or all of them where
 // there are fewer.
 // Stays: numbers and scores in two arrays, as a question's list keeps them; pairs would cost a copy of both.
+#[tactic(auto, using(crate::proofs::Places::in_a_row, crate::proofs::Lists::q_line_of))]
 pub fn put_q(
     buf: &mut [u8],
     at: usize,
@@ -104,6 +108,7 @@ fn put_entries(buf: &mut [u8], at: usize, numbers: &[u32], scores: &[i32]) -> us
 }
 
 // Stores a number and a score.
+#[tactic(auto, using(crate::proofs::Places::in_a_row), unfolding(crate::specs::Text::entry_text))]
 fn put_entry(buf: &mut [u8], at: usize, number: u32, score: i32) -> usize
     ensures value { result ≡ behind at (entry_text (record { number = number; score = score })) }
     ensures buf_after { buf.new ≡ sets buf.old at (entry_text (record { number = number; score = score })) }
@@ -114,6 +119,7 @@ fn put_entry(buf: &mut [u8], at: usize, number: u32, score: i32) -> usize
 }
 
 // Stores a space and a number.
+#[tactic(auto, using(crate::proofs::Places::in_a_row), unfolding(crate::specs::Text::spaced))]
 fn put_spaced(buf: &mut [u8], at: usize, n: u64) -> usize
     ensures value { result ≡ behind at (spaced n) }
     ensures buf_after { buf.new ≡ sets buf.old at (spaced n) }
