@@ -23,10 +23,9 @@ pub struct Lines {
     pub len: u8,
 }
 
-// What an entry has to rank above to change a list that is full: its last line.
+// What an entry has to rank above to change a list that is full: its last line. A list that has room has none.
 #[derive(Clone, Copy)]
 pub struct Bar {
-    pub full: bool,
     pub name: u32,
     pub score: i32,
 }
@@ -129,8 +128,8 @@ impl Lines {
         true
     }
 
-    // The bar of a list for k lines; a list with no line has none.
-    pub fn bar(self, k: u8) -> Bar
+    // The bar of a list for k lines, if it has as many; a list with no line has none.
+    pub fn bar(self, k: u8) -> Option<Bar>
         ensures { result ≡ bar_of self k }
     {
         let n = self.line_count();
@@ -142,26 +141,35 @@ impl Lines {
 impl Bar {
     // No report with a lower score passes; most fail by that alone.
     #[tactic(auto, unfolding(crate::specs::Inner::least_at))]
-    fn least(self) -> i32
-        ensures { result ≡ least_at self }
+    fn least(bar: Option<Bar>) -> i32
+        ensures { result ≡ least_at bar }
     {
-        if self.full { self.score } else { i32::MIN }
+        match bar {
+            Some(bar) => bar.score,
+            None => i32::MIN,
+        }
     }
 
     // A full list's last line has that score, and of equal ones the newer goes first.
     #[tactic(auto, unfolding(crate::specs::Inner::turns))]
-    fn turns(self, rule: Rule, score: i32) -> bool
-        ensures { result ≡ turns rule self score }
+    fn turns(bar: Option<Bar>, rule: Rule, score: i32) -> bool
+        ensures { result ≡ turns rule bar score }
     {
-        score == self.score && self.full && rule.later_first()
+        match bar {
+            Some(bar) => score == bar.score && rule.later_first(),
+            None => false,
+        }
     }
 
     // A report passes: the number in its name isn't 0, and the list isn't full or it ranks above the last line.
     #[tactic(auto, unfolding(crate::specs::Inner::admits))]
-    fn admits(self, rule: Rule, name: u32, score: i32) -> bool
-        ensures { result ≡ admits (above rule) self (record { name = name; score = score }) }
+    fn admits(bar: Option<Bar>, rule: Rule, name: u32, score: i32) -> bool
+        ensures { result ≡ admits (above rule) bar (record { name = name; score = score }) }
     {
-        Name::number(name) != 0 && (!self.full || rule.above(name, score, self.name, self.score))
+        match bar {
+            Some(bar) => Name::number(name) != 0 && rule.above(name, score, bar.name, bar.score),
+            None => Name::number(name) != 0,
+        }
     }
 }
 
@@ -175,10 +183,7 @@ pub fn gathered<'a>(rule: Rule, k: u8, rows: &'a Rows, n: usize) -> Lines
     let mut found = [0u32; Lines::MOST];
     let mut by = [0i32; Lines::MOST];
     let up = upward(rule, most, rows, end, &mut found, &mut by);
-    let mut len = up.len;
-    if up.rows < end {
-        len = downward(rule, most, rows, up.rows, end, &mut found, &mut by, len);
-    }
+    let len = downward(rule, most, rows, up.rows, end, &mut found, &mut by, up.len);
     let count = len as u8;
     Lines {
         names: found,
@@ -204,7 +209,7 @@ fn upward<'a, 'b>(
 {
     let mut len: usize = 0;
     let mut bar = bar_in(found, by, len, len == most);
-    let mut least = bar.least();
+    let mut least = Bar::least(bar);
     for row in 0..end {
         let loss = rows.losses[row];
         let shake = rows.shakes[row];
@@ -212,15 +217,15 @@ fn upward<'a, 'b>(
         let Some(score) = rule.score_from(loss, shake, name, least) else {
             continue;
         };
-        if !bar.admits(rule, name, score) {
+        if !Bar::admits(bar, rule, name, score) {
             continue;
         }
-        if bar.turns(rule, score) {
+        if Bar::turns(bar, rule, score) {
             return Passed { len, rows: row };
         }
         len = put_in(rule, found, by, len, most, name, score);
         bar = bar_in(found, by, len, len == most);
-        least = bar.least();
+        least = Bar::least(bar);
     }
     Passed { len, rows: end }
 }
@@ -243,7 +248,7 @@ fn downward<'a, 'b>(
 {
     let mut len = had;
     let mut bar = bar_in(found, by, len, len == most);
-    let mut least = bar.least();
+    let mut least = Bar::least(bar);
     for row in (low..high).rev() {
         let loss = rows.losses[row];
         let shake = rows.shakes[row];
@@ -251,12 +256,12 @@ fn downward<'a, 'b>(
         let Some(score) = rule.score_from(loss, shake, name, least) else {
             continue;
         };
-        if !bar.admits(rule, name, score) {
+        if !Bar::admits(bar, rule, name, score) {
             continue;
         }
         len = put_in(rule, found, by, len, most, name, score);
         bar = bar_in(found, by, len, len == most);
-        least = bar.least();
+        least = Bar::least(bar);
     }
     len
 }
@@ -276,28 +281,24 @@ pub fn editions_in(names: [u32; Lines::MOST]) -> [u16; Lines::MOST]
 }
 
 // The bar of the first `len` lines of two arrays, where it is told whether they are a full list.
+#[tactic(auto, unfolding(crate::specs::Bars::bar_at))]
 fn bar_in<'a>(
     names: &'a [u32; Lines::MOST],
     scores: &'a [i32; Lines::MOST],
     len: usize,
     full: bool,
-) -> Bar
+) -> Option<Bar>
     requires { len ≤ most_lines }
     ensures { result ≡ bar_at names.now scores.now len full }
 {
-    if len == 0 {
-        return Bar {
-            full: false,
-            name: 0,
-            score: 0,
-        };
+    if len == 0 || !full {
+        return None;
     }
     let last = len - 1;
-    Bar {
-        full,
+    Some(Bar {
         name: names[last],
         score: scores[last],
-    }
+    })
 }
 
 // 0 in the places of two arrays from one on.

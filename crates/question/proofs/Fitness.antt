@@ -1,11 +1,11 @@
 -- A question's fitness, test by test as it is checked.
 -- Assumes nothing.
 use mathlib.Core.Path.{◌≡◌, sym, ap, ◌∙◌}
-use mathlib.Core.Bool.{Bool, true, false, ◌&&◌}
+use mathlib.Core.Bool.{true, false, ◌&&◌}
 use Prim.Native.Nat.{ℕ, ◌+◌, ◌-◌, ◌/◌, min, ◌≤◌, ◌<◌}
 use native.Mathlib.Nat.{mod-lt}
 use native.Mathlib.Omega.{arith}
-use borrow.Author.Tests.{leb-true, leb-false, le-leb, lt-leb, ltb-true, eq-eqb, ne_eqb}
+use borrow.Author.Tests.{leb-true, leb-false, le-leb, lt-leb, ltb-true, eq-eqb}
 use lib.Dec.{leb, ltb, eqb}
 use lib.IntN.{ℤ}
 use lib.ListN.{get_or}
@@ -24,17 +24,6 @@ use Rattle.window.specs.declared.Window.{Window}
 use Rattle.window.specs.Rows.{sized, row_of, report_in}
 use Rattle.window.proofs.Fitness.{size_range}
 use Rattle.question.specs.Calls.{holds_number, is_line_of, held_as}
-
--- ---- tests in a row
-
-pub third_fails : {a b c : Bool} (d e : Bool) → a ≡ true → b ≡ true → c ≡ false → a && b && c && d && e ≡ false
-third_fails d e p q r = rw (p, q, r)
-
-pub fourth_fails : {a b c d : Bool} (e : Bool) → a ≡ true → b ≡ true → c ≡ true → d ≡ false → a && b && c && d && e ≡ false
-fourth_fails e p q r s = rw (p, q, r, s)
-
-pub fifth_decides : {a b c d : Bool} (e : Bool) → a ≡ true → b ≡ true → c ≡ true → d ≡ true → a && b && c && d && e ≡ e
-fifth_decides e p q r s = rw (p, q, r, s)
 
 -- ---- numbers that are held
 
@@ -86,15 +75,6 @@ module _ (w : Window) (rule : Rule) (e : Entry) (m : ℕ) (is : m ≡ e.name / 4
 
   row_name : (entry rule row).name ≡ get_or w.rows.names (row_of w.counts.size m) 0
   row_name = name_back (get_or w.rows.names (row_of w.counts.size m) 0)
-
-  pub line_none : holds_number w.counts m ≡ false → held_as w rule e ≡ false
-  line_none h = by_row ∙ and_stops (is_line_of rule e row) h
-
-  pub line_other : (e.name ≡ get_or w.rows.names (row_of w.counts.size m) 0 → ⊥) → held_as w rule e ≡ false
-  line_other other =
-      by_row
-      ∙ and_no (holds_number w.counts m)
-      (and_stops (equal e.score (entry rule row).score) (and_no (is_counted rule row) (ne_eqb e.name (entry rule row).name (λ z. other (z ∙ row_name)))))
 
   pub line_out : is_counted rule row ≡ false → held_as w rule e ≡ false
   line_out out =

@@ -134,8 +134,10 @@ impl Question {
         if !self.rule.in_order(next) {
             return true;
         }
-        let bar = self.list().bar(self.k);
-        bar.full && self.rule.best_score(next as u8) < bar.score
+        match self.list().bar(self.k) {
+            Some(bar) => self.rule.best_score(next as u8) < bar.score,
+            None => false,
+        }
     }
 
     // A search anew: no lines, and the first cell is next.
@@ -230,17 +232,18 @@ impl Question {
     fn ended(self) -> Searched
         ensures { result ≡ ended_of self }
     {
-        let bar = self.list().bar(self.k);
-        if bar.full {
-            let reach = self.rule.reach(bar.score);
-            return Searched {
-                steps: reach.cells,
-                question: self.with_next(reach.next),
-            };
-        }
-        Searched {
-            steps: self.rule.most_steps(),
-            question: self.with_next(Grid::CELLS),
+        match self.list().bar(self.k) {
+            Some(bar) => {
+                let reach = self.rule.reach(bar.score);
+                Searched {
+                    steps: reach.cells,
+                    question: self.with_next(reach.next),
+                }
+            }
+            None => Searched {
+                steps: self.rule.most_steps(),
+                question: self.with_next(Grid::CELLS),
+            },
         }
     }
 

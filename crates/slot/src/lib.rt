@@ -267,6 +267,7 @@ pub fn fit(question: Question, window: Window) -> bool
 }
 
 // k is 0, and so is everything else.
+// Stays: tried `question == Question::fresh()`; the check didn't find that the arrays' comparison is `rest_blank`'s.
 #[tactic(auto, unfolding(crate::specs::Fitness::is_empty))]
 fn is_empty(question: Question) -> bool
     ensures { result ≡ is_empty question }
