@@ -45,30 +45,27 @@ untimed_there {tag} h i l = rw (ne_eqb tag 21 h)
 
 -- ---- where it begins
 
-module _ (room : List ℕ) (known : List Bool) (at : List ℕ) (i : ℕ) (bytes : List ℕ) (last : Begun) where
+module _ (room : List ℕ) (times : Times) (i : ℕ) (bytes : List ℕ) (last : Begun) where
   abbrev lent : Stations
-  lent = stations_in room known at
-
-  abbrev times : Times
-  times = record { known = known; at = at }
+  lent = stations_in room times
 
   abbrev same_as : Begun
   same_as = record { place = i; refusal = 0; timed = last.timed; known = last.known; at = last.at }
 
   -- Without a time nothing is met, and nothing put back.
   pub untimed_begins : {tag : ℕ} → (tag ≡ 21 → ⊥) → (last.timed ≡ i → ⊥)
-      → Begins lent (frame_of tag (part (i + 3) (frame_size tag) bytes)) (i + (3 + frame_size tag)) last same_as room known at
+      → Begins lent (frame_of tag (part (i + 3) (frame_size tag) bytes)) (i + (3 + frame_size tag)) last same_as room times
   untimed_begins {tag} h other =
-      subst (λ (f : Timed). Begins lent f (i + (3 + frame_size tag)) last same_as room known at) (untimed_there h i bytes)
+      subst (λ (f : Timed). Begins lent f (i + (3 + frame_size tag)) last same_as room times) (untimed_there h i bytes)
       (record {
         ends = omega (arith, twelve h);
         due = inr refl;
         stops = λ n. absurd (n refl);
         goes_on =
-            λ z a room₁ known₁ at₁ e f k l.
-            let t = untimed-takes room known at (frame_in (part (i + 3) 12 bytes)).frame e f in
+            λ z a room₁ left₁ e f k.
+            let t = untimed-takes room times (frame_in (part (i + 3) 12 bytes)).frame e f in
             let s = stay (is_kept a) (put_last times (sender_of (frame_in (part (i + 3) 12 bytes)).frame.identifier) (record { known = last.known; at = last.at })) in
-            record { answers = t.answers; sessions = t.sessions; knows = k ∙ ap (λ (x : Times). x.known) s ∙ t.knows; times = l ∙ ap (λ (x : Times). x.at) s ∙ t.times };
+            record { answers = t.answers; sessions = t.sessions; times = k ∙ s ∙ t.times };
       })
     where
       stay : (y : Bool) (x : Times) → cond y times (cond (eqb last.timed i) x times) ≡ times
@@ -78,20 +75,19 @@ module _ (room : List ℕ) (known : List Bool) (at : List ℕ) (i : ℕ) (bytes 
   abbrev met_as : Met → Begun
   met_as m = record { place = i + 4; refusal = m.refusal; timed = i + 4; known = m.last.known; at = m.last.at }
 
-  module _ {m : Met} {q : List ℕ} {ks : List Bool} {ts : List ℕ} where
-    pub timed_begins : {tag : ℕ} → tag ≡ 21 → length room ≡ room_bytes → (v : List ℕ) → v ≡ part (i + 3) 16 bytes → Meets lent (number (part 0 4 v)) (number (part 4 4 v)) (part 8 8 v) m q ks ts
-        → Begins lent (frame_of tag (part (i + 3) (frame_size tag) bytes)) (i + (3 + frame_size tag)) last (met_as m) q ks ts
+  module _ {m : Met} {q : List ℕ} {ts : Times} where
+    pub timed_begins : {tag : ℕ} → tag ≡ 21 → length room ≡ room_bytes → (v : List ℕ) → v ≡ part (i + 3) 16 bytes → Meets lent (number (part 0 4 v)) (number (part 4 4 v)) (part 8 8 v) m q ts
+        → Begins lent (frame_of tag (part (i + 3) (frame_size tag) bytes)) (i + (3 + frame_size tag)) last (met_as m) q ts
     timed_begins {tag} e long v e-v met =
-        subst (λ (f : Timed). Begins lent f (i + (3 + frame_size tag)) last (met_as m) q ks ts) (ap timed_in e-v ∙ timed_there e i bytes)
+        subst (λ (f : Timed). Begins lent f (i + (3 + frame_size tag)) last (met_as m) q ts) (ap timed_in e-v ∙ timed_there e i bytes)
         (record {
           ends = omega (arith, sixteen e);
           due = inl refl;
-          stops = λ n. met-refused room known at (number (part 0 4 v)) (number (part 4 4 v)) (part 8 8 v) long met n;
+          stops = λ n. met-refused room times (number (part 0 4 v)) (number (part 4 4 v)) (part 8 8 v) long met n;
           goes_on =
-              λ z a room₁ known₁ at₁ e f k l.
-              let left : Times = record { known = ks; at = ts } in
-              let s = back (is_kept a) left (put_last left (sender_of (number (part 4 4 v))) m.last) in
-              met-taken room known at (number (part 0 4 v)) (number (part 4 4 v)) (part 8 8 v) long met z e f (k ∙ ap (λ (x : Times). x.known) s) (l ∙ ap (λ (x : Times). x.at) s);
+              λ z a room₁ left₁ e f k.
+              let s = back (is_kept a) ts (put_last ts (sender_of (number (part 4 4 v))) m.last) in
+              met-taken room times (number (part 0 4 v)) (number (part 4 4 v)) (part 8 8 v) long met z e f (k ∙ s);
         })
       where
         back : (y : Bool) (x z : Times) → cond y x (cond (eqb (i + 4) (i + 4)) z x) ≡ cond y x z
@@ -99,14 +95,14 @@ module _ (room : List ℕ) (known : List Bool) (at : List ℕ) (i : ℕ) (bytes 
 
 -- ---- and then
 
-module _ {b : Stations} {f : Timed} {end : ℕ} {last g : Begun} {room : List ℕ} {known : List Bool} {at : List ℕ} (begins : Begins b f end last g room known at) {c : Counts} where
-  pub hears_stopped : (g.refusal ≡ 0 → ⊥) → Hears b f c (not_brought true g.refusal) room known at
+module _ {b : Stations} {f : Timed} {end : ℕ} {last g : Begun} {room : List ℕ} {left : Times} (begins : Begins b f end last g room left) {c : Counts} where
+  pub hears_stopped : (g.refusal ≡ 0 → ⊥) → Hears b f c (not_brought true g.refusal) room left
   hears_stopped n = record { answer = Refused g.refusal; takes = begins.stops n; brings = refl }
 
-  pub hears_then : g.refusal ≡ 0 → {h : Frame} {r : Brought} {room₁ : List ℕ} {known₁ : List Bool} {at₁ : List ℕ} → h ≡ f.frame → HearsAt (stations_in room known at) g h c r room₁ known₁ at₁ → Hears b f c r room₁ known₁ at₁
-  hears_then z {h} {r} {room₁} {known₁} {at₁} e heard =
-      let x = subst (λ (y : Frame). HearsAt (stations_in room known at) g y c r room₁ known₁ at₁) e heard in
-      record { answer = x.answer; takes = begins.goes_on z x.answer room₁ known₁ at₁ x.answers x.sessions x.knows x.times; brings = x.brings }
+  pub hears_then : g.refusal ≡ 0 → {h : Frame} {r : Brought} {room₁ : List ℕ} {left₁ : Times} → h ≡ f.frame → HearsAt (stations_in room left) g h c r room₁ left₁ → Hears b f c r room₁ left₁
+  hears_then z {h} {r} {room₁} {left₁} e heard =
+      let x = subst (λ (y : Frame). HearsAt (stations_in room left) g y c r room₁ left₁) e heard in
+      record { answer = x.answer; takes = begins.goes_on z x.answer room₁ left₁ x.answers x.sessions x.times; brings = x.brings }
 
 -- The frame behind its place is the item's.
 behind-time : (i : ℕ) (l : List ℕ) → drop 4 (part (i + 3) 16 l) ≡ part (i + 7) 12 l
@@ -140,7 +136,7 @@ pub due-later : (long i timed : ℕ) → Due long i timed → (j : ℕ) → i �
 due-later long i timed (inl h) j k = inl (omega (arith, h, k))
 due-later long i timed (inr h) j k = inr h
 
-pub due-next : (long i n : ℕ) {b : Stations} {f : Timed} {last g : Begun} {room : List ℕ} {known : List Bool} {at : List ℕ} → Begins b f (i + (3 + n)) last g room known at → Due long i last.timed
+pub due-next : (long i n : ℕ) {b : Stations} {f : Timed} {last g : Begun} {room : List ℕ} {left : Times} → Begins b f (i + (3 + n)) last g room left → Due long i last.timed
     → Due long (g.place + 15) g.timed
 due-next long i n {last = last} {g = g} begins d = go begins.due
   where

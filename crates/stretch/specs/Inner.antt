@@ -64,9 +64,9 @@ unfoldable pub frame_of : ℕ → List ℕ → Timed
 frame_of tag v = cond (eqb tag 21) (timed_in v) (frame_in v)
 
 -- A frame is taken where the sessions and times stand: what it brings to a window of these counts, and what is left.
-pub record Hears (b : Stations) (f : Timed) (c : Counts) (r : Brought) (room : List ℕ) (known : List Bool) (at : List ℕ) : Type 0 where
+pub record Hears (b : Stations) (f : Timed) (c : Counts) (r : Brought) (room : List ℕ) (left : Times) : Type 0 where
   pub answer : Answer
-  pub takes : Takes b f answer room known at
+  pub takes : Takes b f answer room left
   pub brings : r ≡ brought answer c
 
 -- The last times where a frame that began so is refused, and where it is answered so: what its sender's was is put back, if the frame had a time.
@@ -77,25 +77,24 @@ abbrev pub times_by : Begun → Answer → ℕ → Times → Times
 times_by g a id ts = cond (is_kept a) ts (put_back g id ts)
 
 -- The same in two parts. The frame's time is met first: it refuses the frame; or else, whatever the frame's session then answers and leaves, that is what the frame is answered and leaves.
-pub record Begins (b : Stations) (f : Timed) (end : ℕ) (last r : Begun) (room : List ℕ) (known : List Bool) (at : List ℕ) : Type 0 where
+pub record Begins (b : Stations) (f : Timed) (end : ℕ) (last r : Begun) (room : List ℕ) (left : Times) : Type 0 where
   pub ends : r.place + 15 ≡ end
   pub due : (r.timed ≡ r.place) ⊎ (r.timed ≡ last.timed)
-  pub stops : (r.refusal ≡ 0 → ⊥) → Takes b f (Refused r.refusal) room known at
-  pub goes_on : r.refusal ≡ 0 → (a : Answer) (room₁ : List ℕ) (known₁ : List Bool) (at₁ : List ℕ) → a ≡ answer_to (sessions_in room) f.frame → room₁ ≡ room_of (sessions_after (sessions_in room) f.frame)
-      → known₁ ≡ (times_by r a f.frame.identifier (record { known = known; at = at })).known → at₁ ≡ (times_by r a f.frame.identifier (record { known = known; at = at })).at → Takes b f a room₁ known₁ at₁
+  pub stops : (r.refusal ≡ 0 → ⊥) → Takes b f (Refused r.refusal) room left
+  pub goes_on : r.refusal ≡ 0 → (a : Answer) (room₁ : List ℕ) (left₁ : Times) → a ≡ answer_to (sessions_in room) f.frame → room₁ ≡ room_of (sessions_after (sessions_in room) f.frame)
+      → left₁ ≡ times_by r a f.frame.identifier left → Takes b f a room₁ left₁
 
 -- Then its sender's session takes it.
-pub record HearsAt (b : Stations) (g : Begun) (f : Frame) (c : Counts) (r : Brought) (room : List ℕ) (known : List Bool) (at : List ℕ) : Type 0 where
+pub record HearsAt (b : Stations) (g : Begun) (f : Frame) (c : Counts) (r : Brought) (room : List ℕ) (left : Times) : Type 0 where
   pub answer : Answer
   pub answers : answer ≡ answer_to b.sessions f
   pub sessions : room ≡ room_of (sessions_after b.sessions f)
-  pub knows : known ≡ (times_by g answer f.identifier b.times).known
-  pub times : at ≡ (times_by g answer f.identifier b.times).at
+  pub times : left ≡ times_by g answer f.identifier b.times
   pub brings : r ≡ brought answer c
 
--- The log of which these bytes are the sessions, and these the last times.
-abbrev pub log_in : Standing → List ℕ → List Bool → List ℕ → Log
-log_in s bus known lasts = record { items = s.items; board = s.board; sessions = sessions_in bus; times = record { known = known; at = lasts } }
+-- The log of which these bytes are the sessions, and these are the last times.
+abbrev pub log_in : Standing → List ℕ → Times → Log
+log_in s bus times = record { items = s.items; board = s.board; sessions = sessions_in bus; times = times }
 
 -- The same with the sessions in bytes.
 pub record Runs (from : Standing) (log : Log) (bytes room : List ℕ) (r : Standing) (log₁ : Log) (left : List ℕ) : Type 0 where

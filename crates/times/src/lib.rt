@@ -67,18 +67,11 @@ impl Times {
 
     // Takes a frame that came at a time, in milliseconds: as its sender's session does, which is closed first where more than
     // 750 ms lie between; a frame that isn't refused sets that sender's time. Nothing of other senders is touched.
-    pub fn take(
-        room: &mut [u8; Bus::ROOM],
-        known: &mut [bool; Bus::SENDERS],
-        at: &mut [u32; Bus::SENDERS],
-        time: u32,
-        id: u32,
-        data: &[u8],
-    ) -> Answer
-        ensures { Takes (stations_in room.old known.old at.old) (timed_at time id «data».now) result room.new known.new at.new }
+    pub fn take(&mut self, room: &mut [u8; Bus::ROOM], time: u32, id: u32, data: &[u8]) -> Answer
+        ensures { Takes (stations_in room.old self.old) (timed_at time id «data».now) result room.new self.new }
     {
         whole(room);
-        timed(room, known, at, time, id, data)
+        self.timed(room, time, id, data)
     }
 }
 
@@ -87,42 +80,29 @@ impl Times {
 impl Times {
     // What a time settles before its frame is taken. It refuses a frame that is before the last time, or at one that is unfit, by its
     // first refusal; else it closes the session where more than 750 ms lie between, and sets the time.
-    pub fn meet(
-        room: &mut [u8; Bus::ROOM],
-        known: &mut [bool; Bus::SENDERS],
-        at: &mut [u32; Bus::SENDERS],
-        time: u32,
-        id: u32,
-        data: &[u8],
-    ) -> Met
-        ensures { Meets (stations_in room.old known.old at.old) time id «data».now result room.new known.new at.new }
+    pub fn meet(&mut self, room: &mut [u8; Bus::ROOM], time: u32, id: u32, data: &[u8]) -> Met
+        ensures { Meets (stations_in room.old self.old) time id «data».now result room.new self.new }
     {
         whole(room);
-        meet_in(room, known, at, time, id, data)
+        self.meet_in(room, time, id, data)
     }
 
     // Stores another last time of that sender; senders 254 and 255 have none.
-    pub fn put(
-        known: &mut [bool; Bus::SENDERS],
-        at: &mut [u32; Bus::SENDERS],
-        sender: u8,
-        last: Last,
-    )
-        ensures known_value { known.new ≡ (put_last (record { known = known.old; at = at.old }) sender last).known }
-        ensures at_after { at.new ≡ (put_last (record { known = known.old; at = at.old }) sender last).at }
+    pub fn put(&mut self, sender: u8, last: Last)
+        ensures { self.new ≡ put_last self.old sender last }
     {
         let k = sender as usize;
         if k < Bus::SENDERS {
-            known[k] = last.known;
-            at[k] = last.at;
+            self.known[k] = last.known;
+            self.at[k] = last.at;
         }
     }
 }
 
 impl Times {
     // A sender's last time; senders 254 and 255 have none.
-    pub fn of(self, sender: u8) -> Last
-        ensures { result ≡ last_of sender self }
+    pub fn of(&self, sender: u8) -> Last
+        ensures { result ≡ last_of sender self.now }
     {
         let k = sender as usize;
         if Bus::SENDERS <= k {
@@ -131,11 +111,9 @@ impl Times {
                 at: 0,
             };
         }
-        let known = self.known;
-        let at = self.at;
         Last {
-            known: known[k],
-            at: at[k],
+            known: self.known[k],
+            at: self.at[k],
         }
     }
 
@@ -246,63 +224,50 @@ fn whole(room: &mut [u8])
     ensures { (length room.old ≡ room_bytes) × (room.new ≡ room.old) }
 {}
 
-// `Times::take` on bytes that are known to be a room.
-fn timed(
-    room: &mut [u8; Bus::ROOM],
-    known: &mut [bool; Bus::SENDERS],
-    at: &mut [u32; Bus::SENDERS],
-    time: u32,
-    id: u32,
-    data: &[u8],
-) -> Answer
-    requires { length room.old ≡ room_bytes }
-    ensures { Takes (stations_in room.old known.old at.old) (timed_at time id «data».now) result room.new known.new at.new }
-{
-    let met = Times::meet(room, known, at, time, id, data);
-    if met.refusal != 0 {
-        return Answer::Refused(met.refusal);
+impl Times {
+    // `take` on bytes that are known to be a room.
+    fn timed(&mut self, room: &mut [u8; Bus::ROOM], time: u32, id: u32, data: &[u8]) -> Answer
+        requires { length room.old ≡ room_bytes }
+        ensures { Takes (stations_in room.old self.old) (timed_at time id «data».now) result room.new self.new }
+    {
+        let met = self.meet(room, time, id, data);
+        if met.refusal != 0 {
+            return Answer::Refused(met.refusal);
+        }
+        let answer = Bus::take(room, id, data);
+        if kept(answer) {
+            return answer;
+        }
+        self.put((id % 256) as u8, met.last);
+        answer
     }
-    let answer = Bus::take(room, id, data);
-    if kept(answer) {
-        return answer;
-    }
-    let last = met.last;
-    Times::put(known, at, (id % 256) as u8, last);
-    answer
-}
 
-// `Times::meet` on bytes that are known to be a room.
-fn meet_in(
-    room: &mut [u8; Bus::ROOM],
-    known: &mut [bool; Bus::SENDERS],
-    at: &mut [u32; Bus::SENDERS],
-    time: u32,
-    id: u32,
-    data: &[u8],
-) -> Met
-    requires { length room.old ≡ room_bytes }
-    ensures { Meets (stations_in room.old known.old at.old) time id «data».now result room.new known.new at.new }
-{
-    let k = (id % 256) as usize;
-    if Bus::SENDERS <= k {
-        return Met {
-            refusal: 0,
-            last: Last {
-                known: false,
-                at: 0,
-            },
+    // `meet` on bytes that are known to be a room.
+    fn meet_in(&mut self, room: &mut [u8; Bus::ROOM], time: u32, id: u32, data: &[u8]) -> Met
+        requires { length room.old ≡ room_bytes }
+        ensures { Meets (stations_in room.old self.old) time id «data».now result room.new self.new }
+    {
+        let k = (id % 256) as usize;
+        if Bus::SENDERS <= k {
+            return Met {
+                refusal: 0,
+                last: Last {
+                    known: false,
+                    at: 0,
+                },
+            };
+        }
+        let last = Last {
+            known: self.known[k],
+            at: self.at[k],
         };
+        let refusal = stopped(room, last, time, id, data);
+        if refusal == 0 {
+            self.known[k] = true;
+            self.at[k] = time;
+        }
+        Met { refusal, last }
     }
-    let last = Last {
-        known: known[k],
-        at: at[k],
-    };
-    let refusal = stopped(room, last, time, id, data);
-    if refusal == 0 {
-        known[k] = true;
-        at[k] = time;
-    }
-    Met { refusal, last }
 }
 
 // The refusal of a frame that came at a time, where this is its sender's last one; 0 for none, and then the session is closed where the frame

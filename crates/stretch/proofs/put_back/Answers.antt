@@ -1,15 +1,14 @@
 -- The test is that of the definition.
 -- Assumes nothing.
-use mathlib.Core.Path.{refl}
 use borrow.Author.Tests.{eq-eqb, ne_eqb}
 use Rattle.stretch.proofs.put_back.Goals as goal
 
 pub returns-then-begun : goal.returns-then-begun
 returns-then-begun c =
     let g = c.args.begun in
-    rw (eq-eqb c.args.begun.timed c.args.begun.place c.if-begun.true) (record { known_value = c.put.ensures.known_value; lasts_after = c.put.ensures.at_after })
+    rw (eq-eqb c.args.begun.timed c.args.begun.place c.if-begun.true) c.put.ensures
 
 pub returns-else-begun : goal.returns-else-begun
 returns-else-begun c =
     let g = c.args.begun in
-    rw (ne_eqb c.args.begun.timed c.args.begun.place c.if-begun.false) (record { known_value = refl; lasts_after = refl })
+    rw (ne_eqb c.args.begun.timed c.args.begun.place c.if-begun.false)

@@ -33,7 +33,7 @@ loop-gauges-init c =
         same = refl;
         room = c.requires;
         all_slots = c.well_formed.0.1.1.1.0.1.1.1.0.1.0.1;
-        went = went_none (log_in c.args.from c.args.bus.now c.args.known.now c.args.lasts.now) c.args.bytes.now c.args.out.now c.args.from.at (search rules);
+        went = went_none (log_in c.args.from c.args.bus.now c.args.times.now) c.args.bytes.now c.args.out.now c.args.from.at (search rules);
         gauged = gauged_of c.args.from.board.slots c.of_slots-gauges.ensures c.in_use-used.ensures;
         rowed = rowed_of c.args.from.board.window.rows.names c.rows_in-filled.ensures;
       },
@@ -238,4 +238,4 @@ shape_of-out c = c.loop-gauges.invariant.0.same
 pub returns : goal.returns
 returns c =
     let a = c.args in
-    stands_runs c.args.from (log_in c.args.from c.args.bus.now c.args.known.now c.args.lasts.now) c.args.bytes.now c.args.out.now c.loop-gauges.invariant.0 c.goes_on.ensures c.loop-gauges-test.false c.end_of_run.ensures
+    stands_runs c.args.from (log_in c.args.from c.args.bus.now c.args.times.now) c.args.bytes.now c.args.out.now c.loop-gauges.invariant.0 c.goes_on.ensures c.loop-gauges-test.false c.end_of_run.ensures
