@@ -1,5 +1,5 @@
 -- What the inner functions of `stretch` answer, and what its proofs speak of; no public contract and no promise cites it.
-use Rattle.std.specs.Prelude.{ℕ, ◌+◌, Bool, true, false, not, cond, ◌≡◌, ◌⊎◌, List, length, leb, eqb}
+use Rattle.std.specs.Prelude.{ℕ, ◌+◌, Bool, true, false, not, cond, ◌≡◌, ◌⊎◌, Option, None, Some, List, length, leb, eqb}
 use Rattle.std.proofs.lemmas.List.Edits.{sets}
 use Rattle.window.specs.declared.Counts.{Counts}
 use Rattle.window.specs.declared.Row.{Row}
@@ -15,6 +15,7 @@ use Rattle.joining.specs.declared.Answer.TheVariants.{Refused, Kept, Complete}
 use Rattle.bus.specs.Room.{sessions_in, room_of}
 use Rattle.joining.specs.Frame.{Frame, sender_of}
 use Rattle.joining.specs.Run.{sessions_after, answer_to}
+use Rattle.times.specs.declared.Last.{Last}
 use Rattle.times.specs.declared.Times.{Times}
 use Rattle.times.specs.Timed.{is_kept, put_last}
 use Rattle.times.specs.Run.{Timed, Stations, Takes}
@@ -70,16 +71,25 @@ pub record Hears (b : Stations) (f : Timed) (c : Counts) (r : Brought) (room : L
   pub brings : r ≡ brought answer c
 
 -- The last times where a frame that began so is refused, and where it is answered so: what its sender's was is put back, if the frame had a time.
+abbrev pub put_back_at : ℕ → Option (ℕ × Last) → ℕ → Times → Times
+put_back_at place None id ts = ts
+put_back_at place (Some m) id ts = cond (eqb m.0 place) (put_last ts (sender_of id) m.1) ts
+
 abbrev pub put_back : Begun → ℕ → Times → Times
-put_back g id ts = cond (eqb g.timed g.place) (put_last ts (sender_of id) (record { known = g.known; at = g.at })) ts
+put_back g id ts = put_back_at g.place g.last id ts
 
 abbrev pub times_by : Begun → Answer → ℕ → Times → Times
 times_by g a id ts = cond (is_kept a) ts (put_back g id ts)
 
+-- The last frame that had a time, if there was one, stood elsewhere.
+abbrev pub Elsewhere : ℕ → Option (ℕ × Last) → Type 0
+Elsewhere place None = Unit
+Elsewhere place (Some m) = m.0 ≡ place → ⊥
+
 -- The same in two parts. The frame's time is met first: it refuses the frame; or else, whatever the frame's session then answers and leaves, that is what the frame is answered and leaves.
 pub record Begins (b : Stations) (f : Timed) (end : ℕ) (last r : Begun) (room : List ℕ) (left : Times) : Type 0 where
   pub ends : r.place + 15 ≡ end
-  pub due : (r.timed ≡ r.place) ⊎ (r.timed ≡ last.timed)
+  pub due : ((m : Last) × (r.last ≡ Some (r.place, m))) ⊎ (r.last ≡ last.last)
   pub stops : (r.refusal ≡ 0 → ⊥) → Takes b f (Refused r.refusal) room left
   pub goes_on : r.refusal ≡ 0 → (a : Answer) (room₁ : List ℕ) (left₁ : Times) → a ≡ answer_to (sessions_in room) f.frame → room₁ ≡ room_of (sessions_after (sessions_in room) f.frame)
       → left₁ ≡ times_by r a f.frame.identifier left → Takes b f a room₁ left₁

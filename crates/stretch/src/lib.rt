@@ -12,7 +12,7 @@ ghost use Rattle.window.specs.Rows.{row_count};
 ghost use Rattle.journal.specs.Log.{frame_in};
 ghost use Rattle.coming.specs.Coming.{size_at};
 ghost use Rattle.coming.specs.Inner.{frame_size};
-ghost use Rattle.stretch.specs.Inner.{rows_used, Stored, not_brought, brought, window_of, frame_of, put_back, times_by, Begins, HearsAt, log_in, Runs};
+ghost use Rattle.stretch.specs.Inner.{rows_used, Stored, not_brought, brought, window_of, frame_of, put_back, times_by, Elsewhere, Begins, HearsAt, log_in, Runs};
 ghost use Rattle.stretch.specs.Doing.{Does};
 
 use board::{Arrival, Board};
@@ -51,9 +51,7 @@ struct Brought {
 struct Begun {
     place: usize,
     refusal: u8,
-    timed: usize,
-    known: bool,
-    at: u32,
+    last: Option<(usize, Last)>,
 }
 
 // Where `run` starts and ends: the items' count and the board, how many bytes were taken, and the place behind the text.
@@ -122,9 +120,7 @@ fn run(
     let mut begun = Begun {
         place: 0,
         refusal: 0,
-        timed: bytes.len(),
-        known: false,
-        at: 0,
+        last: None,
     };
     while coming::goes_on(counts.size, bytes, i, out.len(), at) {
         items = journal::next_item(items);
@@ -238,27 +234,22 @@ fn begin(
     i: usize,
     last: Begun,
 ) -> Begun
-    requires { (i + (3 + frame_size tag) ≤ length bytes.now) × (length room.old ≡ room_bytes) × (last.timed ≡ i → ⊥) }
+    requires { (i + (3 + frame_size tag) ≤ length bytes.now) × (length room.old ≡ room_bytes) × Elsewhere i last.last }
     ensures { Begins (stations_in room.old times.old) (frame_of tag (part (i + 3) (frame_size tag) bytes.now)) (i + (3 + frame_size tag)) last result room.new times.new }
 {
     if tag != Item::TIMED {
         return Begun {
             place: i,
             refusal: 0,
-            timed: last.timed,
-            known: last.known,
-            at: last.at,
+            last: last.last,
         };
     }
     let met = meet(room, times, &bytes[i + Field::HEAD..i + Item::TIMED_BYTES]);
-    let found = met.last;
     let place = i + Item::TIME;
     Begun {
         place,
         refusal: met.refusal,
-        timed: place,
-        known: found.known,
-        at: found.at,
+        last: Some((place, met.last)),
     }
 }
 
@@ -340,12 +331,10 @@ fn brings(times: &mut Times, begun: Begun, id: u32, answer: Answer, counts: Coun
 fn put_back(times: &mut Times, begun: Begun, id: u32)
     ensures { times.new ≡ put_back begun id times.old }
 {
-    if begun.timed == begun.place {
-        let last = Last {
-            known: begun.known,
-            at: begun.at,
-        };
-        times.put((id % 256) as u8, last);
+    if let Some((place, last)) = begun.last {
+        if place == begun.place {
+            times.put((id % 256) as u8, last);
+        }
     }
 }
 
