@@ -2,6 +2,7 @@
 #![tactic(auto)]
 
 ghost use Rattle.std.specs.Prelude.{◌≡◌, true, cond, ◌<◌, length, set, eqb};
+ghost use Rattle.refusal.specs.Numbers.{number_of};
 ghost use Rattle.joining.specs.Frame.{sender_of, frame_refusal};
 ghost use Rattle.joining.specs.Joining.{fit, closed, take_frame};
 ghost use Rattle.joining.specs.Run.{senders, session_of, sessions_after, answer_to};
@@ -12,6 +13,7 @@ ghost use Rattle.times.specs.Inner.{came_at, station_in};
 
 use bus::Bus;
 use joining::{Answer, Session};
+use refusal::Refusal;
 
 // A sender's last kept time, in milliseconds: whether there is one, and which, 0 where there is none.
 // Stays: an Option lacks the state that is unfit, no time and yet not 0, which `came_at` (specs/Inner.antt) refuses with 24.
@@ -138,15 +140,14 @@ impl Station {
     pub fn frame(self, time: u32, id: u32, data: &[u8]) -> Heard
         ensures { result ≡ timed_frame self time id «data».now }
     {
-        let n = joining::frame_refusal(id, data);
-        if n != 0 {
-            return self.turned(n);
+        if let Err(refusal) = joining::frame_refusal(id, data) {
+            return self.turned(refusal);
         }
         let session = self.session;
         if session.fit() {
             return self.timed(time, id, data);
         }
-        self.turned(Session::UNFIT)
+        self.turned(Refusal::Unfit)
     }
 
     // `frame` where no refusal comes before those of the last time.
@@ -160,16 +161,16 @@ impl Station {
         match came {
             Came::InTime => last.settled(session, time, id, data),
             Came::Late => last.settled(closed(session), time, id, data),
-            Came::Before => self.turned(Times::BEFORE),
-            Came::Unfit => self.turned(Session::UNFIT),
+            Came::Before => self.turned(Refusal::BeforeLastTime),
+            Came::Unfit => self.turned(Refusal::Unfit),
         }
     }
 
-    fn turned(self, code: u8) -> Heard
-        ensures { result ≡ turned code self }
+    fn turned(self, refusal: Refusal) -> Heard
+        ensures { result ≡ turned (number_of refusal) self }
     {
         Heard {
-            answer: Answer::Refused(code),
+            answer: Answer::Refused(refusal.number()),
             station: self,
         }
     }
@@ -281,8 +282,8 @@ fn stopped(room: &mut [u8; Bus::ROOM], last: Last, time: u32, id: u32, data: &[u
     match came {
         Came::InTime => 0,
         Came::Late => shut(room, id, data),
-        Came::Before => turned(room, id, data, Times::BEFORE),
-        Came::Unfit => turned(room, id, data, Session::UNFIT),
+        Came::Before => turned(room, id, data, Refusal::BeforeLastTime),
+        Came::Unfit => turned(room, id, data, Refusal::Unfit),
     }
 }
 
@@ -330,7 +331,7 @@ fn shut(room: &mut [u8; Bus::ROOM], id: u32, data: &[u8]) -> u8
     ensures value { result ≡ 0 }
     ensures room_after { room.new ≡ room_of (set (sessions_in room.old) (sender_of id) (shut_by (session_of (sender_of id) (sessions_in room.old)) id «data».now)) }
 {
-    if joining::frame_refusal(id, data) != 0 {
+    if joining::frame_refusal(id, data).is_err() {
         return 0;
     }
     let sender = (id % 256) as u8;
@@ -340,16 +341,15 @@ fn shut(room: &mut [u8; Bus::ROOM], id: u32, data: &[u8]) -> u8
     0
 }
 
-// The refusal of a frame that the last time refuses with this number: those that come first are 1 to 3, and 24 for an unfit session.
-fn turned(room: &[u8; Bus::ROOM], id: u32, data: &[u8], code: u8) -> u8
-    ensures { result ≡ cond (eqb (frame_refusal id «data».now) 0) (cond (fit (session_of (sender_of id) (sessions_in room.now))) code 24) (frame_refusal id «data».now) }
+// The refusal of a frame that the last time refuses so: those that come first are 1 to 3, and 24 for an unfit session.
+fn turned(room: &[u8; Bus::ROOM], id: u32, data: &[u8], last: Refusal) -> u8
+    ensures { result ≡ cond (eqb (frame_refusal id «data».now) 0) (cond (fit (session_of (sender_of id) (sessions_in room.now))) (number_of last) 24) (frame_refusal id «data».now) }
 {
-    let n = joining::frame_refusal(id, data);
-    if n != 0 {
-        return n;
+    if let Err(refusal) = joining::frame_refusal(id, data) {
+        return refusal.number();
     }
     if Bus::fit(room, (id % 256) as u8) {
-        return code;
+        return last.number();
     }
-    Session::UNFIT
+    Refusal::Unfit.number()
 }
