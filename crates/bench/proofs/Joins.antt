@@ -15,8 +15,8 @@ use Rattle.joining.specs.declared.Session.{Session}
 use Rattle.joining.specs.declared.Answer.{Answer}
 use Rattle.joining.specs.declared.Answer.TheVariants.{Kept}
 use Rattle.joining.specs.declared.Taken.{Taken}
-use Rattle.joining.specs.Frame.{sender_of, destination_of, format_of, zero_bits_of, malformed, foreign, frame_refusal}
-use Rattle.joining.specs.Joining.{packets, carries, opened, is_closed, is_open, fit, stored, yields, sound, announcement_refusal, announce, packet, take_frame}
+use Rattle.joining.specs.Frame.{sender_of, destination_of, format_of, zero_bits_of, malformed, foreign, frame_checked, frame_refusal}
+use Rattle.joining.specs.Joining.{packets, carries, opened, is_closed, is_open, fit, stored, yields, sound, announcement_checked, announcement_refusal, announce, packet, take_frame}
 use Rattle.bench.specs.Bench.{identifier, announcement, packet_data, carrier, opening, packets_from, frames}
 use Rattle.joining.specs.Run.{solo_step, solo_session, solo_answers}
 use Rattle.joining.proofs.Fitness.{carried_range}
@@ -57,7 +57,7 @@ module _ (sender : ℕ) (known : sender ≤ 253) (format : ℕ) (d : List ℕ) (
       rw (zeros, in_format, all, ours)
 
   pub taken : frame_refusal (identifier format sender) d ≡ 0
-  unfolding frame_refusal malformed
+  unfolding frame_refusal frame_checked malformed
   taken =
       let from : sender_of (identifier format sender) ≡ sender = omega arith in
       rw (lt-leb 536870912 (identifier format sender) (omega arith), eight, not_foreign, from, le-ltb 253 sender known)
@@ -68,7 +68,7 @@ module _ (sender : ℕ) (known : sender ≤ 253) (format : ℕ) (d : List ℕ) (
 
 -- An announcement of a size that ours can have opens the session with it.
 announce-opens : (s : Session) (n : ℕ) → carries n ≡ true → announce s (announcement n) ≡ record { answer = Kept; session = opened n }
-unfolding announce announcement_refusal announcement sound bytes number
+unfolding announce announcement_refusal announcement_checked announcement sound bytes number
 announce-opens s n h =
     let range = carried_range n h in
     let said : n % 256 + 256 * (n / 256 % 256 + 256 * 0) ≡ n = omega arith in

@@ -9,15 +9,19 @@ use borrow.Author.Tests.{lt-ltb, ne_eqb}
 use lib.Dec.{ltb}
 use lib.ListN.{length, get_or, take, drop, set, length-take}
 use lib.Seq.{sets, set-get_or, set_out, get_or-drop, length-sets}
+use Rattle.std.specs.Prelude.{Ok, Err}
+use Rattle.refusal.specs.declared.Refusal.{Refusal}
+use Rattle.refusal.specs.Numbers.{number_of}
+use Rattle.refusal.proofs.Numbers.{number_above}
 use Rattle.joining.specs.declared.Session.{Session}
 use Rattle.joining.specs.declared.Answer.{Answer}
 use Rattle.joining.specs.declared.Answer.TheVariants.{Refused}
 use Rattle.joining.specs.declared.Taken.{Taken}
-use Rattle.joining.specs.Frame.{Frame, sender_of, frame_refusal}
+use Rattle.joining.specs.Frame.{Frame, sender_of, frame_checked, frame_refusal}
 use Rattle.joining.specs.Joining.{place, is_closed, fit, closed, stored, refused, take_frame}
 use Rattle.joining.specs.Run.{nobody, session_of, sessions_after, answer_to}
 use Rattle.joining.proofs.Fitness.{Open}
-use Rattle.joining.proofs.Frames.{sound-frame}
+use Rattle.joining.proofs.Frames.{sound-frame, frame_stopped}
 use Rattle.joining.proofs.Steps.{due, fit_numbers}
 use Rattle.bus.specs.Room.{session_in, session_bytes, sessions_in, room_of}
 use Rattle.bus.proofs.Places.{take-sets, session_of_lem, put_session, room_of_sessions}
@@ -74,6 +78,9 @@ module _ (room : List ℕ) (id : ℕ) (d : List ℕ) (long : length room ≡ 233
   unheard e h =
       let p = passed_over_lem (ltb (sender_of id) 254) (λ z. h (e ∙ z)) in
       (ap Refused e ∙ p.0, p.1)
+
+  pub stopped_at : (r : Refusal) → Err r ≡ frame_checked id d → (Refused (number_of r) ≡ answer_to sessions frame) × (room ≡ room_of (sessions_after sessions frame))
+  stopped_at r e = unheard (sym (frame_stopped id d e)) (λ z. absurd (omega (arith, z, number_above r)))
 
   pub heard : {r : Answer} {q : List ℕ} → frame_refusal id d ≡ 0 → r ≡ (take_frame (session_in (drop (92 * sender_of id) room)) id d).answer
       → q ≡ (take (92 * sender_of id) room ++ session_bytes (take_frame (session_in (drop (92 * sender_of id) room)) id d).session) ++ drop (92 * sender_of id + 92) room

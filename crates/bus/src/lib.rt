@@ -10,6 +10,7 @@ ghost use Rattle.joining.specs.Run.{fresh_sessions, session_of, sessions_after, 
 ghost use Rattle.bus.specs.Room.{place_bytes, room_bytes, session_in, session_bytes, sessions_in, room_of};
 
 use joining::{Answer, Frame, Session};
+use refusal::Refusal;
 use report::Payload;
 
 // A session for each sender from 0 to 253, in their order.
@@ -120,9 +121,8 @@ fn take_in(room: &mut [u8], id: u32, data: &[u8]) -> Answer
     ensures value { result ≡ answer_to (sessions_in room.old) (record { identifier = id; data_bytes = «data».now }) }
     ensures room_after { room.new ≡ room_of (sessions_after (sessions_in room.old) (record { identifier = id; data_bytes = «data».now })) }
 {
-    let n = joining::frame_refusal(id, data);
-    if n != 0 {
-        return Answer::Refused(n);
+    if let Err(refusal) = joining::frame_refusal(id, data) {
+        return Answer::Refused(refusal.number());
     }
     advance_in(room, Bus::PLACE * ((id % 256) as usize), id, data)
 }
@@ -185,7 +185,7 @@ fn advance_at(place: &mut [u8], id: u32, data: &[u8]) -> Answer
     ensures place_after { place.new ≡ session_bytes (take_frame (session_in place.old) id «data».now).session }
 {
     if !joining::numbers_fit(place[Bus::SIZE], place[Bus::COUNT], place[Bus::NEXT]) {
-        return Answer::Refused(Session::UNFIT);
+        return Answer::Refused(Refusal::Unfit.number());
     }
     if id / 65536 % 256 == Frame::ANNOUNCEMENT {
         announced_at(place, data)
@@ -218,15 +218,14 @@ fn announced_at(place: &mut [u8], data: &[u8]) -> Answer
     ensures value { result ≡ (announce (session_in place.old) «data».now).answer }
     ensures place_after { place.new ≡ session_bytes (announce (session_in place.old) «data».now).session }
 {
-    let n = joining::announcement_refusal(data);
-    if n == 0 {
-        open_at(place, wire::read16(data, 1));
-        return Answer::Kept;
+    if let Err(refusal) = joining::announcement_refusal(data) {
+        if refusal != Refusal::NotAnAnnouncement {
+            close_at(place);
+        }
+        return Answer::Refused(refusal.number());
     }
-    if n != Session::NOT_AN_ANNOUNCEMENT {
-        close_at(place);
-    }
-    Answer::Refused(n)
+    open_at(place, wire::read16(data, 1));
+    Answer::Kept
 }
 
 // Opens the session for a payload of this size, replacing what was under way.
@@ -258,11 +257,11 @@ fn packet_at(place: &mut [u8], data: &[u8]) -> Answer
     let count = place[Bus::COUNT];
     let next = place[Bus::NEXT];
     if size == 0 {
-        return Answer::Refused(Session::NOT_OPEN);
+        return Answer::Refused(Refusal::NotOpen.number());
     }
     if wire::byte(data, 0) != next {
         close_at(place);
-        return Answer::Refused(Session::OUT_OF_SEQUENCE);
+        return Answer::Refused(Refusal::OutOfSequence.number());
     }
     joining::store(place, size, next - 1, data);
     if next < count {

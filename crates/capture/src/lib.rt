@@ -198,7 +198,7 @@ fn frame_item(time: Since, id: u32) -> Item
 fn foreign(ours: bool, id: u32, bytes: &[u8]) -> bool
     ensures { result ≡ (ours && not (eqb (frame_refusal id bytes.now) 0)) }
 {
-    ours && joining::frame_refusal(id, bytes) != 0
+    ours && joining::frame_refusal(id, bytes).is_err()
 }
 
 // The identifier before the #.

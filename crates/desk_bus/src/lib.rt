@@ -73,12 +73,7 @@ impl Senders {
 
     // Stores whether there is a last time, and which.
     fn poke_time(&mut self, sender: u8, known: bool, at: u32) {
-        Times::put(
-            &mut self.times.known,
-            &mut self.times.at,
-            sender,
-            Last { known, at },
-        );
+        self.times.put(sender, Last { known, at });
     }
 
     // A sender's session where it stands.
@@ -106,14 +101,7 @@ impl Senders {
         let frame = wire::front(&bytes, n);
         match heard.time {
             None => Bus::take(&mut self.room, heard.id, frame),
-            Some(time) => Times::take(
-                &mut self.room,
-                &mut self.times.known,
-                &mut self.times.at,
-                time,
-                heard.id,
-                frame,
-            ),
+            Some(time) => self.times.take(&mut self.room, time, heard.id, frame),
         }
     }
 }

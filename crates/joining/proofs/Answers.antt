@@ -1,32 +1,34 @@
 -- The number and values that a frame's sender and a finished payload answer are those of the definitions below, case by case; and only a payload that is accepted answers with a report.
 -- Assumes nothing.
 use mathlib.Core.Path.{◌≡◌, refl}
-use mathlib.Core.Bool.{Bool, true, false, cond}
+use mathlib.Core.Bool.{cond}
 use mathlib.Core.List.{List}
 use Prim.Native.Nat.{ℕ}
 use native.Mathlib.Omega.{arith}
-use borrow.Author.Tests.{eqb-true}
+use borrow.Author.Tests.{ne_eqb}
 use lib.Dec.{eqb}
 use Rattle.report.specs.declared.Report.{Report}
 use Rattle.std.specs.Prelude.{Result, Ok, Err}
 use Rattle.refusal.specs.declared.Refusal.{Refusal}
-use Rattle.refusal.specs.Numbers.{number_of}
+use Rattle.std.specs.Result.{result_and}
+use Rattle.refusal.specs.Numbers.{number_of, number_in}
+use Rattle.refusal.proofs.Numbers.{number_above}
 use Rattle.report.specs.Answers.{reading_fields}
 use Rattle.joining.specs.declared.Answer.TheVariants.{Refused, Kept, Complete}
-use Rattle.joining.specs.declared.Sender.TheVariants as sender
-use Rattle.joining.specs.Frame.{sender_of, frame_refusal, sender_in}
+use Rattle.joining.specs.Frame.{sender_of, frame_checked, frame_refusal, sender_in}
 use Rattle.joining.specs.Joining.{yields}
 use Rattle.joining.specs.Answers.{answer_fields, sender_fields}
 
 -- `Frame::sender` has the number of `frame_refusal`, and where that isn't 0 the sender is 0.
 pub sender_fields_lem : (id : ℕ) (d : List ℕ)
     → sender_fields (sender_in id d) ≡ record { refusal = frame_refusal id d; sender = cond (eqb (frame_refusal id d) 0) (sender_of id) 0 }
-unfolding sender_in
-sender_fields_lem id d = go (frame_refusal id d) (eqb (frame_refusal id d) 0) refl
+unfolding sender_in frame_refusal
+sender_fields_lem id d = go (frame_checked id d)
   where
-    go : (n : ℕ) (b : Bool) → eqb n 0 ≡ b → sender_fields (cond b (sender.Of (sender_of id)) (sender.Refused n)) ≡ record { refusal = n; sender = cond b (sender_of id) 0 }
-    go n true e = rw (eqb-true n 0 e)
-    go n false e = refl
+    go : (r : Result (Unit {0}) Refusal)
+        → sender_fields (result_and r (Ok (sender_of id))) ≡ record { refusal = number_in r; sender = cond (eqb (number_in r) 0) (sender_of id) 0 }
+    go (Ok u) = refl
+    go (Err e) = rw (ne_eqb (number_of e) 0 (λ z. absurd (omega (arith, z, number_above e))))
 
 -- The last packet of a report answers what the payload's reader answers.
 pub last_packet : (r : Result Report Refusal) → answer_fields (yields r) ≡ reading_fields r

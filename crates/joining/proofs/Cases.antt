@@ -12,7 +12,7 @@ use Rattle.wire.specs.Bytes.{number, part}
 use Rattle.joining.specs.declared.Session.{Session}
 use Rattle.joining.specs.declared.Answer.TheVariants.{Kept}
 use Rattle.joining.specs.Frame.{Frame, destination_of, zero_bits_of, frame_refusal, is_announcement, is_packet, foreign}
-use Rattle.joining.specs.Joining.{carries, fit, closed, opened, stored, advanced, finishes, refused, size_in, sound, announcement_refusal, announce, packet, take_frame}
+use Rattle.joining.specs.Joining.{carries, fit, closed, opened, stored, advanced, finishes, refused, size_in, sound, announcement_checked, announcement_refusal, announce, packet, take_frame}
 use Rattle.joining.specs.Run.{solo_step, is_passed_over, Announces, Numbered}
 use Rattle.joining.proofs.Frames.{sound-frame, frame_refusals}
 
@@ -61,7 +61,7 @@ module _ (f : Frame) where
   -- The tests that a good announcement passes.
   opening : fine ≡ true → is_announcement f.identifier ≡ true → first ≡ true → sound f.data_bytes ≡ true → group ≡ true → carries (size_in f.data_bytes) ≡ true
       → (s : Session) → fit s ≡ true → solo_step s f ≡ record { answer = Kept; session = opened (size_in f.data_bytes) }
-  unfolding announce announcement_refusal
+  unfolding announce announcement_refusal announcement_checked
   opening well a e₄ e₅ e₆ e₇ s fits = as_announcement well s fits a ∙ rw (e₄, e₅, e₆, e₇)
 
   silent : fine ≡ false → is_passed_over f ≡ true
@@ -80,24 +80,24 @@ module _ (f : Frame) where
   module _ (s : Session) (fits : fit s ≡ true) where
     by_size : fine ≡ true → is_announcement f.identifier ≡ true → first ≡ true → sound f.data_bytes ≡ true → group ≡ true
         → (b : Bool) → carries (size_in f.data_bytes) ≡ b → Case s f
-    unfolding announce announcement_refusal
+    unfolding announce announcement_refusal announcement_checked
     by_size well a e₄ e₅ e₆ true e₇ =
         let opens = opening well a e₄ e₅ e₆ e₇ in
         good (heard_of well (inr e₄)) e₇ (record { announcement = a; says = refl; opens = opens }) (opens s fits)
     by_size well a e₄ e₅ e₆ false e₇ = shut 7 (heard_of well (inr e₄)) (as_announcement well s fits a ∙ rw (e₄, e₅, e₆, e₇))
 
     by_group : fine ≡ true → is_announcement f.identifier ≡ true → first ≡ true → sound f.data_bytes ≡ true → (b : Bool) → group ≡ b → Case s f
-    unfolding announce announcement_refusal
+    unfolding announce announcement_refusal announcement_checked
     by_group well a e₄ e₅ true e₆ = by_size well a e₄ e₅ e₆ (carries (size_in f.data_bytes)) refl
     by_group well a e₄ e₅ false e₆ = shut 6 (heard_of well (inr e₄)) (as_announcement well s fits a ∙ rw (e₄, e₅, e₆))
 
     by_count : fine ≡ true → is_announcement f.identifier ≡ true → first ≡ true → (b : Bool) → sound f.data_bytes ≡ b → Case s f
-    unfolding announce announcement_refusal
+    unfolding announce announcement_refusal announcement_checked
     by_count well a e₄ true e₅ = by_group well a e₄ e₅ group refl
     by_count well a e₄ false e₅ = shut 5 (heard_of well (inr e₄)) (as_announcement well s fits a ∙ rw (e₄, e₅))
 
     by_first : fine ≡ true → is_announcement f.identifier ≡ true → (b : Bool) → first ≡ b → Case s f
-    unfolding announce announcement_refusal
+    unfolding announce announcement_refusal announcement_checked
     by_first well a true e₄ = by_count well a e₄ (sound f.data_bytes) refl
     by_first well a false e₄ = passed 4 (lit≤ tt) (lit≤ tt) (other_first a e₄) (as_announcement well s fits a ∙ rw e₄)
 

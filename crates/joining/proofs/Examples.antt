@@ -15,8 +15,8 @@ use Rattle.report.specs.Payload.{payload, read_payload, is_payload, in_order, no
 use Rattle.joining.specs.declared.Session.{Session}
 use Rattle.joining.specs.declared.Answer.TheVariants.{Refused, Kept}
 use Rattle.joining.specs.declared.Taken.{Taken}
-use Rattle.joining.specs.Frame.{Frame, frame_refusal, malformed, foreign}
-use Rattle.joining.specs.Joining.{fit, is_closed, is_open, carries, closed, opened, refused, sound, announcement_refusal, announce, packet, take_frame}
+use Rattle.joining.specs.Frame.{Frame, frame_checked, frame_refusal, malformed, foreign}
+use Rattle.joining.specs.Joining.{fit, is_closed, is_open, carries, closed, opened, refused, sound, announcement_checked, announcement_refusal, announce, packet, take_frame}
 use Rattle.joining.specs.Run.{solo_step, solo_answers}
 
 -- Sender 5's announcement and data packet.
@@ -82,11 +82,11 @@ pub record Examples : Type 0 where
   pub loss4096 : read_payload (payload (report 4096 0 0) None) ≡ Err NotAPayload
 
 opens17 : (s : Session) → fit s ≡ true → solo_step s (sized 17 0 3) ≡ record { answer = Kept; session = opened 17 }
-unfolding number take_frame frame_refusal malformed foreign announce announcement_refusal sound carries
+unfolding number take_frame frame_refusal frame_checked malformed foreign announce announcement_refusal announcement_checked sound carries
 opens17 s fits = rw fits
 
 pub examples : Examples
-unfolding payload field head bytes number read_payload is_payload in_order in_range note_fits note_in edition_in report_in solo_answers take_frame frame_refusal malformed foreign announce announcement_refusal packet sound carries fit is_closed is_open
+unfolding payload field head bytes number read_payload is_payload in_order in_range note_fits note_in edition_in report_in solo_answers take_frame frame_refusal frame_checked malformed foreign announce announcement_refusal announcement_checked packet sound carries fit is_closed is_open
 examples =
     record {
       p2 = λ s fits. rw fits;

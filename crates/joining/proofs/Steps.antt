@@ -1,6 +1,6 @@
 -- What a frame does to a session where its tests are known: each law takes the tests of one case, in their order.
 -- Assumes nothing.
-use mathlib.Core.Path.{◌≡◌, refl}
+use mathlib.Core.Path.{◌≡◌, refl, sym, ap, ◌∙◌}
 use mathlib.Core.Bool.{Bool, true, false, cond, not}
 use mathlib.Core.List.{List, []}
 use Prim.Native.Nat.{ℕ, ◌-◌, ◌*◌, ◌≤◌, ◌<◌}
@@ -8,12 +8,33 @@ use native.Mathlib.Omega.{arith}
 use borrow.Author.Tests.{lt-ltb, le-ltb, eq-eqb, ne_eqb}
 use lib.Dec.{eqb, lit≤}
 use lib.ListN.{get_or}
+use Rattle.std.specs.Prelude.{Ok, Err}
+use Rattle.refusal.specs.declared.Refusal.{Refusal}
+use Rattle.refusal.specs.declared.Refusal.TheVariants.{NotAnAnnouncement, BadSize, OtherGroup, OtherSize}
+use Rattle.refusal.specs.Numbers.{number_of, number_in}
 use Rattle.wire.specs.Bytes.{number, part}
 use Rattle.joining.specs.declared.Session.{Session}
 use Rattle.joining.specs.declared.Answer.TheVariants.{Kept}
-use Rattle.joining.specs.Frame.{frame_refusal, is_announcement}
-use Rattle.joining.specs.Joining.{carries, size_in, sound, is_closed, is_open, fit, opened, closed, stored, advanced, finishes, refused, announcement_refusal, announce, packet, take_frame}
+use Rattle.refusal.specs.Answers.{refusal_of}
+use Rattle.refusal.proofs.Numbers.{number_above}
+use Rattle.refusal.proofs.Answers.{refusal_back}
+use Rattle.joining.proofs.Frames.{frame_stopped}
+use Rattle.joining.specs.Frame.{frame_checked, frame_refusal, is_announcement}
+use Rattle.joining.specs.Joining.{carries, size_in, sound, is_closed, is_open, fit, opened, closed, stored, advanced, finishes, refused, announcement_checked, announcement_refusal, announce, packet, take_frame}
 use Rattle.joining.proofs.Fitness.{Open}
+
+-- The refusal of an announcement is its check's, and 0 where the check lets it through.
+pub announcement_let : (d : List ℕ) {u : Unit {0}} → Ok u ≡ announcement_checked d → announcement_refusal d ≡ 0
+unfolding announcement_refusal
+announcement_let d e = rw (← e)
+
+pub announcement_stopped : (d : List ℕ) {r : Refusal} → Err r ≡ announcement_checked d → announcement_refusal d ≡ number_of r
+unfolding announcement_refusal
+announcement_stopped d e = rw (← e)
+
+-- A refusal of the number 4 is that one.
+pub is_4 : (r : Refusal) → number_of r ≡ 4 → r ≡ NotAnAnnouncement
+is_4 r e = sym (refusal_back r) ∙ ap refusal_of e ∙ refusal_back NotAnAnnouncement
 
 -- An announcement that is not refused opens the session; refusal 4 leaves it, the others close it.
 module _ (s : Session) (d : List ℕ) where
@@ -31,10 +52,10 @@ module _ (s : Session) (d : List ℕ) where
 
 -- One that is not refused names a size that ours can have.
 pub good_size : (d : List ℕ) → announcement_refusal d ≡ 0 → carries (size_in d) ≡ true
-unfolding announcement_refusal
+unfolding announcement_refusal announcement_checked
 good_size d = go (eqb (get_or d 0 0) 32) (sound d) (eqb (number (part 5 3 d)) 65300) (carries (size_in d))
   where
-    go : (a b c e : Bool) → ◌≡◌ {A = ℕ} (cond (not a) 4 (cond (not b) 5 (cond (not c) 6 (cond (not e) 7 0)))) 0 → e ≡ true
+    go : (a b c e : Bool) → ◌≡◌ {A = ℕ} (number_in {A = Unit {0}} (cond (not a) (Err NotAnAnnouncement) (cond (not b) (Err BadSize) (cond (not c) (Err OtherGroup) (cond (not e) (Err OtherSize) (Ok tt)))))) 0 → e ≡ true
     go a b c true h = refl
     go true true true false h = absurd (omega (arith, h))
     go true true false false h = absurd (omega (arith, h))
@@ -42,10 +63,10 @@ good_size d = go (eqb (get_or d 0 0) 32) (sound d) (eqb (number (part 5 3 d)) 65
     go false b c false h = absurd (omega (arith, h))
 
 pub announcement_refusals : (d : List ℕ) → announcement_refusal d ≤ 7
-unfolding announcement_refusal
+unfolding announcement_refusal announcement_checked
 announcement_refusals d = go (eqb (get_or d 0 0) 32) (sound d) (eqb (number (part 5 3 d)) 65300) (carries (size_in d))
   where
-    go : (a b c e : Bool) → cond (not a) 4 (cond (not b) 5 (cond (not c) 6 (cond (not e) 7 0))) ≤ 7
+    go : (a b c e : Bool) → number_in {A = Unit {0}} (cond (not a) (Err NotAnAnnouncement) (cond (not b) (Err BadSize) (cond (not c) (Err OtherGroup) (cond (not e) (Err OtherSize) (Ok tt))))) ≤ 7
     go true true true true = lit≤ tt
     go true true true false = lit≤ tt
     go true true false e = lit≤ tt
@@ -79,6 +100,13 @@ module _ (s : Session) (d : List ℕ) where
 -- The packet that is due begins within the size.
 pub due : (s : Session) → Open s → 7 * (s.next - 1) ≤ s.size
 due s o = omega (arith, o.first, o.last, o.count)
+
+-- A frame that is refused at once.
+pub stopped : (s : Session) (id : ℕ) (d : List ℕ) (r : Refusal) → Err r ≡ frame_checked id d → take_frame s id d ≡ refused (number_of r) s
+unfolding take_frame
+stopped s id d r e =
+    let n = frame_stopped id d e in
+    rw (ne_eqb (frame_refusal id d) 0 (λ z. absurd (omega (arith, z, n, number_above r))), n)
 
 -- A frame that is not refused at once.
 module _ (s : Session) (id : ℕ) (d : List ℕ) (e : frame_refusal id d ≡ 0) where

@@ -1,10 +1,10 @@
 -- The rules' number and values for each answer to a frame: a refusal has its number and every other field 0; any other answer has the number 0.
-use Rattle.std.specs.Prelude.{ℕ, true, false}
+use Rattle.std.specs.Prelude.{ℕ, true, false, Result, Ok, Err}
+use Rattle.refusal.specs.declared.Refusal.{Refusal}
+use Rattle.refusal.specs.Numbers.{number_of}
 use Rattle.report.specs.Answers.{ReportFields, no_report}
 use Rattle.joining.specs.declared.Answer.{Answer}
 use Rattle.joining.specs.declared.Answer.TheVariants.{Refused, Kept, Complete}
-use Rattle.joining.specs.declared.Sender.{Sender}
-use Rattle.joining.specs.declared.Sender.TheVariants as sender
 
 abbrev pub answer_fields : Answer → ReportFields
 answer_fields (Refused n) = record { refusal = n; complete = false; report = no_report }
@@ -16,6 +16,6 @@ pub record SenderFields : Type 0 where
   pub refusal : ℕ
   pub sender : ℕ
 
-abbrev pub sender_fields : Sender → SenderFields
-sender_fields (sender.Of n) = record { refusal = 0; sender = n }
-sender_fields (sender.Refused n) = record { refusal = n; sender = 0 }
+abbrev pub sender_fields : Result ℕ Refusal → SenderFields
+sender_fields (Ok n) = record { refusal = 0; sender = n }
+sender_fields (Err e) = record { refusal = number_of e; sender = 0 }

@@ -1,7 +1,9 @@
 -- A frame and what its identifier says (docs/RULES.md, section 2).
-use Rattle.std.specs.Prelude.{ℕ, ◌/◌, ◌%◌, Bool, cond, not, ◌||◌, List, length, leb, ltb, eqb}
-use Rattle.joining.specs.declared.Sender.{Sender}
-use Rattle.joining.specs.declared.Sender.TheVariants.{Of, Refused}
+use Rattle.std.specs.Prelude.{ℕ, ◌/◌, ◌%◌, Bool, cond, not, ◌||◌, List, length, leb, ltb, eqb, Result, Ok, Err}
+use Rattle.std.specs.Result.{result_and}
+use Rattle.refusal.specs.declared.Refusal.{Refusal}
+use Rattle.refusal.specs.declared.Refusal.TheVariants.{MalformedFrame, ForeignFrame, NoSuchSender}
+use Rattle.refusal.specs.Numbers.{number_in}
 
 -- Rule 2.1: an identifier and data bytes; `malformed` says which are no frame.
 pub record Frame : Type 0 where
@@ -36,10 +38,17 @@ malformed id data_bytes = leb 536870912 id || not (eqb (length data_bytes) 8)
 unfoldable pub foreign : ℕ → Bool
 foreign id = not (eqb (zero_bits_of id) 0) || not (is_announcement id || is_packet id) || not (eqb (destination_of id) 255)
 
--- What is refused before any session is looked at (rule 9.4): 1, 2, then 3, a sender that has no session; 0 for none.
+-- What is refused before any session is looked at (rule 9.4): 1, 2, then 3, a sender that has no session.
+unfoldable pub frame_checked : ℕ → List ℕ → Result (Unit {0}) Refusal
+frame_checked id data_bytes =
+    cond (malformed id data_bytes) (Err MalformedFrame)
+    (cond (foreign id) (Err ForeignFrame)
+    (cond (ltb 253 (sender_of id)) (Err NoSuchSender) (Ok tt)))
+
+-- The number of that refusal; 0 for none.
 unfoldable pub frame_refusal : ℕ → List ℕ → ℕ
-frame_refusal id data_bytes = cond (malformed id data_bytes) 1 (cond (foreign id) 2 (cond (ltb 253 (sender_of id)) 3 0))
+frame_refusal id data_bytes = number_in (frame_checked id data_bytes)
 
 -- Whose session a frame is for, or its refusal.
-unfoldable pub sender_in : ℕ → List ℕ → Sender
-sender_in id data_bytes = cond (eqb (frame_refusal id data_bytes) 0) (Of (sender_of id)) (Refused (frame_refusal id data_bytes))
+unfoldable pub sender_in : ℕ → List ℕ → Result ℕ Refusal
+sender_in id data_bytes = result_and (frame_checked id data_bytes) (Ok (sender_of id))

@@ -5,7 +5,8 @@ use Rattle.wire.specs.Bytes.{number, part}
 use Rattle.report.specs.Payload.{largest_payload, plain_in, read_payload}
 use Rattle.report.specs.declared.Report.{Report}
 use Rattle.refusal.specs.declared.Refusal.{Refusal}
-use Rattle.refusal.specs.Numbers.{number_of}
+use Rattle.refusal.specs.declared.Refusal.TheVariants.{NotAnAnnouncement, BadSize, OtherGroup, OtherSize}
+use Rattle.refusal.specs.Numbers.{number_of, number_in}
 use Rattle.joining.specs.declared.Session.{Session}
 use Rattle.joining.specs.declared.Answer.{Answer}
 use Rattle.joining.specs.declared.Answer.TheVariants.{Refused, Kept, Complete}
@@ -78,13 +79,17 @@ size_in d = number (part 1 2 d)
 unfoldable pub sound : List ℕ → Bool
 sound d = leb 9 (size_in d) && leb (size_in d) 1785 && eqb (get_or d 3 0) (packets (size_in d))
 
--- Why an announcement opens no session: refusals 4, 5, 6 and 7 in their order, or 0.
+-- Why an announcement opens no session: refusals 4, 5, 6 and 7 in their order.
+unfoldable pub announcement_checked : List ℕ → Result (Unit {0}) Refusal
+announcement_checked d =
+    cond (not (eqb (get_or d 0 0) 32)) (Err NotAnAnnouncement)
+    (cond (not (sound d)) (Err BadSize)
+    (cond (not (eqb (number (part 5 3 d)) 65300)) (Err OtherGroup)
+    (cond (not (carries (size_in d))) (Err OtherSize) (Ok tt))))
+
+-- The number of that refusal; 0 for none.
 unfoldable pub announcement_refusal : List ℕ → ℕ
-announcement_refusal d =
-    cond (not (eqb (get_or d 0 0) 32)) 4
-    (cond (not (sound d)) 5
-    (cond (not (eqb (number (part 5 3 d)) 65300)) 6
-    (cond (not (carries (size_in d))) 7 0)))
+announcement_refusal d = number_in (announcement_checked d)
 
 -- Rule 3.4: an announcement that isn't refused opens the session, also one that was open; refusal 4 changes nothing, the others close the session.
 unfoldable pub announce : Session → List ℕ → Taken

@@ -4,21 +4,16 @@
 ghost use Rattle.std.specs.Prelude.{◌≡◌, true, [], ◌-◌, ◌*◌, take, drop};
 ghost use Rattle.std.proofs.lemmas.List.Edits.{sets};
 ghost use Rattle.report.specs.Payload.{read_payload};
-ghost use Rattle.joining.specs.Frame.{foreign, frame_refusal, sender_in};
-ghost use Rattle.joining.specs.Joining.{packets, carries, fresh_session, fit, yields, sound, announcement_refusal, announce, packet, take_frame, size_held, payload_held};
+ghost use Rattle.refusal.specs.Numbers.{number_of};
+ghost use Rattle.joining.specs.Frame.{foreign, frame_checked, sender_in};
+ghost use Rattle.joining.specs.Joining.{packets, carries, fresh_session, fit, yields, sound, announcement_checked, announce, packet, take_frame, size_held, payload_held};
 ghost use Rattle.joining.specs.declared.Answer.TheVariants.{Refused};
 ghost use Rattle.joining.specs.Inner.{session_with, beside};
 
 mod lent;
 
+use refusal::Refusal;
 use report::{Note, Payload, Report};
-
-// Whose session a frame is for, 0 to 253, or why it is for none.
-#[derive(Clone, Copy)]
-pub enum Sender {
-    Of(u8),
-    Refused(u8),
-}
 
 // What a frame is answered: the refusal's number; kept, as it opened a session or was its next packet; or the report that
 // its last packet completed.
@@ -72,41 +67,31 @@ impl Frame {
 
     pub const LARGEST_SENDER: u32 = 253;
 
-    pub const MALFORMED: u8 = 1;
-
-    pub const FOREIGN: u8 = 2;
-
-    pub const NO_SUCH_SENDER: u8 = 3;
-
-    // Whose session the frame is for. Refusals 1 to 3 are for none.
-    pub fn sender(id: u32, data: &[u8]) -> Sender
+    // Whose session the frame is for, 0 to 253. Refusals 1 to 3 are for none.
+    #[tactic(auto, unfolding(crate::specs::Frame::sender_in))]
+    pub fn sender(id: u32, data: &[u8]) -> Result<u8, Refusal>
         ensures { result ≡ sender_in id «data».now }
     {
-        let n = frame_refusal(id, data);
-        if n != 0 {
-            return Sender::Refused(n);
-        }
-        Sender::Of((id % 256) as u8)
+        frame_refusal(id, data)?;
+        Ok((id % 256) as u8)
     }
 }
 
-// What a frame is refused for before any session is looked at, or 0.
-pub fn frame_refusal(id: u32, data: &[u8]) -> u8
-    ensures { result ≡ frame_refusal id «data».now }
+// What a frame is refused for before any session is looked at.
+#[tactic(auto, unfolding(crate::specs::Frame::frame_checked, crate::specs::Frame::malformed))]
+pub fn frame_refusal(id: u32, data: &[u8]) -> Result<(), Refusal>
+    ensures { result ≡ frame_checked id «data».now }
 {
-    if Frame::IDENTIFIERS <= id {
-        return Frame::MALFORMED;
-    }
-    if data.len() != Frame::DATA {
-        return Frame::MALFORMED;
+    if Frame::IDENTIFIERS <= id || data.len() != Frame::DATA {
+        return Err(Refusal::MalformedFrame);
     }
     if foreign(id) {
-        return Frame::FOREIGN;
+        return Err(Refusal::ForeignFrame);
     }
     if Frame::LARGEST_SENDER < id % 256 {
-        return Frame::NO_SUCH_SENDER;
+        return Err(Refusal::NoSuchSender);
     }
-    0
+    Ok(())
 }
 
 // Whether the identifier is of another kind than a broadcast announcement or data packet.
@@ -121,20 +106,6 @@ fn foreign(id: u32) -> bool
 }
 
 impl Session {
-    pub const UNFIT: u8 = 24;
-
-    pub const NOT_AN_ANNOUNCEMENT: u8 = 4;
-
-    pub const BAD_SIZE: u8 = 5;
-
-    pub const OTHER_GROUP: u8 = 6;
-
-    pub const OTHER_SIZE: u8 = 7;
-
-    pub const NOT_OPEN: u8 = 8;
-
-    pub const OUT_OF_SEQUENCE: u8 = 9;
-
     // The first byte of an announcement, the sizes that one can name, and the group of our reports.
     pub const BROADCAST: u8 = 32;
 
@@ -233,23 +204,24 @@ fn sound(data: &[u8]) -> bool
         && wire::byte(data, 3) as u16 == packets(size)
 }
 
-// Why an announcement opens no session, or 0.
-pub fn announcement_refusal(data: &[u8]) -> u8
-    ensures { result ≡ announcement_refusal «data».now }
+// Why an announcement opens no session.
+#[tactic(auto, unfolding(crate::specs::Joining::announcement_checked))]
+pub fn announcement_refusal(data: &[u8]) -> Result<(), Refusal>
+    ensures { result ≡ announcement_checked «data».now }
 {
     if wire::byte(data, 0) != Session::BROADCAST {
-        return Session::NOT_AN_ANNOUNCEMENT;
+        return Err(Refusal::NotAnAnnouncement);
     }
     if !sound(data) {
-        return Session::BAD_SIZE;
+        return Err(Refusal::BadSize);
     }
     if wire::read24(data, 5) != Session::GROUP {
-        return Session::OTHER_GROUP;
+        return Err(Refusal::OtherGroup);
     }
     if !carries(wire::read16(data, 1)) {
-        return Session::OTHER_SIZE;
+        return Err(Refusal::OtherSize);
     }
-    0
+    Ok(())
 }
 
 // A frame of the session's sender, on the session's bytes where they stand.
@@ -264,12 +236,11 @@ fn stepped(
     ensures value { result ≡ beside (take_frame (session_with bytes.old size count next) id «data».now) }
     ensures bytes_after { bytes.new ≡ (take_frame (session_with bytes.old size count next) id «data».now).session.bytes }
 {
-    let n = frame_refusal(id, data);
-    if n != 0 {
-        return refused(n, size, count, next);
+    if let Err(refusal) = frame_refusal(id, data) {
+        return refused(refusal, size, count, next);
     }
     if !numbers_fit(size, count, next) {
-        return refused(Session::UNFIT, size, count, next);
+        return refused(Refusal::Unfit, size, count, next);
     }
     if id / 65536 % 256 == Frame::ANNOUNCEMENT {
         announced(bytes, size, count, next, data)
@@ -279,11 +250,11 @@ fn stepped(
 }
 
 // A refusal, and the numbers that it leaves.
-fn refused(n: u8, size: u8, count: u8, next: u8) -> Step
-    ensures { result ≡ record { answer = Refused n; size = size; count = count; next = next } }
+fn refused(refusal: Refusal, size: u8, count: u8, next: u8) -> Step
+    ensures { result ≡ record { answer = Refused (number_of refusal); size = size; count = count; next = next } }
 {
     Step {
-        answer: Answer::Refused(n),
+        answer: Answer::Refused(refusal.number()),
         size,
         count,
         next,
@@ -295,21 +266,22 @@ fn announced(bytes: &mut [u8; Payload::LARGEST], size: u8, count: u8, next: u8, 
     ensures value { result ≡ beside (announce (session_with bytes.old size count next) «data».now) }
     ensures bytes_after { bytes.new ≡ (announce (session_with bytes.old size count next) «data».now).session.bytes }
 {
-    let n = announcement_refusal(data);
-    if n == 0 {
-        let whole = wire::read16(data, 1);
-        *bytes = [255u8; Payload::LARGEST];
-        return Step {
-            answer: Answer::Kept,
-            size: whole as u8,
-            count: packets(whole) as u8,
-            next: 1,
-        };
+    match announcement_refusal(data) {
+        Ok(()) => {
+            let whole = wire::read16(data, 1);
+            *bytes = [255u8; Payload::LARGEST];
+            Step {
+                answer: Answer::Kept,
+                size: whole as u8,
+                count: packets(whole) as u8,
+                next: 1,
+            }
+        }
+        Err(refusal) if refusal == Refusal::NotAnAnnouncement => refused(
+            refusal, size, count, next,
+        ),
+        Err(refusal) => refused(refusal, 0, 0, 0),
     }
-    if n != Session::NOT_AN_ANNOUNCEMENT {
-        return refused(n, 0, 0, 0);
-    }
-    refused(n, size, count, next)
 }
 
 // A data packet of the session's sender. The last one's payload is read where it stands in the session's bytes.
@@ -319,10 +291,10 @@ fn packet(bytes: &mut [u8; Payload::LARGEST], size: u8, count: u8, next: u8, dat
     ensures bytes_after { bytes.new ≡ (packet (session_with bytes.old size count next) «data».now).session.bytes }
 {
     if size == 0 {
-        return refused(Session::NOT_OPEN, size, count, next);
+        return refused(Refusal::NotOpen, size, count, next);
     }
     if wire::byte(data, 0) != next {
-        return refused(Session::OUT_OF_SEQUENCE, 0, 0, 0);
+        return refused(Refusal::OutOfSequence, 0, 0, 0);
     }
     store(bytes, size, next - 1, data);
     if next < count {

@@ -2,7 +2,7 @@
 use crate::print;
 use bench::Bench;
 use bus::Bus;
-use joining::{Frame, Sender, Session, Taken};
+use joining::{Frame, Session, Taken};
 use printing::{number, refused, text};
 use report::{Payload, Report};
 use values::{Edition, Values};
@@ -32,8 +32,8 @@ pub fn fit(rt: &impl Print, session: Session) {
 pub fn sender(rt: &impl Print, id: u32, data: &[u8]) {
     text(rt, b"\n  sender");
     match Frame::sender(id, data) {
-        Sender::Of(n) => number(rt, u64::from(n)),
-        Sender::Refused(n) => refused(rt, n),
+        Ok(n) => number(rt, u64::from(n)),
+        Err(refusal) => refused(rt, refusal.number()),
     }
 }
 

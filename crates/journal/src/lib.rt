@@ -3,6 +3,7 @@
 
 ghost use Rattle.std.specs.Prelude.{◌≡◌, cond, [], ◌<◌, set};
 ghost use Rattle.std.proofs.lemmas.List.Edits.{sets};
+ghost use Rattle.joining.specs.Frame.{frame_refusal};
 ghost use Rattle.joining.specs.Run.{senders};
 ghost use Rattle.times.specs.Run.{with_station, timed_at, untimed_at};
 ghost use Rattle.text.specs.Text.{behind, s_line};
@@ -231,7 +232,7 @@ impl Log {
     {
         let k = (id % 256) as usize;
         if Bus::SENDERS <= k {
-            return self.refused(joining::frame_refusal(id, data), out, at);
+            return self.refused(frame_number(id, data), out, at);
         }
         let sessions = self.sessions;
         let session = sessions[k];
@@ -248,7 +249,7 @@ impl Log {
         let sender = (id % 256) as u8;
         let k = sender as usize;
         if Bus::SENDERS <= k {
-            return self.refused(joining::frame_refusal(id, data), out, at);
+            return self.refused(frame_number(id, data), out, at);
         }
         let sessions = self.sessions;
         let session = sessions[k];
@@ -360,5 +361,16 @@ pub fn put_search(
         text::put_s(out, at, item, slot, steps)
     } else {
         at
+    }
+}
+
+// The number that a frame is refused with before any session is looked at, or 0.
+#[tactic(auto, unfolding(joining::specs::Frame::frame_refusal))]
+fn frame_number(id: u32, data: &[u8]) -> u8
+    ensures { result ≡ frame_refusal id «data».now }
+{
+    match joining::frame_refusal(id, data) {
+        Ok(()) => 0,
+        Err(refusal) => refusal.number(),
     }
 }

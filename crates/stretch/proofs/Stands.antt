@@ -24,6 +24,7 @@ use Rattle.slot.specs.Turn as one
 use Rattle.slot.proofs.Gauges.{quiet_untouched}
 use Rattle.bus.specs.Room.{room_bytes, sessions_in}
 use Rattle.joining.specs.declared.Answer.{Answer}
+use Rattle.times.specs.declared.Times.{Times}
 use Rattle.times.specs.Run.{Stations, stations_in, stations_after, timed_answer}
 use Rattle.times.proofs.Lent.{next_room}
 use Rattle.text.specs.Text.{behind, r_line, s_line}
@@ -116,17 +117,17 @@ module _ {b : Brought} {w : Window} {items rows : ℕ} {slots₀ : List Question
 
 module _ (log₀ : Log) (bytes out₀ : List ℕ) (at₀ : ℕ) where
   -- The items up to place i are done, and this is what they leave.
-  pub record Stands (items : ℕ) (w : Window) (rows : ℕ) (slots : List Question) (gauges : List Gauge) (used : ℕ) (bus : List ℕ) (known : List Bool) (lasts : List ℕ) (i at : ℕ) (out : List ℕ) : Type 0 where
+  pub record Stands (items : ℕ) (w : Window) (rows : ℕ) (slots : List Question) (gauges : List Gauge) (used : ℕ) (bus : List ℕ) (times : Times) (i at : ℕ) (out : List ℕ) : Type 0 where
     pub inside : i ≤ length bytes
     pub same : length out ≡ length out₀
     pub room : length bus ≡ room_bytes
     pub all_slots : length slots ≡ 32
-    pub went : Went log₀ bytes out₀ at₀ i (log_of items w slots (stations_in bus known lasts)) at out
+    pub went : Went log₀ bytes out₀ at₀ i (log_of items w slots (stations_in bus times)) at out
     pub gauged : Gauged slots gauges used
     pub rowed : Rowed w.rows.names rows
 
-  module _ (small : length out₀ < 2 ^ 64) {items : ℕ} {w : Window} {rows : ℕ} {slots : List Question} {gauges : List Gauge} {used : ℕ} {bus : List ℕ} {known : List Bool} {lasts : List ℕ} {i at : ℕ} {out : List ℕ}
-      (l : Stands items w rows slots gauges used bus known lasts i at out) {go : Bool} (e-go : go ≡ (comes w.counts.size bytes i && has_room (length out) at)) (goes : go ≡ true)
+  module _ (small : length out₀ < 2 ^ 64) {items : ℕ} {w : Window} {rows : ℕ} {slots : List Question} {gauges : List Gauge} {used : ℕ} {bus : List ℕ} {times : Times} {i at : ℕ} {out : List ℕ}
+      (l : Stands items w rows slots gauges used bus times i at out) {go : Bool} (e-go : go ≡ (comes w.counts.size bytes i && has_room (length out) at)) (goes : go ≡ true)
       {tag items₁ : ℕ} (e-tag : tag ≡ get_or bytes i 0) (e-items : items₁ ≡ next_item items) where
     here : comes w.counts.size bytes i && has_room (length out₀) at ≡ true
     here = ap (λ (n : ℕ). comes w.counts.size bytes i && has_room n at) (sym l.same) ∙ sym e-go ∙ goes
@@ -146,10 +147,10 @@ module _ (log₀ : Log) (bytes out₀ : List ℕ) (at₀ : ℕ) where
     -- An item for a slot.
     pub stands_slot : is_frame tag ≡ false → {v : List ℕ} {s : ℕ} {q : Question} {g : Gauge} {used₁ at₁ i₁ : ℕ} {out₁ : List ℕ} → v ≡ part (i + 3) (size_at bytes i) bytes → s ≡ get_or v 0 0
         → Serves (served tag items₁ v (get_or slots s no_question) (standing (rows_in w.rows) 1024)) out at q at₁ out₁ → g ≡ gauge_of q → used₁ ≡ in_use 32 (set slots s q) → i₁ ≡ i + (3 + length v)
-        → Stands items₁ w rows (set slots s q) (set gauges s g) used₁ bus known lasts i₁ at₁ out₁
+        → Stands items₁ w rows (set slots s q) (set gauges s g) used₁ bus times i₁ at₁ out₁
     stands_slot other {v} {s} {q} {g} {used₁} {at₁} {i₁} e-v e-s d e-g e-used e-i =
         let c = slot_there other in
-        let log = log_of items w slots (stations_in bus known lasts) in
+        let log = log_of items w slots (stations_in bus times) in
         let long : i₁ ≡ i + (3 + size_at bytes i) = e-i ∙ ap (λ (n : ℕ). i + (3 + n)) (ap (λ (x : List ℕ). length x) e-v ∙ length_part bytes (i + 3) (size_at bytes i) (omega (arith, c.there))) in
         let p = put (d.place, d.stored) in
         record {
@@ -163,27 +164,27 @@ module _ (log₀ : Log) (bytes out₀ : List ℕ) (at₀ : ℕ) where
         }
 
     -- A frame.
-    module _ (is : is_frame tag ≡ true) {v : List ℕ} {b : Brought} {bus₁ : List ℕ} {known₁ : List Bool} {lasts₁ : List ℕ} (e-v : v ≡ part (i + 3) (frame_size tag) bytes)
-        (heard : Hears (stations_in bus known lasts) (frame_of tag v) w.counts b bus₁ known₁ lasts₁) where
+    module _ (is : is_frame tag ≡ true) {v : List ℕ} {b : Brought} {bus₁ : List ℕ} {times₁ : Times} (e-v : v ≡ part (i + 3) (frame_size tag) bytes)
+        (heard : Hears (stations_in bus times) (frame_of tag v) w.counts b bus₁ times₁) where
       there : i + (3 + frame_size tag) ≤ length bytes
       there = (frame_there is).there
 
       long : length v ≡ frame_size tag
       long = ap (λ (x : List ℕ). length x) e-v ∙ length_part bytes (i + 3) (frame_size tag) (omega (arith, there))
 
-      brings : b ≡ brought (timed_answer (stations_in bus known lasts) (frame_of tag v)) w.counts
+      brings : b ≡ brought (timed_answer (stations_in bus times) (frame_of tag v)) w.counts
       brings = heard.brings ∙ ap (λ (a : Answer). brought a w.counts) heard.takes.answers
 
       left_room : length bus₁ ≡ room_bytes
-      left_room = ap (λ (x : List ℕ). length x) heard.takes.sessions ∙ (next_room bus (record { known = known; at = lasts }) (frame_of tag v) l.room).0
+      left_room = ap (λ (x : List ℕ). length x) heard.takes.sessions ∙ (next_room bus times (frame_of tag v) l.room).0
 
-      left : stations_in bus₁ known₁ lasts₁ ≡ stations_after (stations_in bus known lasts) (frame_of tag v)
+      left : stations_in bus₁ times₁ ≡ stations_after (stations_in bus times) (frame_of tag v)
       left =
-          let sessions = ap sessions_in heard.takes.sessions ∙ (next_room bus (record { known = known; at = lasts }) (frame_of tag v) l.room).1 in
-          λ j. record { sessions = sessions j; times = record { known = heard.takes.knows j; at = heard.takes.times j } }
+          let sessions = ap sessions_in heard.takes.sessions ∙ (next_room bus times (frame_of tag v) l.room).1 in
+          λ j. record { sessions = sessions j; times = heard.takes.times j }
 
       abbrev log : Log
-      log = log_of items w slots (stations_in bus known lasts)
+      log = log_of items w slots (stations_in bus times)
 
       window : sized w.counts.size ≡ true
       window = has_window bytes i w.counts.size next e-tag
@@ -213,7 +214,7 @@ module _ (log₀ : Log) (bytes out₀ : List ℕ) (at₀ : ℕ) where
 
       -- It brings no report.
       pub stands_none : b.number ≡ 0 → {at₁ i₁ : ℕ} {out₁ : List ℕ} → (at₁ ≡ behind at (cond b.refused (r_line items₁ b.code) [])) × (out₁ ≡ sets out at (cond b.refused (r_line items₁ b.code) [])) → i₁ ≡ i + (3 + frame_size tag)
-          → Stands items₁ w rows slots gauges used bus₁ known₁ lasts₁ i₁ at₁ out₁
+          → Stands items₁ w rows slots gauges used bus₁ times₁ i₁ at₁ out₁
       stands_none z p e-i =
           record {
             inside = inside e-i;
@@ -229,7 +230,7 @@ module _ (log₀ : Log) (bytes out₀ : List ℕ) (at₀ : ℕ) where
       pub stands_enters : (b.number ≡ 0 → ⊥) → {r : Place} → r ≡ place_for w.counts → {new : Rows} {rows₁ : ℕ} → Stored w.rows rows r.row b.row rows₁ new
           → {at₁ i₁ : ℕ} {out₁ : List ℕ} → (at₁ ≡ behind at (cond b.refused (r_line items₁ b.code) [])) × (out₁ ≡ sets out at (cond b.refused (r_line items₁ b.code) [])) → i₁ ≡ i + (3 + frame_size tag)
           → {n at₂ : ℕ} {slots₂ : List Question} {gauges₂ : List Gauge} {out₂ : List ℕ} → Turns b (window_of (record { size = w.counts.size; entered = b.number; held = r.held }) new) items₁ rows₁ slots used out₁ at₁ n slots₂ gauges₂ at₂ out₂ → used ≤ n
-          → Stands items₁ (window_of (record { size = w.counts.size; entered = b.number; held = r.held }) new) rows₁ slots₂ gauges₂ used bus₁ known₁ lasts₁ i₁ at₂ out₂
+          → Stands items₁ (window_of (record { size = w.counts.size; entered = b.number; held = r.held }) new) rows₁ slots₂ gauges₂ used bus₁ times₁ i₁ at₂ out₂
       stands_enters positive {r} e-r {new} {rows₁} st {at₁} {i₁} {out₁} p e-i {n} {at₂} {slots₂} {gauges₂} {out₂} m end_of_lem =
           let fuller : Window = window_of (record { size = w.counts.size; entered = b.number; held = r.held }) new in
           let grown : fuller ≡ added w (values b) =
@@ -251,15 +252,15 @@ module _ (log₀ : Log) (bytes out₀ : List ℕ) (at₀ : ℕ) where
           }
 
 -- Where no item comes that is done in place, or no room is left, this is what all of them leave.
-pub stands_runs : (from : Standing) (log : Log) (bytes out₀ : List ℕ) {items : ℕ} {w : Window} {rows : ℕ} {slots : List Question} {gauges : List Gauge} {used : ℕ} {bus : List ℕ} {known : List Bool} {lasts : List ℕ} {i at : ℕ} {out : List ℕ}
-    → Stands log bytes out₀ from.at items w rows slots gauges used bus known lasts i at out → {go : Bool} → go ≡ (comes w.counts.size bytes i && has_room (length out) at) → go ≡ false
-    → {r : Standing} → r ≡ record { items = items; board = record { window = w; slots = slots }; taken = i; at = at } → Runs from log bytes out₀ r (log_in r bus known lasts) out
-stands_runs from log bytes out₀ {w = w} {bus = bus} {known = known} {lasts = lasts} {i = i} {at = at} l e-go ends e =
+pub stands_runs : (from : Standing) (log : Log) (bytes out₀ : List ℕ) {items : ℕ} {w : Window} {rows : ℕ} {slots : List Question} {gauges : List Gauge} {used : ℕ} {bus : List ℕ} {times : Times} {i at : ℕ} {out : List ℕ}
+    → Stands log bytes out₀ from.at items w rows slots gauges used bus times i at out → {go : Bool} → go ≡ (comes w.counts.size bytes i && has_room (length out) at) → go ≡ false
+    → {r : Standing} → r ≡ record { items = items; board = record { window = w; slots = slots }; taken = i; at = at } → Runs from log bytes out₀ r (log_in r bus times) out
+stands_runs from log bytes out₀ {w = w} {bus = bus} {times = times} {i = i} {at = at} l e-go ends e =
     let no = ap (λ (n : ℕ). comes w.counts.size bytes i && has_room n at) (sym l.same) ∙ sym e-go ∙ ends in
     let is = went_all log bytes out₀ from.at l.went no in
     let text-is = sym (ap (λ (d : Did). d.text) is) in
     record {
-      leaves = ap (λ (r : Standing). log_in r bus known lasts) e ∙ sym (ap (λ (d : Did). d.log) is);
+      leaves = ap (λ (r : Standing). log_in r bus times) e ∙ sym (ap (λ (d : Did). d.log) is);
       taken = ap (λ (r : Standing). r.taken) e ∙ sym (ap (λ (d : Did). d.next) is);
       place = ap (λ (r : Standing). r.at) e ∙ l.went.stored.place ∙ ap (behind from.at) text-is;
       stored = l.went.stored.bytes ∙ ap (sets out₀ from.at) text-is;

@@ -1,5 +1,5 @@
 -- What the inner functions of `stretch` answer, and what its proofs speak of; no public contract and no promise cites it.
-use Rattle.std.specs.Prelude.{ℕ, ◌+◌, Bool, true, false, not, cond, ◌≡◌, ◌⊎◌, List, length, leb, eqb}
+use Rattle.std.specs.Prelude.{ℕ, ◌+◌, Bool, true, false, not, cond, ◌≡◌, ◌⊎◌, Option, None, Some, List, length, leb, eqb}
 use Rattle.std.proofs.lemmas.List.Edits.{sets}
 use Rattle.window.specs.declared.Counts.{Counts}
 use Rattle.window.specs.declared.Row.{Row}
@@ -15,6 +15,7 @@ use Rattle.joining.specs.declared.Answer.TheVariants.{Refused, Kept, Complete}
 use Rattle.bus.specs.Room.{sessions_in, room_of}
 use Rattle.joining.specs.Frame.{Frame, sender_of}
 use Rattle.joining.specs.Run.{sessions_after, answer_to}
+use Rattle.times.specs.declared.Last.{Last}
 use Rattle.times.specs.declared.Times.{Times}
 use Rattle.times.specs.Timed.{is_kept, put_last}
 use Rattle.times.specs.Run.{Timed, Stations, Takes}
@@ -64,38 +65,46 @@ unfoldable pub frame_of : ℕ → List ℕ → Timed
 frame_of tag v = cond (eqb tag 21) (timed_in v) (frame_in v)
 
 -- A frame is taken where the sessions and times stand: what it brings to a window of these counts, and what is left.
-pub record Hears (b : Stations) (f : Timed) (c : Counts) (r : Brought) (room : List ℕ) (known : List Bool) (at : List ℕ) : Type 0 where
+pub record Hears (b : Stations) (f : Timed) (c : Counts) (r : Brought) (room : List ℕ) (left : Times) : Type 0 where
   pub answer : Answer
-  pub takes : Takes b f answer room known at
+  pub takes : Takes b f answer room left
   pub brings : r ≡ brought answer c
 
 -- The last times where a frame that began so is refused, and where it is answered so: what its sender's was is put back, if the frame had a time.
+abbrev pub put_back_at : ℕ → Option (ℕ × Last) → ℕ → Times → Times
+put_back_at place None id ts = ts
+put_back_at place (Some m) id ts = cond (eqb m.0 place) (put_last ts (sender_of id) m.1) ts
+
 abbrev pub put_back : Begun → ℕ → Times → Times
-put_back g id ts = cond (eqb g.timed g.place) (put_last ts (sender_of id) (record { known = g.known; at = g.at })) ts
+put_back g id ts = put_back_at g.place g.last id ts
 
 abbrev pub times_by : Begun → Answer → ℕ → Times → Times
 times_by g a id ts = cond (is_kept a) ts (put_back g id ts)
 
+-- The last frame that had a time, if there was one, stood elsewhere.
+abbrev pub Elsewhere : ℕ → Option (ℕ × Last) → Type 0
+Elsewhere place None = Unit
+Elsewhere place (Some m) = m.0 ≡ place → ⊥
+
 -- The same in two parts. The frame's time is met first: it refuses the frame; or else, whatever the frame's session then answers and leaves, that is what the frame is answered and leaves.
-pub record Begins (b : Stations) (f : Timed) (end : ℕ) (last r : Begun) (room : List ℕ) (known : List Bool) (at : List ℕ) : Type 0 where
+pub record Begins (b : Stations) (f : Timed) (end : ℕ) (last r : Begun) (room : List ℕ) (left : Times) : Type 0 where
   pub ends : r.place + 15 ≡ end
-  pub due : (r.timed ≡ r.place) ⊎ (r.timed ≡ last.timed)
-  pub stops : (r.refusal ≡ 0 → ⊥) → Takes b f (Refused r.refusal) room known at
-  pub goes_on : r.refusal ≡ 0 → (a : Answer) (room₁ : List ℕ) (known₁ : List Bool) (at₁ : List ℕ) → a ≡ answer_to (sessions_in room) f.frame → room₁ ≡ room_of (sessions_after (sessions_in room) f.frame)
-      → known₁ ≡ (times_by r a f.frame.identifier (record { known = known; at = at })).known → at₁ ≡ (times_by r a f.frame.identifier (record { known = known; at = at })).at → Takes b f a room₁ known₁ at₁
+  pub due : ((m : Last) × (r.last ≡ Some (r.place, m))) ⊎ (r.last ≡ last.last)
+  pub stops : (r.refusal ≡ 0 → ⊥) → Takes b f (Refused r.refusal) room left
+  pub goes_on : r.refusal ≡ 0 → (a : Answer) (room₁ : List ℕ) (left₁ : Times) → a ≡ answer_to (sessions_in room) f.frame → room₁ ≡ room_of (sessions_after (sessions_in room) f.frame)
+      → left₁ ≡ times_by r a f.frame.identifier left → Takes b f a room₁ left₁
 
 -- Then its sender's session takes it.
-pub record HearsAt (b : Stations) (g : Begun) (f : Frame) (c : Counts) (r : Brought) (room : List ℕ) (known : List Bool) (at : List ℕ) : Type 0 where
+pub record HearsAt (b : Stations) (g : Begun) (f : Frame) (c : Counts) (r : Brought) (room : List ℕ) (left : Times) : Type 0 where
   pub answer : Answer
   pub answers : answer ≡ answer_to b.sessions f
   pub sessions : room ≡ room_of (sessions_after b.sessions f)
-  pub knows : known ≡ (times_by g answer f.identifier b.times).known
-  pub times : at ≡ (times_by g answer f.identifier b.times).at
+  pub times : left ≡ times_by g answer f.identifier b.times
   pub brings : r ≡ brought answer c
 
--- The log of which these bytes are the sessions, and these the last times.
-abbrev pub log_in : Standing → List ℕ → List Bool → List ℕ → Log
-log_in s bus known lasts = record { items = s.items; board = s.board; sessions = sessions_in bus; times = record { known = known; at = lasts } }
+-- The log of which these bytes are the sessions, and these are the last times.
+abbrev pub log_in : Standing → List ℕ → Times → Log
+log_in s bus times = record { items = s.items; board = s.board; sessions = sessions_in bus; times = times }
 
 -- The same with the sessions in bytes.
 pub record Runs (from : Standing) (log : Log) (bytes room : List ℕ) (r : Standing) (log₁ : Log) (left : List ℕ) : Type 0 where

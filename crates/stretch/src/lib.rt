@@ -12,7 +12,7 @@ ghost use Rattle.window.specs.Rows.{row_count};
 ghost use Rattle.journal.specs.Log.{frame_in};
 ghost use Rattle.coming.specs.Coming.{size_at};
 ghost use Rattle.coming.specs.Inner.{frame_size};
-ghost use Rattle.stretch.specs.Inner.{rows_used, Stored, not_brought, brought, window_of, frame_of, put_back, times_by, Begins, HearsAt, log_in, Runs};
+ghost use Rattle.stretch.specs.Inner.{rows_used, Stored, not_brought, brought, window_of, frame_of, put_back, times_by, Elsewhere, Begins, HearsAt, log_in, Runs};
 ghost use Rattle.stretch.specs.Doing.{Does};
 
 use board::{Arrival, Board};
@@ -51,9 +51,7 @@ struct Brought {
 struct Begun {
     place: usize,
     refusal: u8,
-    timed: usize,
-    known: bool,
-    at: u32,
+    last: Option<(usize, Last)>,
 }
 
 // Where `run` starts and ends: the items' count and the board, how many bytes were taken, and the place behind the text.
@@ -72,9 +70,7 @@ pub fn take(log: Log, bytes: &[u8], out: &mut [u8], at: usize) -> Stretch
 {
     let board = log.board;
     let sessions = log.sessions;
-    let times = log.times;
-    let mut known = times.known;
-    let mut lasts = times.at;
+    let mut times = log.times;
     let mut bus = [0u8; Bus::ROOM];
     Bus::fill(&mut bus, sessions);
     let from = Standing {
@@ -83,7 +79,7 @@ pub fn take(log: Log, bytes: &[u8], out: &mut [u8], at: usize) -> Stretch
         taken: 0,
         at,
     };
-    let run = run(from, &mut bus, &mut known, &mut lasts, bytes, out);
+    let run = run(from, &mut bus, &mut times, bytes, out);
     let left = run.board;
     let standing = Bus::read(&bus);
     Stretch {
@@ -91,7 +87,7 @@ pub fn take(log: Log, bytes: &[u8], out: &mut [u8], at: usize) -> Stretch
             items: run.items,
             board: left,
             sessions: standing,
-            times: Times { known, at: lasts },
+            times,
         },
         taken: run.taken,
         at: run.at,
@@ -103,13 +99,12 @@ pub fn take(log: Log, bytes: &[u8], out: &mut [u8], at: usize) -> Stretch
 fn run(
     from: Standing,
     bus: &mut [u8; Bus::ROOM],
-    known: &mut [bool; Bus::SENDERS],
-    lasts: &mut [u32; Bus::SENDERS],
+    times: &mut Times,
     bytes: &[u8],
     out: &mut [u8],
 ) -> Standing
     requires { length bus.old ≡ room_bytes }
-    ensures { Runs from (log_in from bus.old known.old lasts.old) bytes.now out.old result (log_in result bus.new known.new lasts.new) out.new }
+    ensures { Runs from (log_in from bus.old times.old) bytes.now out.old result (log_in result bus.new times.new) out.new }
 {
     let mut items = from.items;
     let mut at = from.at;
@@ -125,9 +120,7 @@ fn run(
     let mut begun = Begun {
         place: 0,
         refusal: 0,
-        timed: bytes.len(),
-        known: false,
-        at: 0,
+        last: None,
     };
     while coming::goes_on(counts.size, bytes, i, out.len(), at) {
         items = journal::next_item(items);
@@ -145,14 +138,14 @@ fn run(
             i += Field::HEAD + value.len();
             continue;
         }
-        begun = begin(bus, known, lasts, tag, bytes, i, begun);
+        begun = begin(bus, times, tag, bytes, i, begun);
         i = begun.place;
         if begun.refusal != 0 {
             at = serving::put_refusal(out, at, items, true, begun.refusal);
             i += Item::FRAME_BYTES;
             continue;
         }
-        let brought = hear(bus, known, lasts, begun, bytes, counts);
+        let brought = hear(bus, times, begun, bytes, counts);
         at = serving::put_refusal(out, at, items, brought.refused, brought.code);
         i += Item::FRAME_BYTES;
         if brought.number == 0 {
@@ -235,58 +228,40 @@ fn put_row(rows: &mut Rows, filled: usize, place: Place, report: Row) -> usize
 // Begins with the frame at a place: a time in it is met.
 fn begin(
     room: &mut [u8; Bus::ROOM],
-    known: &mut [bool; Bus::SENDERS],
-    lasts: &mut [u32; Bus::SENDERS],
+    times: &mut Times,
     tag: u8,
     bytes: &[u8],
     i: usize,
     last: Begun,
 ) -> Begun
-    requires { (i + (3 + frame_size tag) ≤ length bytes.now) × (length room.old ≡ room_bytes) × (last.timed ≡ i → ⊥) }
-    ensures { Begins (stations_in room.old known.old lasts.old) (frame_of tag (part (i + 3) (frame_size tag) bytes.now)) (i + (3 + frame_size tag)) last result room.new known.new lasts.new }
+    requires { (i + (3 + frame_size tag) ≤ length bytes.now) × (length room.old ≡ room_bytes) × Elsewhere i last.last }
+    ensures { Begins (stations_in room.old times.old) (frame_of tag (part (i + 3) (frame_size tag) bytes.now)) (i + (3 + frame_size tag)) last result room.new times.new }
 {
     if tag != Item::TIMED {
         return Begun {
             place: i,
             refusal: 0,
-            timed: last.timed,
-            known: last.known,
-            at: last.at,
+            last: last.last,
         };
     }
-    let met = meet(
-        room,
-        known,
-        lasts,
-        &bytes[i + Field::HEAD..i + Item::TIMED_BYTES],
-    );
-    let found = met.last;
+    let met = meet(room, times, &bytes[i + Field::HEAD..i + Item::TIMED_BYTES]);
     let place = i + Item::TIME;
     Begun {
         place,
         refusal: met.refusal,
-        timed: place,
-        known: found.known,
-        at: found.at,
+        last: Some((place, met.last)),
     }
 }
 
 // Meets the time in the value of an item that has one.
-fn meet(
-    room: &mut [u8; Bus::ROOM],
-    known: &mut [bool; Bus::SENDERS],
-    lasts: &mut [u32; Bus::SENDERS],
-    value: &[u8],
-) -> Met
+fn meet(room: &mut [u8; Bus::ROOM], times: &mut Times, value: &[u8]) -> Met
     requires { length value.now ≡ 16 }
-    ensures { Meets (stations_in room.old known.old lasts.old) (number (part 0 4 value.now)) (number (part 4 4 value.now)) (part 8 8 value.now) result room.new known.new lasts.new }
+    ensures { Meets (stations_in room.old times.old) (number (part 0 4 value.now)) (number (part 4 4 value.now)) (part 8 8 value.now) result room.new times.new }
 {
     let time = wire::read32(value, 0);
     let id = wire::read32(value, Item::TIME);
-    Times::meet(
+    times.meet(
         room,
-        known,
-        lasts,
         time,
         id,
         &value[Item::TIME + Item::DATA..Item::TIMED_SIZE],
@@ -296,38 +271,29 @@ fn meet(
 // Hands the frame that ends an item to its sender's session: what that brings to a window of these counts.
 fn hear(
     room: &mut [u8; Bus::ROOM],
-    known: &mut [bool; Bus::SENDERS],
-    lasts: &mut [u32; Bus::SENDERS],
+    times: &mut Times,
     begun: Begun,
     bytes: &[u8],
     counts: Counts,
 ) -> Brought
     requires { begun.place + 15 ≤ length bytes.now }
-    ensures { HearsAt (stations_in room.old known.old lasts.old) begun (frame_in (part (begun.place + 3) 12 bytes.now)).frame counts result room.new known.new lasts.new }
+    ensures { HearsAt (stations_in room.old times.old) begun (frame_in (part (begun.place + 3) 12 bytes.now)).frame counts result room.new times.new }
 {
     let place = begun.place;
     let value = &bytes[place + Field::HEAD..place + Item::FRAME_BYTES];
     let id = wire::read32(value, 0);
     let answer = Bus::take(room, id, &value[Item::DATA..Item::FRAME_SIZE]);
-    brings(known, lasts, begun, id, answer, counts)
+    brings(times, begun, id, answer, counts)
 }
 
 // What an answer brings to a window of these counts; the last time of a refused frame's sender is put back.
-fn brings(
-    known: &mut [bool; Bus::SENDERS],
-    lasts: &mut [u32; Bus::SENDERS],
-    begun: Begun,
-    id: u32,
-    answer: Answer,
-    counts: Counts,
-) -> Brought
+fn brings(times: &mut Times, begun: Begun, id: u32, answer: Answer, counts: Counts) -> Brought
     ensures value { result ≡ brought answer counts }
-    ensures known_value { known.new ≡ (times_by begun answer id (record { known = known.old; at = lasts.old })).known }
-    ensures lasts_after { lasts.new ≡ (times_by begun answer id (record { known = known.old; at = lasts.old })).at }
+    ensures times_after { times.new ≡ times_by begun answer id times.old }
 {
     match answer {
         Answer::Refused(n) => {
-            put_back(known, lasts, begun, id);
+            put_back(times, begun, id);
             not_brought(true, n)
         }
         Answer::Kept => not_brought(false, 0),
@@ -362,21 +328,13 @@ fn brings(
 }
 
 // Puts back what its sender's last time was, if the frame had a time.
-fn put_back(
-    known: &mut [bool; Bus::SENDERS],
-    lasts: &mut [u32; Bus::SENDERS],
-    begun: Begun,
-    id: u32,
-)
-    ensures known_value { known.new ≡ (put_back begun id (record { known = known.old; at = lasts.old })).known }
-    ensures lasts_after { lasts.new ≡ (put_back begun id (record { known = known.old; at = lasts.old })).at }
+fn put_back(times: &mut Times, begun: Begun, id: u32)
+    ensures { times.new ≡ put_back begun id times.old }
 {
-    if begun.timed == begun.place {
-        let last = Last {
-            known: begun.known,
-            at: begun.at,
-        };
-        Times::put(known, lasts, (id % 256) as u8, last);
+    if let Some((place, last)) = begun.last {
+        if place == begun.place {
+            times.put((id % 256) as u8, last);
+        }
     }
 }
 

@@ -6,8 +6,8 @@ use mathlib.Core.List.{[], ◌∷◌}
 use Prim.Native.Nat.{ℕ}
 use Rattle.wire.specs.Bytes.{number}
 use Rattle.joining.specs.declared.Answer.TheVariants.{Refused, Kept}
-use Rattle.joining.specs.Frame.{frame_refusal, malformed, foreign}
-use Rattle.joining.specs.Joining.{fit, is_closed, is_open, carries, sound, announcement_refusal, announce, packet, take_frame}
+use Rattle.joining.specs.Frame.{frame_checked, frame_refusal, malformed, foreign}
+use Rattle.joining.specs.Joining.{fit, is_closed, is_open, carries, sound, announcement_checked, announcement_refusal, announce, packet, take_frame}
 use Rattle.joining.proofs.Examples.{packs, sized, first}
 use Rattle.times.specs.Timed.{no_time, time_of, fit_last, is_before, is_late, timed_frame}
 use Rattle.times.specs.Run.{Timed, station_after_all, station_answers, fresh_station}
@@ -39,7 +39,7 @@ pub record Examples : Type 0 where
   pub untimed-sets-none : (station_after_all fresh_station (opening None ∷ one None ∷ [])).last ≡ no_time
 
 pub examples : Examples
-unfolding number take_frame frame_refusal malformed foreign announce announcement_refusal packet sound carries fit is_closed is_open timed_frame fit_last is_before is_late station_after_all station_answers
+unfolding number take_frame frame_refusal frame_checked malformed foreign announce announcement_refusal announcement_checked packet sound carries fit is_closed is_open timed_frame fit_last is_before is_late station_after_all station_answers
 examples =
     record {
       in_time = refl;

@@ -23,7 +23,7 @@ use Rattle.times.specs.declared.Times.{Times}
 use Rattle.times.specs.declared.Last.{Last}
 use Rattle.times.specs.declared.Station.{Station}
 use Rattle.times.specs.declared.Heard.{Heard}
-use Rattle.times.specs.Timed.{fit_last, is_before, is_late, met_at, is_kept, last_after, kept_at, timed_frame, passes, stops, meets, last_of, with_last, put_last}
+use Rattle.times.specs.Timed.{time_of, fit_last, is_before, is_late, met_at, is_kept, last_after, kept_at, timed_frame, passes, stops, meets, last_of, with_last, put_last}
 use Rattle.times.specs.Run.{Timed, sender, frame_at, station_step, Stations, station_of, with_station, stations_after, timed_answer, stations_in, timed_at, Takes, stations_met, Meets}
 use Rattle.times.proofs.Steps.{stops-turned, stops_so, meets_settled}
 use Rattle.times.proofs.Mixing.{plain_after, plain_answer}
@@ -39,9 +39,9 @@ met_long s t id d long =
     (λ e. either (λ (x : Session). length x.bytes ≡ 89) (is_late s.last t) (λ e. either (λ (x : Session). length x.bytes ≡ 89) (eqb (frame_refusal id d) 0 && fit s.session) (λ e. long) (λ e. long)) (λ e. long))
     (λ e. long)
 
-module _ (room : List ℕ) (known : List Bool) (at : List ℕ) (t id : ℕ) (d : List ℕ) where
+module _ (room : List ℕ) (times : Times) (t id : ℕ) (d : List ℕ) where
   abbrev lent : Stations
-  lent = stations_in room known at
+  lent = stations_in room times
 
   abbrev frame : Frame
   frame = record { identifier = id; data_bytes = d }
@@ -49,32 +49,36 @@ module _ (room : List ℕ) (known : List Bool) (at : List ℕ) (t id : ℕ) (d :
   abbrev timed : Timed
   timed = timed_at t id d
 
-  abbrev times : Times
-  times = record { known = known; at = at }
-
   abbrev own : Station
   own = station_of (sender_of id) lent
 
+  -- A last time put in its own place changes nothing.
+  same_last : with_last times (sender_of id) own.last ≡ times
+  same_last =
+      let known = set-get_or times.known (sender_of id) false in
+      let at = set-get_or times.at (sender_of id) 0 in
+      λ i. record { known = known i; at = at i }
+
   -- What `Times::meet` does for a sender that has a session: the last time refuses nothing, and is set, ...
   module _ (h : sender_of id < 254) {n : ℕ} {q : List ℕ} (e : n ≡ stops own t id d) (f : q ≡ room_of (set (sessions_in room) (sender_of id) (meets own t id d).session)) where
-    pub met-passes : n ≡ 0 → Meets lent t id d (record { refusal = n; last = own.last }) q (set known (sender_of id) true) (set at (sender_of id) t)
+    pub met-passes : n ≡ 0 → Meets lent t id d (record { refusal = n; last = own.last }) q (with_last times (sender_of id) (time_of t))
     met-passes z = go (passes own.last t) refl
       where
-        go : (b : Bool) → passes own.last t ≡ b → Meets lent t id d (record { refusal = n; last = own.last }) q (set known (sender_of id) true) (set at (sender_of id) t)
+        go : (b : Bool) → passes own.last t ≡ b → Meets lent t id d (record { refusal = n; last = own.last }) q (with_last times (sender_of id) (time_of t))
         go false p = absurd (stops_so own t id d p (sym e ∙ z))
         go true p =
             let has = lt-ltb (sender_of id) 254 h in
-            record { refuses = e ∙ rw has; found = rw has; sessions = f ∙ rw has; knows = rw (has, p); times = rw (has, p) }
+            record { refuses = e ∙ rw has; found = rw has; sessions = f ∙ rw has; times = rw (has, p) }
 
     -- ... or it refuses the frame, and stays.
-    pub met-stops : (n ≡ 0 → ⊥) → Meets lent t id d (record { refusal = n; last = own.last }) q known at
+    pub met-stops : (n ≡ 0 → ⊥) → Meets lent t id d (record { refusal = n; last = own.last }) q times
     met-stops given = go (passes own.last t) refl
       where
-        go : (b : Bool) → passes own.last t ≡ b → Meets lent t id d (record { refusal = n; last = own.last }) q known at
+        go : (b : Bool) → passes own.last t ≡ b → Meets lent t id d (record { refusal = n; last = own.last }) q times
         go true p = absurd (given (e ∙ rw p))
         go false p =
             let has = lt-ltb (sender_of id) 254 h in
-            record { refuses = e ∙ rw has; found = rw has; sessions = f ∙ rw has; knows = rw (has, p) (sym (set-get_or known (sender_of id) false)); times = rw (has, p) (sym (set-get_or at (sender_of id) 0)) }
+            record { refuses = e ∙ rw has; found = rw has; sessions = f ∙ rw has; times = rw (has, p) (sym same_last) }
 
   -- The untimed rules, at sessions ss that are the lent ones but perhaps for the sender's own, x.
   module _ (h : sender_of id < 254) (ss : List Session) (x : Session) (there : session_of (sender_of id) ss ≡ x)
@@ -94,27 +98,24 @@ module _ (room : List ℕ) (known : List Bool) (at : List ℕ) (t id : ℕ) (d :
     leaves_timed : stations_after lent timed ≡ with_station lent (sender_of id) (kept_at t own.last (take_frame x id d)).station
     leaves_timed = rw (lt-ltb (sender_of id) 254 h) (ap (λ (o : Heard). with_station lent (sender_of id) o.station) e)
 
-    settles : {r : Answer} {q : List ℕ} {ks : List Bool} {ts : List ℕ} → r ≡ answer_to ss frame → q ≡ room_of (sessions_after ss frame)
-        → ks ≡ (with_last times (sender_of id) (last_after r t (last_of (sender_of id) times))).known
-        → ts ≡ (with_last times (sender_of id) (last_after r t (last_of (sender_of id) times))).at → Takes lent timed r q ks ts
-    settles a b c f =
+    settles : {r : Answer} {q : List ℕ} {ts : Times} → r ≡ answer_to ss frame → q ≡ room_of (sessions_after ss frame)
+        → ts ≡ with_last times (sender_of id) (last_after r t (last_of (sender_of id) times)) → Takes lent timed r q ts
+    settles a b c =
         let same_answer = a ∙ answers in
         record {
           answers = same_answer ∙ sym answers_timed;
           sessions = b ∙ ap room_of leaves ∙ sym (ap (λ (y : Stations). room_of y.sessions) leaves_timed);
-          knows =
-              c ∙ ap (λ (y : Answer). (with_last times (sender_of id) (last_after y t (last_of (sender_of id) times))).known) same_answer ∙ sym (ap (λ (y : Stations). y.times.known) leaves_timed);
           times =
-              f ∙ ap (λ (y : Answer). (with_last times (sender_of id) (last_after y t (last_of (sender_of id) times))).at) same_answer ∙ sym (ap (λ (y : Stations). y.times.at) leaves_timed);
+              c ∙ ap (λ (y : Answer). with_last times (sender_of id) (last_after y t (last_of (sender_of id) times))) same_answer ∙ sym (ap (λ (y : Stations). y.times) leaves_timed);
         }
 
   -- What `Times::meet` found and left, in bytes that are a room.
-  module _ (long : length room ≡ 23368) {n : ℕ} {l : Last} {q : List ℕ} {ks : List Bool} {ts : List ℕ} (m : Meets lent t id d (record { refusal = n; last = l }) q ks ts) where
+  module _ (long : length room ≡ 23368) {n : ℕ} {l : Last} {q : List ℕ} {ts : Times} (m : Meets lent t id d (record { refusal = n; last = l }) q ts) where
     -- The last time refuses the frame.
-    pub met-refused : (n ≡ 0 → ⊥) → Takes lent timed (Refused n) q ks ts
+    pub met-refused : (n ≡ 0 → ⊥) → Takes lent timed (Refused n) q ts
     met-refused given = go (ltb (sender_of id) 254) (passes own.last t) refl refl
       where
-        go : (x y : Bool) → ltb (sender_of id) 254 ≡ x → passes own.last t ≡ y → Takes lent timed (Refused n) q ks ts
+        go : (x y : Bool) → ltb (sender_of id) 254 ≡ x → passes own.last t ≡ y → Takes lent timed (Refused n) q ts
         go false y e f = absurd (given (m.refuses ∙ rw e))
         go true true e f = absurd (given (m.refuses ∙ rw (e, f)))
         go true false e f =
@@ -123,37 +124,30 @@ module _ (room : List ℕ) (known : List Bool) (at : List ℕ) (t id : ℕ) (d :
             record {
               answers = ap Refused m.refuses ∙ rw e (ap (λ (o : Heard). o.answer) step);
               sessions = m.sessions ∙ ap (λ (c : Stations). room_of c.sessions) met;
-              knows = m.knows ∙ ap (λ (c : Stations). c.times.known) met;
-              times = m.times ∙ ap (λ (c : Stations). c.times.at) met;
+              times = m.times ∙ ap (λ (c : Stations). c.times) met;
             }
 
-    abbrev left : Times
-    left = record { known = ks; at = ts }
-
     -- It refuses none, and the untimed rules take the frame: where they refuse it, the last time is put back.
-    pub met-taken : n ≡ 0 → {r : Answer} {q₁ : List ℕ} {ks₁ : List Bool} {ts₁ : List ℕ} → r ≡ answer_to (sessions_in q) frame → q₁ ≡ room_of (sessions_after (sessions_in q) frame)
-        → ks₁ ≡ (cond (is_kept r) left (put_last left (sender_of id) l)).known → ts₁ ≡ (cond (is_kept r) left (put_last left (sender_of id) l)).at → Takes lent timed r q₁ ks₁ ts₁
-    met-taken z {r} {q₁} {ks₁} {ts₁} a b c f = go (ltb (sender_of id) 254) (passes own.last t) refl refl
+    pub met-taken : n ≡ 0 → {r : Answer} {q₁ : List ℕ} {ts₁ : Times} → r ≡ answer_to (sessions_in q) frame → q₁ ≡ room_of (sessions_after (sessions_in q) frame)
+        → ts₁ ≡ cond (is_kept r) ts (put_last ts (sender_of id) l) → Takes lent timed r q₁ ts₁
+    met-taken z {r} {q₁} {ts₁} a b c = go (ltb (sender_of id) 254) (passes own.last t) refl refl
       where
-        known_so : ltb (sender_of id) 254 ≡ true → l ≡ own.last → (y : Bool) → is_kept r ≡ y → ks ≡ set known (sender_of id) true
-            → (cond (is_kept r) left (put_last left (sender_of id) l)).known ≡ set known (sender_of id) (last_after r t own.last).known
-        known_so has was true k e = rw k e
-        known_so has was false k e = rw (k, has, e, was) (set-set known (sender_of id) true own.last.known)
+        times_so : ltb (sender_of id) 254 ≡ true → l ≡ own.last → (y : Bool) → is_kept r ≡ y → ts ≡ with_last times (sender_of id) (time_of t)
+            → cond (is_kept r) ts (put_last ts (sender_of id) l) ≡ with_last times (sender_of id) (last_after r t own.last)
+        times_so has was true k e = rw k e
+        times_so has was false k e =
+            let known = set-set times.known (sender_of id) true own.last.known in
+            let at = set-set times.at (sender_of id) t own.last.at in
+            rw (k, has, e, was) (λ i. record { known = known i; at = at i })
 
-        time_so : ltb (sender_of id) 254 ≡ true → l ≡ own.last → (y : Bool) → is_kept r ≡ y → ts ≡ set at (sender_of id) t
-            → (cond (is_kept r) left (put_last left (sender_of id) l)).at ≡ set at (sender_of id) (last_after r t own.last).at
-        time_so has was true k e = rw k e
-        time_so has was false k e = rw (k, has, e, was) (set-set at (sender_of id) t own.last.at)
-
-        go : (x y : Bool) → ltb (sender_of id) 254 ≡ x → passes own.last t ≡ y → Takes lent timed r q₁ ks₁ ts₁
+        go : (x y : Bool) → ltb (sender_of id) 254 ≡ x → passes own.last t ≡ y → Takes lent timed r q₁ ts₁
         go false y e g =
             let same : q ≡ room = m.sessions ∙ rw e (room_of_sessions 254 room long) in
             let refused : r ≡ Refused (frame_refusal id d) = a ∙ rw e in
             record {
               answers = refused ∙ rw e;
               sessions = b ∙ rw e (ap (λ (x : List ℕ). room_of (sessions_in x)) same);
-              knows = c ∙ rw (refused, e) (m.knows ∙ rw e);
-              times = f ∙ rw (refused, e) (m.times ∙ rw e);
+              times = c ∙ rw (refused, e) (m.times ∙ rw e);
             }
         go true false e g = absurd (stops_so own t id d g (sym (m.refuses ∙ rw e) ∙ z))
         go true true e g =
@@ -165,7 +159,7 @@ module _ (room : List ℕ) (known : List Bool) (at : List ℕ) (t id : ℕ) (d :
             (ap (session_of (sender_of id)) ss ∙ get_or-set_same (sessions_in room) (sender_of id) x nobody (rw (sessions_many 254 room) h))
             (λ y. ap (λ (l : List Session). set l (sender_of id) y) ss ∙ set-set (sessions_in room) (sender_of id) x y)
             (meets_settled own t frame g)
-            a b (c ∙ known_so e (m.found ∙ rw e) (is_kept r) refl (m.knows ∙ rw (e, g))) (f ∙ time_so e (m.found ∙ rw e) (is_kept r) refl (m.times ∙ rw (e, g)))
+            a b (c ∙ times_so e (m.found ∙ rw e) (is_kept r) refl (m.times ∙ rw (e, g)))
 
 -- A frame keeps the payload's length, whatever the session and the last time are.
 station_long : (s : Station) (f : Timed) → length s.session.bytes ≡ 89 → length (station_step s f).station.session.bytes ≡ 89
@@ -184,12 +178,12 @@ station_long s f long = go f.time
 
 -- What `Times::take` leaves is a room again, and it holds those sessions.
 pub next_room : (room : List ℕ) (ts : Times) (f : Timed) → length room ≡ 23368
-    → (length (room_of (stations_after (record { sessions = sessions_in room; times = ts }) f).sessions) ≡ 23368)
-    × (sessions_in (room_of (stations_after (record { sessions = sessions_in room; times = ts }) f).sessions) ≡ (stations_after (record { sessions = sessions_in room; times = ts }) f).sessions)
+    → (length (room_of (stations_after (stations_in room ts) f).sessions) ≡ 23368)
+    × (sessions_in (room_of (stations_after (stations_in room ts) f).sessions) ≡ (stations_after (stations_in room ts) f).sessions)
 next_room room ts f long = go (ltb (sender f) 254) refl
   where
     b : Stations
-    b = record { sessions = sessions_in room; times = ts }
+    b = stations_in room ts
 
     Holds : Stations → Type 0
     Holds c = (length (room_of c.sessions) ≡ 23368) × (sessions_in (room_of c.sessions) ≡ c.sessions)
@@ -202,15 +196,14 @@ next_room room ts f long = go (ltb (sender f) 254) refl
     go false e = (ap length (room_of_sessions 254 room long) ∙ long, ap sessions_in (room_of_sessions 254 room long))
 
 -- What `Bus::take` leaves is what a frame without a time leaves, and the times stay.
-pub untimed-takes : (room : List ℕ) (known : List Bool) (at : List ℕ) (f : Frame) {answer : Answer} {left : List ℕ}
+pub untimed-takes : (room : List ℕ) (times : Times) (f : Frame) {answer : Answer} {left : List ℕ}
     → answer ≡ answer_to (sessions_in room) f → left ≡ room_of (sessions_after (sessions_in room) f)
-    → Takes (stations_in room known at) (record { frame = f; time = None }) answer left known at
-untimed-takes room known at f a e =
-    let b = stations_in room known at in
+    → Takes (stations_in room times) (record { frame = f; time = None }) answer left times
+untimed-takes room times f a e =
+    let b = stations_in room times in
     let after = plain_after b f in
     record {
       answers = a ∙ sym (plain_answer b f);
       sessions = e ∙ sym (ap (λ (c : Stations). room_of c.sessions) after);
-      knows = sym (ap (λ (c : Stations). c.times.known) after);
-      times = sym (ap (λ (c : Stations). c.times.at) after);
+      times = sym (ap (λ (c : Stations). c.times) after);
     }

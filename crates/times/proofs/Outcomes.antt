@@ -1,10 +1,10 @@
 -- Any two outcomes that a contract allows are equal, since each contract is an equation: the answer, every byte that was lent, and every time.
 -- Assumes nothing.
 use mathlib.Core.Path.{sym, ◌∙◌}
-use mathlib.Core.Bool.{Bool}
 use mathlib.Core.List.{List}
 use Prim.Native.Nat.{ℕ}
 use Rattle.laws.proofs.Outcomes.{OneAnswer, OneLeft}
+use Rattle.times.specs.declared.Times.{Times}
 use Rattle.times.proofs.Times.fresh.Kinds as fresh-kinds
 use Rattle.times.proofs.Times.fresh.Reads as fresh-reads
 use Rattle.times.proofs.Times.of.Kinds as of-kinds
@@ -23,7 +23,7 @@ use Rattle.times.proofs.Times.put.Reads as put_reads
 fresh_once : OneAnswer 0 fresh-kinds.ps fresh-kinds.r fresh-reads.Post
 fresh_once κs a x y s t p q = p ∙ sym q
 
-of_once : OneAnswer 0 of-kinds.ps of-kinds.r of-reads.Post
+of_once : OneAnswer 1 of-kinds.ps of-kinds.r of-reads.Post
 of_once κs a x y s t p q = p ∙ sym q
 
 with_once : OneAnswer 0 with-kinds.ps with-kinds.r with-reads.Post
@@ -32,35 +32,26 @@ with_once κs a x y s t p q = p ∙ sym q
 frame_once : OneAnswer 1 frame-kinds.ps frame-kinds.r frame-reads.Post
 frame_once κs a x y s t p q = p ∙ sym q
 
-take_once : OneAnswer 4 take-kinds.ps take-kinds.r take-reads.Post
+take_once : OneAnswer 3 take-kinds.ps take-kinds.r take-reads.Post
 take_once κs a x y s t p q = p.answers ∙ sym q.answers
 
-take_leaves_once : OneLeft 4 take-kinds.ps take-kinds.r take-reads.Post (List ℕ) (λ κs s. s.0.now)
+take_leaves_once : OneLeft 3 take-kinds.ps take-kinds.r take-reads.Post (List ℕ) (λ κs s. s.1.0.now)
 take_leaves_once κs a x y s t p q = p.sessions ∙ sym q.sessions
 
-take_knows_once : OneLeft 4 take-kinds.ps take-kinds.r take-reads.Post (List Bool) (λ κs s. s.1.0.now)
-take_knows_once κs a x y s t p q = p.knows ∙ sym q.knows
-
-take_times_once : OneLeft 4 take-kinds.ps take-kinds.r take-reads.Post (List ℕ) (λ κs s. s.1.1.0.now)
+take_times_once : OneLeft 3 take-kinds.ps take-kinds.r take-reads.Post Times (λ κs s. s.0.now)
 take_times_once κs a x y s t p q = p.times ∙ sym q.times
 
-meet_once : OneAnswer 4 meet-kinds.ps meet-kinds.r meet-reads.Post
+meet_once : OneAnswer 3 meet-kinds.ps meet-kinds.r meet-reads.Post
 meet_once κs a x y s t p q =
     let refusal = p.refuses ∙ sym q.refuses in
     let last = p.found ∙ sym q.found in
     λ i. record { refusal = refusal i; last = last i }
 
-meet_leaves_once : OneLeft 4 meet-kinds.ps meet-kinds.r meet-reads.Post (List ℕ) (λ κs s. s.0.now)
+meet_leaves_once : OneLeft 3 meet-kinds.ps meet-kinds.r meet-reads.Post (List ℕ) (λ κs s. s.1.0.now)
 meet_leaves_once κs a x y s t p q = p.sessions ∙ sym q.sessions
 
-meet_knows_once : OneLeft 4 meet-kinds.ps meet-kinds.r meet-reads.Post (List Bool) (λ κs s. s.1.0.now)
-meet_knows_once κs a x y s t p q = p.knows ∙ sym q.knows
-
-meet_times_once : OneLeft 4 meet-kinds.ps meet-kinds.r meet-reads.Post (List ℕ) (λ κs s. s.1.1.0.now)
+meet_times_once : OneLeft 3 meet-kinds.ps meet-kinds.r meet-reads.Post Times (λ κs s. s.0.now)
 meet_times_once κs a x y s t p q = p.times ∙ sym q.times
 
-put_knows_once : OneLeft 2 put-kinds.ps put-kinds.r put_reads.Post (List Bool) (λ κs s. s.0.now)
-put_knows_once κs a x y s t p q = p.0 ∙ sym q.0
-
-put_times_once : OneLeft 2 put-kinds.ps put-kinds.r put_reads.Post (List ℕ) (λ κs s. s.1.0.now)
-put_times_once κs a x y s t p q = p.1 ∙ sym q.1
+put_leaves_once : OneLeft 1 put-kinds.ps put-kinds.r put_reads.Post Times (λ κs s. s.0.now)
+put_leaves_once κs a x y s t p q = p ∙ sym q

@@ -68,9 +68,9 @@ abbrev pub timed_answer : Stations → Timed → Answer
 timed_answer b f =
     cond (ltb (sender f) senders) (station_step (station_of (sender f) b) f).answer (Refused (frame_refusal f.frame.identifier f.frame.data_bytes))
 
--- What stands in the bytes and numbers that a caller lends, and the frame that it hands in, with a time or without.
-abbrev pub stations_in : List ℕ → List Bool → List ℕ → Stations
-stations_in room known at = record { sessions = sessions_in room; times = record { known = known; at = at } }
+-- What stands in the bytes and times that a caller lends, and the frame that it hands in, with a time or without.
+abbrev pub stations_in : List ℕ → Times → Stations
+stations_in room times = record { sessions = sessions_in room; times = times }
 
 abbrev pub timed_at : ℕ → ℕ → List ℕ → Timed
 timed_at t id d = record { frame = record { identifier = id; data_bytes = d }; time = Some t }
@@ -79,22 +79,20 @@ abbrev pub untimed_at : ℕ → List ℕ → Timed
 untimed_at id d = record { frame = record { identifier = id; data_bytes = d }; time = None }
 
 -- A frame is taken where the sessions and times stand that a caller lends: its answer, and what is left there.
-pub record Takes (b : Stations) (f : Timed) (answer : Answer) (room : List ℕ) (known : List Bool) (at : List ℕ) : Type 0 where
+pub record Takes (b : Stations) (f : Timed) (answer : Answer) (room : List ℕ) (left : Times) : Type 0 where
   pub answers : answer ≡ timed_answer b f
   pub sessions : room ≡ room_of (stations_after b f).sessions
-  pub knows : known ≡ (stations_after b f).times.known
-  pub times : at ≡ (stations_after b f).times.at
+  pub times : left ≡ (stations_after b f).times
 
 -- What a time settles before its frame is taken, where the sessions and times stand that a caller lends.
 abbrev pub stations_met : Stations → ℕ → ℕ → List ℕ → Stations
 stations_met b t id d = cond (ltb (sender_of id) senders) (with_station b (sender_of id) (meets (station_of (sender_of id) b) t id d)) b
 
-pub record Meets (b : Stations) (t id : ℕ) (d : List ℕ) (r : Met) (room : List ℕ) (known : List Bool) (at : List ℕ) : Type 0 where
+pub record Meets (b : Stations) (t id : ℕ) (d : List ℕ) (r : Met) (room : List ℕ) (left : Times) : Type 0 where
   pub refuses : r.refusal ≡ cond (ltb (sender_of id) senders) (stops (station_of (sender_of id) b) t id d) 0
   pub found : r.last ≡ cond (ltb (sender_of id) senders) (last_of (sender_of id) b.times) no_time
   pub sessions : room ≡ room_of (stations_met b t id d).sessions
-  pub knows : known ≡ (stations_met b t id d).times.known
-  pub times : at ≡ (stations_met b t id d).times.at
+  pub times : left ≡ (stations_met b t id d).times
 
 -- A run of frames: what is there at its end, and the answers in order.
 unfoldable pub stations_after_all : Stations → List Timed → Stations

@@ -2,6 +2,7 @@
 #![tactic(auto)]
 
 ghost use Rattle.std.specs.Prelude.{◌≡◌, true, cond, ◌<◌, length, set, eqb};
+ghost use Rattle.refusal.specs.Numbers.{number_of};
 ghost use Rattle.joining.specs.Frame.{sender_of, frame_refusal};
 ghost use Rattle.joining.specs.Joining.{fit, closed, take_frame};
 ghost use Rattle.joining.specs.Run.{senders, session_of, sessions_after, answer_to};
@@ -12,6 +13,7 @@ ghost use Rattle.times.specs.Inner.{came_at, station_in};
 
 use bus::Bus;
 use joining::{Answer, Session};
+use refusal::Refusal;
 
 // A sender's last kept time, in milliseconds: whether there is one, and which, 0 where there is none.
 // Stays: an Option lacks the state that is unfit, no time and yet not 0, which `came_at` (specs/Inner.antt) refuses with 24.
@@ -67,18 +69,11 @@ impl Times {
 
     // Takes a frame that came at a time, in milliseconds: as its sender's session does, which is closed first where more than
     // 750 ms lie between; a frame that isn't refused sets that sender's time. Nothing of other senders is touched.
-    pub fn take(
-        room: &mut [u8; Bus::ROOM],
-        known: &mut [bool; Bus::SENDERS],
-        at: &mut [u32; Bus::SENDERS],
-        time: u32,
-        id: u32,
-        data: &[u8],
-    ) -> Answer
-        ensures { Takes (stations_in room.old known.old at.old) (timed_at time id «data».now) result room.new known.new at.new }
+    pub fn take(&mut self, room: &mut [u8; Bus::ROOM], time: u32, id: u32, data: &[u8]) -> Answer
+        ensures { Takes (stations_in room.old self.old) (timed_at time id «data».now) result room.new self.new }
     {
         whole(room);
-        timed(room, known, at, time, id, data)
+        self.timed(room, time, id, data)
     }
 }
 
@@ -87,42 +82,29 @@ impl Times {
 impl Times {
     // What a time settles before its frame is taken. It refuses a frame that is before the last time, or at one that is unfit, by its
     // first refusal; else it closes the session where more than 750 ms lie between, and sets the time.
-    pub fn meet(
-        room: &mut [u8; Bus::ROOM],
-        known: &mut [bool; Bus::SENDERS],
-        at: &mut [u32; Bus::SENDERS],
-        time: u32,
-        id: u32,
-        data: &[u8],
-    ) -> Met
-        ensures { Meets (stations_in room.old known.old at.old) time id «data».now result room.new known.new at.new }
+    pub fn meet(&mut self, room: &mut [u8; Bus::ROOM], time: u32, id: u32, data: &[u8]) -> Met
+        ensures { Meets (stations_in room.old self.old) time id «data».now result room.new self.new }
     {
         whole(room);
-        meet_in(room, known, at, time, id, data)
+        self.meet_in(room, time, id, data)
     }
 
     // Stores another last time of that sender; senders 254 and 255 have none.
-    pub fn put(
-        known: &mut [bool; Bus::SENDERS],
-        at: &mut [u32; Bus::SENDERS],
-        sender: u8,
-        last: Last,
-    )
-        ensures known_value { known.new ≡ (put_last (record { known = known.old; at = at.old }) sender last).known }
-        ensures at_after { at.new ≡ (put_last (record { known = known.old; at = at.old }) sender last).at }
+    pub fn put(&mut self, sender: u8, last: Last)
+        ensures { self.new ≡ put_last self.old sender last }
     {
         let k = sender as usize;
         if k < Bus::SENDERS {
-            known[k] = last.known;
-            at[k] = last.at;
+            self.known[k] = last.known;
+            self.at[k] = last.at;
         }
     }
 }
 
 impl Times {
     // A sender's last time; senders 254 and 255 have none.
-    pub fn of(self, sender: u8) -> Last
-        ensures { result ≡ last_of sender self }
+    pub fn of(&self, sender: u8) -> Last
+        ensures { result ≡ last_of sender self.now }
     {
         let k = sender as usize;
         if Bus::SENDERS <= k {
@@ -131,11 +113,9 @@ impl Times {
                 at: 0,
             };
         }
-        let known = self.known;
-        let at = self.at;
         Last {
-            known: known[k],
-            at: at[k],
+            known: self.known[k],
+            at: self.at[k],
         }
     }
 
@@ -160,15 +140,14 @@ impl Station {
     pub fn frame(self, time: u32, id: u32, data: &[u8]) -> Heard
         ensures { result ≡ timed_frame self time id «data».now }
     {
-        let n = joining::frame_refusal(id, data);
-        if n != 0 {
-            return self.turned(n);
+        if let Err(refusal) = joining::frame_refusal(id, data) {
+            return self.turned(refusal);
         }
         let session = self.session;
         if session.fit() {
             return self.timed(time, id, data);
         }
-        self.turned(Session::UNFIT)
+        self.turned(Refusal::Unfit)
     }
 
     // `frame` where no refusal comes before those of the last time.
@@ -182,16 +161,16 @@ impl Station {
         match came {
             Came::InTime => last.settled(session, time, id, data),
             Came::Late => last.settled(closed(session), time, id, data),
-            Came::Before => self.turned(Times::BEFORE),
-            Came::Unfit => self.turned(Session::UNFIT),
+            Came::Before => self.turned(Refusal::BeforeLastTime),
+            Came::Unfit => self.turned(Refusal::Unfit),
         }
     }
 
-    fn turned(self, code: u8) -> Heard
-        ensures { result ≡ turned code self }
+    fn turned(self, refusal: Refusal) -> Heard
+        ensures { result ≡ turned (number_of refusal) self }
     {
         Heard {
-            answer: Answer::Refused(code),
+            answer: Answer::Refused(refusal.number()),
             station: self,
         }
     }
@@ -246,63 +225,50 @@ fn whole(room: &mut [u8])
     ensures { (length room.old ≡ room_bytes) × (room.new ≡ room.old) }
 {}
 
-// `Times::take` on bytes that are known to be a room.
-fn timed(
-    room: &mut [u8; Bus::ROOM],
-    known: &mut [bool; Bus::SENDERS],
-    at: &mut [u32; Bus::SENDERS],
-    time: u32,
-    id: u32,
-    data: &[u8],
-) -> Answer
-    requires { length room.old ≡ room_bytes }
-    ensures { Takes (stations_in room.old known.old at.old) (timed_at time id «data».now) result room.new known.new at.new }
-{
-    let met = Times::meet(room, known, at, time, id, data);
-    if met.refusal != 0 {
-        return Answer::Refused(met.refusal);
+impl Times {
+    // `take` on bytes that are known to be a room.
+    fn timed(&mut self, room: &mut [u8; Bus::ROOM], time: u32, id: u32, data: &[u8]) -> Answer
+        requires { length room.old ≡ room_bytes }
+        ensures { Takes (stations_in room.old self.old) (timed_at time id «data».now) result room.new self.new }
+    {
+        let met = self.meet(room, time, id, data);
+        if met.refusal != 0 {
+            return Answer::Refused(met.refusal);
+        }
+        let answer = Bus::take(room, id, data);
+        if kept(answer) {
+            return answer;
+        }
+        self.put((id % 256) as u8, met.last);
+        answer
     }
-    let answer = Bus::take(room, id, data);
-    if kept(answer) {
-        return answer;
-    }
-    let last = met.last;
-    Times::put(known, at, (id % 256) as u8, last);
-    answer
-}
 
-// `Times::meet` on bytes that are known to be a room.
-fn meet_in(
-    room: &mut [u8; Bus::ROOM],
-    known: &mut [bool; Bus::SENDERS],
-    at: &mut [u32; Bus::SENDERS],
-    time: u32,
-    id: u32,
-    data: &[u8],
-) -> Met
-    requires { length room.old ≡ room_bytes }
-    ensures { Meets (stations_in room.old known.old at.old) time id «data».now result room.new known.new at.new }
-{
-    let k = (id % 256) as usize;
-    if Bus::SENDERS <= k {
-        return Met {
-            refusal: 0,
-            last: Last {
-                known: false,
-                at: 0,
-            },
+    // `meet` on bytes that are known to be a room.
+    fn meet_in(&mut self, room: &mut [u8; Bus::ROOM], time: u32, id: u32, data: &[u8]) -> Met
+        requires { length room.old ≡ room_bytes }
+        ensures { Meets (stations_in room.old self.old) time id «data».now result room.new self.new }
+    {
+        let k = (id % 256) as usize;
+        if Bus::SENDERS <= k {
+            return Met {
+                refusal: 0,
+                last: Last {
+                    known: false,
+                    at: 0,
+                },
+            };
+        }
+        let last = Last {
+            known: self.known[k],
+            at: self.at[k],
         };
+        let refusal = stopped(room, last, time, id, data);
+        if refusal == 0 {
+            self.known[k] = true;
+            self.at[k] = time;
+        }
+        Met { refusal, last }
     }
-    let last = Last {
-        known: known[k],
-        at: at[k],
-    };
-    let refusal = stopped(room, last, time, id, data);
-    if refusal == 0 {
-        known[k] = true;
-        at[k] = time;
-    }
-    Met { refusal, last }
 }
 
 // The refusal of a frame that came at a time, where this is its sender's last one; 0 for none, and then the session is closed where the frame
@@ -316,8 +282,8 @@ fn stopped(room: &mut [u8; Bus::ROOM], last: Last, time: u32, id: u32, data: &[u
     match came {
         Came::InTime => 0,
         Came::Late => shut(room, id, data),
-        Came::Before => turned(room, id, data, Times::BEFORE),
-        Came::Unfit => turned(room, id, data, Session::UNFIT),
+        Came::Before => turned(room, id, data, Refusal::BeforeLastTime),
+        Came::Unfit => turned(room, id, data, Refusal::Unfit),
     }
 }
 
@@ -365,7 +331,7 @@ fn shut(room: &mut [u8; Bus::ROOM], id: u32, data: &[u8]) -> u8
     ensures value { result ≡ 0 }
     ensures room_after { room.new ≡ room_of (set (sessions_in room.old) (sender_of id) (shut_by (session_of (sender_of id) (sessions_in room.old)) id «data».now)) }
 {
-    if joining::frame_refusal(id, data) != 0 {
+    if joining::frame_refusal(id, data).is_err() {
         return 0;
     }
     let sender = (id % 256) as u8;
@@ -375,16 +341,15 @@ fn shut(room: &mut [u8; Bus::ROOM], id: u32, data: &[u8]) -> u8
     0
 }
 
-// The refusal of a frame that the last time refuses with this number: those that come first are 1 to 3, and 24 for an unfit session.
-fn turned(room: &[u8; Bus::ROOM], id: u32, data: &[u8], code: u8) -> u8
-    ensures { result ≡ cond (eqb (frame_refusal id «data».now) 0) (cond (fit (session_of (sender_of id) (sessions_in room.now))) code 24) (frame_refusal id «data».now) }
+// The refusal of a frame that the last time refuses so: those that come first are 1 to 3, and 24 for an unfit session.
+fn turned(room: &[u8; Bus::ROOM], id: u32, data: &[u8], last: Refusal) -> u8
+    ensures { result ≡ cond (eqb (frame_refusal id «data».now) 0) (cond (fit (session_of (sender_of id) (sessions_in room.now))) (number_of last) 24) (frame_refusal id «data».now) }
 {
-    let n = joining::frame_refusal(id, data);
-    if n != 0 {
-        return n;
+    if let Err(refusal) = joining::frame_refusal(id, data) {
+        return refusal.number();
     }
     if Bus::fit(room, (id % 256) as u8) {
-        return code;
+        return last.number();
     }
-    Session::UNFIT
+    Refusal::Unfit.number()
 }

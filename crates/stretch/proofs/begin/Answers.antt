@@ -18,7 +18,7 @@ value_is i l =
 pub returns-then-tag-ne-TIMED : goal.returns-then-tag-ne-TIMED
 returns-then-tag-ne-TIMED c =
     let a = c.args in
-    untimed_begins c.args.room.now c.args.known.now c.args.lasts.now c.args.i c.args.bytes.now c.args.last c.if-tag-ne-TIMED.true c.requires.2
+    untimed_begins c.args.room.now c.args.times.now c.args.i c.args.bytes.now c.args.last c.if-tag-ne-TIMED.true c.requires.2
 
 pub slice_bounds-meet-end : goal.slice_bounds-meet-end
 slice_bounds-meet-end c = let e = sixteen c.if-tag-ne-TIMED.false in search rules
@@ -26,4 +26,4 @@ slice_bounds-meet-end c = let e = sixteen c.if-tag-ne-TIMED.false in search rule
 pub returns : goal.returns
 returns c =
     let a = c.args in
-    timed_begins c.args.room.now c.args.known.now c.args.lasts.now c.args.i c.args.bytes.now c.args.last c.if-tag-ne-TIMED.false c.requires.1 _ (value_is c.args.i c.args.bytes.now) c.meet-met.ensures
+    timed_begins c.args.room.now c.args.times.now c.args.i c.args.bytes.now c.args.last c.if-tag-ne-TIMED.false c.requires.1 _ (value_is c.args.i c.args.bytes.now) c.meet-met.ensures

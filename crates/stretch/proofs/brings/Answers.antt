@@ -31,10 +31,10 @@ taken_said v b gone is =
     (λ i. record { refused = false; code = 0; number = b.number; gone = gone i; row = record { loss = v.loss; shake = v.shake; name = b.name } }) ∙ ap (said v) (sym is)
 
 pub returns-in-Refused : goal.returns-in-Refused
-returns-in-Refused c = rw c.in-Refused.is (record { value = c.not_brought.ensures; known_value = c.put_back.ensures.known_value; lasts_after = c.put_back.ensures.lasts_after })
+returns-in-Refused c = rw c.in-Refused.is (record { value = c.not_brought.ensures; times_after = c.put_back.ensures })
 
 pub returns-in-Kept : goal.returns-in-Kept
-returns-in-Kept c = rw c.in-Kept.is (record { value = c.not_brought-in-Kept.ensures; known_value = refl; lasts_after = refl })
+returns-in-Kept c = rw c.in-Kept.is (record { value = c.not_brought-in-Kept.ensures; times_after = refl })
 
 pub returns-in-Err : goal.returns-in-Err
 unfolding said
@@ -42,8 +42,7 @@ returns-in-Err c =
     rw c.in-Complete.is
     (record {
       value = refused_said c.in-Complete.r.values c.in-Err.refusal c.number.ensures (arrival_of_err c.args.counts c.in-Complete.r.values c.in-Err.ensures);
-      known_value = refl;
-      lasts_after = refl;
+      times_after = refl;
     })
 
 pub returns-in-Ok : goal.returns-in-Ok
@@ -52,6 +51,5 @@ returns-in-Ok c =
     rw c.in-Complete.is
     (record {
       value = taken_said c.in-Complete.r.values c.in-Ok.arrival c.unwrap_or.ensures (arrival_of_ok c.args.counts c.in-Complete.r.values c.in-Ok.ensures);
-      known_value = refl;
-      lasts_after = refl;
+      times_after = refl;
     })

@@ -15,7 +15,7 @@ decreases-loop-slot l = l.used - l.slot
 
 abbrev pub invariant-loop-gauges : goal.invariant-loop-gauges
 invariant-loop-gauges l =
-    Stands (log_of l.initial.items (window_of l.initial.counts l.initial.rows) l.initial.slots (stations_in l.initial.bus l.initial.known l.initial.lasts)) l.bytes l.initial.out l.initial.at l.items (window_of l.counts l.rows) l.filled l.slots l.gauges l.used l.bus l.known l.lasts l.i l.at l.out × Due (length l.bytes) l.i l.begun.timed
+    Stands (log_of l.initial.items (window_of l.initial.counts l.initial.rows) l.initial.slots (stations_in l.initial.bus l.initial.times)) l.bytes l.initial.out l.initial.at l.items (window_of l.counts l.rows) l.filled l.slots l.gauges l.used l.bus l.times l.i l.at l.out × Due l.i l.begun.last
 
 abbrev pub decreases-loop-gauges : goal.decreases-loop-gauges
 decreases-loop-gauges l = length l.bytes - l.i

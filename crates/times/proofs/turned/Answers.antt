@@ -2,15 +2,19 @@
 -- Assumes nothing.
 use mathlib.Core.Path.{sym, ◌∙◌}
 use borrow.Author.Tests.{ne_eqb}
+use native.Mathlib.Omega.{arith}
+use Rattle.refusal.specs.Numbers.{number_of}
+use Rattle.refusal.proofs.Numbers.{number_above}
+use Rattle.joining.proofs.Frames.{frame_let, frame_stopped}
 use Rattle.times.proofs.turned.Goals as goal
 
-pub returns-then-n-ne0 : goal.returns-then-n-ne0
-returns-then-n-ne0 c =
-    let e = c.frame_refusal-n.ensures in
-    rw (← e, ne_eqb _ 0 c.if-n-ne0.true)
+pub returns-in-Err : goal.returns-in-Err
+returns-in-Err c =
+    let e = frame_stopped c.args.id c.args.«data».now c.in-Err.ensures in
+    rw (e, ne_eqb (number_of c.in-Err.refusal) 0 (λ z. absurd (omega (arith, z, number_above c.in-Err.refusal)))) c.number.ensures
 
 pub returns-then-fit : goal.returns-then-fit
-returns-then-fit c = rw (sym c.frame_refusal-n.ensures ∙ c.if-n-ne0.false, sym c.fit.ensures ∙ c.if-fit.true)
+returns-then-fit c = rw (frame_let c.args.id c.args.«data».now c.in_default.ensures, sym c.fit.ensures ∙ c.if-fit.true) c.number-then-fit.ensures
 
 pub returns : goal.returns
-returns c = rw (sym c.frame_refusal-n.ensures ∙ c.if-n-ne0.false, sym c.fit.ensures ∙ c.if-fit.false)
+returns c = rw (frame_let c.args.id c.args.«data».now c.in_default.ensures, sym c.fit.ensures ∙ c.if-fit.false) c.number-2.ensures

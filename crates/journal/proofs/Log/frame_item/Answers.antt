@@ -8,7 +8,7 @@ use Rattle.journal.proofs.Log.frame_item.Goals as goal
 pub returns-then-k-ge-SENDERS : goal.returns-then-k-ge-SENDERS
 returns-then-k-ge-SENDERS c =
     let a = c.args in
-    outcome_is (unheard c.args.self (untimed_at c.args.id c.args.data.now) c.if-k-ge-SENDERS.true c.frame_refusal.ensures) c.refused.ensures
+    outcome_is (unheard c.args.self (untimed_at c.args.id c.args.data.now) c.if-k-ge-SENDERS.true c.frame_number.ensures) c.refused.ensures
 
 pub returns : goal.returns
 returns c =

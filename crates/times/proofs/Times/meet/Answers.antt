@@ -8,5 +8,5 @@ use Rattle.times.proofs.Times.meet.Goals as goal
 
 pub returns : goal.returns
 returns c =
-    subst (λ (q : List ℕ). Meets (stations_in q c.args.known.now c.args.at.now) c.args.time c.args.id c.args.«data».now c.meet_in.result c.meet_in.new.room c.meet_in.new.known c.meet_in.new.at)
+    subst (λ (q : List ℕ). Meets (stations_in q c.args.self.now) c.args.time c.args.id c.args.«data».now c.meet_in.result c.meet_in.new.room c.meet_in.new.self)
     c.whole.ensures.1 c.meet_in.ensures

@@ -4,7 +4,7 @@ use borrow.Author.Tests.{lt-ltb, le-ltb}
 use Rattle.times.proofs.Times.put.Goals as goal
 
 pub returns-then-k-lt-SENDERS : goal.returns-then-k-lt-SENDERS
-returns-then-k-lt-SENDERS c = record { known_value = rw (lt-ltb _ 254 c.if-k-lt-SENDERS.true); at_after = rw (lt-ltb _ 254 c.if-k-lt-SENDERS.true) }
+returns-then-k-lt-SENDERS c = rw (lt-ltb _ 254 c.if-k-lt-SENDERS.true)
 
 pub returns-else-k-lt-SENDERS : goal.returns-else-k-lt-SENDERS
-returns-else-k-lt-SENDERS c = record { known_value = rw (le-ltb _ 254 c.if-k-lt-SENDERS.false); at_after = rw (le-ltb _ 254 c.if-k-lt-SENDERS.false) }
+returns-else-k-lt-SENDERS c = rw (le-ltb _ 254 c.if-k-lt-SENDERS.false)

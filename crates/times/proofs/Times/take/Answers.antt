@@ -8,5 +8,5 @@ use Rattle.times.proofs.Times.take.Goals as goal
 
 pub returns : goal.returns
 returns c =
-    subst (λ (q : List ℕ). Takes (stations_in q c.args.known.now c.args.at.now) (timed_at c.args.time c.args.id c.args.«data».now) c.timed.result c.timed.new.room c.timed.new.known c.timed.new.at)
+    subst (λ (q : List ℕ). Takes (stations_in q c.args.self.now) (timed_at c.args.time c.args.id c.args.«data».now) c.timed.result c.timed.new.room c.timed.new.self)
     c.whole.ensures.1 c.timed.ensures
