@@ -25,7 +25,7 @@ use Rattle.list.specs.Lines.{all_of}
 use Rattle.question.specs.Calls.{fit_question, step_call}
 use Rattle.question.proofs.Stored.{lines-asked}
 use Rattle.list.proofs.Blank.{all_in, all-is}
-use Rattle.slot.specs.declared.Turned.{Turned}
+use Rattle.slot.specs.Turn.{Turned}
 use Rattle.slot.specs.Asking.{set_in, emptied}
 use Rattle.slot.specs.Turn.{listed, number_named, lists}
 use Rattle.slot.specs.Fitness.{is_empty, slot_fit}
@@ -40,9 +40,9 @@ use Rattle.board.specs.Work.{slot_at, outgoing, new_report, turned, enter_refusa
 use Rattle.board.specs.Calls.{fit_board, set_call, remove_call, enter_call}
 use Rattle.board.specs.Reached.{Reached}
 use Rattle.board.specs.declared.Board.{Board}
-use Rattle.board.specs.declared.Placed.{Placed}
-use Rattle.board.specs.declared.Removed.{Removed}
-use Rattle.board.specs.declared.Entered.{Entered}
+use Rattle.board.specs.Work.{Placed}
+use Rattle.board.specs.Work.{Removed}
+use Rattle.board.specs.Work.{Entered}
 use Rattle.board.proofs.Refusals.{zero_is, enterable}
 use Rattle.board.proofs.Seats.{set_there, settable, remove_there, removable}
 use Rattle.board.proofs.Known.{set_known, remove_known}

@@ -26,8 +26,8 @@ use Rattle.question.specs.declared.Question.{Question}
 use Rattle.question.specs.declared.Searched.{Searched}
 use Rattle.question.specs.Lines.{asked, lines, empty_slot, searched, searched_in, in_rows}
 use Rattle.list.specs.Lines.{all_of}
-use Rattle.slot.specs.declared.Seated.{Seated}
-use Rattle.slot.specs.declared.Turned.{Turned}
+use Rattle.slot.specs.Asking.{Seated}
+use Rattle.slot.specs.Turn.{Turned}
 use Rattle.slot.specs.Asking.{set_in}
 use Rattle.slot.specs.Turn.{listed, later, lists}
 use Rattle.slot.specs.Gauges.{no_question}
@@ -39,8 +39,8 @@ use Rattle.board.specs.Calls.{fit_board, set_call, enter_call}
 use Rattle.board.specs.Reached.{Reached, past_after, fresh, enter}
 use Rattle.board.specs.Reached as reach
 use Rattle.board.specs.declared.Board.{Board}
-use Rattle.board.specs.declared.Placed.{Placed}
-use Rattle.board.specs.declared.Entered.{Entered}
+use Rattle.board.specs.Work.{Placed}
+use Rattle.board.specs.Work.{Entered}
 use Rattle.board.proofs.Refusals.{zero_is, Enterable, enterable}
 use Rattle.board.proofs.Seats.{set_there}
 use Rattle.board.proofs.Known.{set_known}

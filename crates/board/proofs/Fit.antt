@@ -22,7 +22,7 @@ use Rattle.question.specs.declared.Question.{Question}
 use Rattle.question.specs.Lines.{in_rows}
 use Rattle.list.specs.Lines.{all_of}
 use Rattle.list.proofs.Blank.{all_in, all-is}
-use Rattle.slot.specs.declared.Seated.{Seated}
+use Rattle.slot.specs.Asking.{Seated}
 use Rattle.slot.specs.Asking.{set_in, empty_refusal, emptied}
 use Rattle.slot.specs.Fitness.{slot_fit}
 use Rattle.slot.specs.Gauges.{no_question}
@@ -33,9 +33,9 @@ use Rattle.slot.proofs.Turns.{empty_stays}
 use Rattle.board.specs.Work.{slot_at, with_slot, new_report, outgoing, turned, enter_refusal, enter_work}
 use Rattle.board.specs.Calls.{fit_board, set_call, remove_call, enter_call}
 use Rattle.board.specs.declared.Board.{Board}
-use Rattle.board.specs.declared.Placed.{Placed}
-use Rattle.board.specs.declared.Removed.{Removed}
-use Rattle.board.specs.declared.Entered.{Entered}
+use Rattle.board.specs.Work.{Placed}
+use Rattle.board.specs.Work.{Removed}
+use Rattle.board.specs.Work.{Entered}
 use Rattle.board.proofs.Refusals.{enterable, Enterable}
 use Rattle.board.proofs.Seats.{set_nowhere, set_there, remove_nowhere, remove_there}
 use Rattle.board.proofs.Entry.{turned_stands, next-fit}

@@ -22,7 +22,7 @@ use Rattle.question.specs.Lines.{empty_slot, in_rows}
 use Rattle.list.specs.Lines.{all_of}
 use Rattle.question.specs.Calls.{step_call, begin_call}
 use Rattle.list.proofs.Blank.{all_in}
-use Rattle.slot.specs.declared.Seated.{Seated}
+use Rattle.slot.specs.Asking.{Seated}
 use Rattle.slot.specs.Asking.{set_in, empty_refusal, emptied}
 use Rattle.slot.specs.Fitness.{slot_fit}
 use Rattle.slot.specs.Gauges.{no_question}
@@ -35,9 +35,9 @@ use Rattle.board.specs.Calls.{fit_board, set_call, remove_call, enter_call}
 use Rattle.board.specs.Reached.{past_after, Reached, fresh, remove, enter, begin, step}
 use Rattle.board.specs.Reached as reach
 use Rattle.board.specs.declared.Board.{Board}
-use Rattle.board.specs.declared.Placed.{Placed}
-use Rattle.board.specs.declared.Removed.{Removed}
-use Rattle.board.specs.declared.Entered.{Entered}
+use Rattle.board.specs.Work.{Placed}
+use Rattle.board.specs.Work.{Removed}
+use Rattle.board.specs.Work.{Entered}
 use Rattle.board.proofs.Refusals.{Enterable, enterable}
 use Rattle.board.proofs.Seats.{set_nowhere, set_there, remove_nowhere, remove_there}
 use Rattle.board.proofs.Entry.{turned_stands}

@@ -1,6 +1,7 @@
 -- Laws of the board, and what is proved of every reached one.
 pub mod Refusals
 pub mod Seats
+pub mod Told
 pub mod Filling
 pub mod Slots
 pub mod Entry

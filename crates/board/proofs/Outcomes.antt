@@ -4,6 +4,8 @@ use mathlib.Core.Path.{sym, ◌∙◌}
 use Rattle.laws.proofs.Outcomes.{OneAnswer}
 use Rattle.board.proofs.Board.fresh.Kinds as fresh-kinds
 use Rattle.board.proofs.Board.fresh.Reads as fresh-reads
+use Rattle.board.proofs.Board.none.Kinds as none-kinds
+use Rattle.board.proofs.Board.none.Reads as none-reads
 use Rattle.board.proofs.Board.fit.Kinds as fit-kinds
 use Rattle.board.proofs.Board.fit.Reads as fit-reads
 use Rattle.board.proofs.Board.set.Kinds as set-kinds
@@ -29,6 +31,9 @@ use Rattle.board.proofs.Arrival.of.Reads as arrival-reads
 
 fresh_once : OneAnswer 0 fresh-kinds.ps fresh-kinds.r fresh-reads.Post
 fresh_once κs a x y s t p q = p ∙ sym q
+
+none_once : OneAnswer 0 none-kinds.ps none-kinds.r none-reads.Post
+none_once κs a x y s t p q = p ∙ sym q
 
 fit_once : OneAnswer 0 fit-kinds.ps fit-kinds.r fit-reads.Post
 fit_once κs a x y s t p q = p ∙ sym q

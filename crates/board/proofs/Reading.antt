@@ -26,7 +26,7 @@ use Rattle.list.specs.Lines.{all_of}
 use Rattle.list.proofs.Blank.{all_in}
 use Rattle.question.specs.declared.Question.{Question}
 use Rattle.question.specs.Lines.{asked, finished}
-use Rattle.slot.specs.declared.Shown.{Shown}
+use Rattle.slot.specs.Asking.{Shown}
 use Rattle.slot.specs.Asking.{read_in}
 use Rattle.slot.specs.Fitness.{slot_fit}
 use Rattle.slot.specs.Gauges.{no_question}

@@ -16,14 +16,14 @@ use Rattle.slot.proofs.Refusals.{no_refusal}
 pub use Rattle.slot.proofs.Refusals.{zero_is, zero_not}
 use Rattle.board.specs.Work.{Arrival}
 use Rattle.board.specs.declared.Board.{Board}
-use Rattle.board.specs.declared.Entered.{Entered}
+use Rattle.board.specs.Work.{Entered}
 use Rattle.board.specs.Work.{arrival, leaving, enter_refusal, enter_work}
 use Rattle.board.specs.Answers.{some_number, arrival_answer}
 use Rattle.refusal.specs.declared.Refusal.{Refusal}
 use Rattle.refusal.specs.declared.Refusal.TheVariants.{WindowFull, ValueOutOfRange}
 use Rattle.refusal.specs.Numbers.{number_of}
 use Rattle.refusal.specs.Answers.{refusal_of, answered}
-use Rattle.refusal.proofs.Answers.{taken_number, taken_is, refused_number, refused_is, refused_alike, known}
+use Rattle.refusal.proofs.Answers.{taken, taken_number, taken_is, refused_number, refused_is, refused_alike, known}
 use Rattle.values.specs.Names.{named}
 
 -- A report that can be entered.
@@ -36,6 +36,10 @@ unfolding enter_refusal
 enterable c v e =
     let r = no_refusal (in_range v) (cond (ltb c.entered 1000000) 0 11) 11 e in
     record { permitted = r.0; room = ltb-true c.entered 1000000 (no_refusal (ltb c.entered 1000000) 0 10 r.1).0 }
+
+-- What is answered is made of what was answered before.
+pub taken_through : {A B : Type 0} (f : A → B) {x : A} (n : ℕ) (a : A) → Ok x ≡ answered n a → Ok (f x) ≡ answered n (f a)
+taken_through f n a h = ap (λ y. Ok (f y)) (taken_is n a h) ∙ taken n (f a) (taken_number n a h)
 
 -- What entering answers has that refusal, and so has what an entry comes to.
 pub enter-refusal : (b : Board) (v : Values) → (enter_work b v).refusal ≡ enter_refusal b.window.counts v

@@ -1,6 +1,14 @@
 -- Setting, removing and reading touch one slot: a board answers 13, or what the slot answers, and is left with what that slot holds then.
 -- Assumes nothing.
-use mathlib.Core.Path.{◌≡◌, sym, ap, ◌∙◌}
+use mathlib.Core.Path.{◌≡◌, refl, sym, ap, ◌∙◌}
+use Rattle.std.specs.Prelude.{Result, Ok, Err}
+use Rattle.refusal.specs.declared.Refusal.{Refusal}
+use Rattle.refusal.specs.Answers.{answered}
+use Rattle.refusal.proofs.Answers.{taken, taken_number, refused_alike}
+use Rattle.question.specs.declared.Searched.{Searched}
+use Rattle.slot.specs.Answers.{seated_answer}
+use Rattle.board.specs.Answers.{placed_answer, removed_answer}
+use Rattle.board.proofs.Refusals.{taken_through}
 use Prim.Native.Nat.{ℕ, ◌≤◌, ◌<◌}
 use native.Mathlib.Omega.{arith}
 use borrow.Author.Tests.{ltb-true, lt-ltb, le-ltb, ltb-false}
@@ -13,7 +21,7 @@ use Rattle.question.specs.declared.Question.{Question}
 use Rattle.list.specs.Rows.{rows_in}
 use Rattle.question.specs.Lines.{in_rows}
 use Rattle.laws.proofs.Tests.{if_so, if_not}
-use Rattle.slot.specs.declared.Seated.{Seated}
+use Rattle.slot.specs.Asking.{Seated}
 use Rattle.slot.specs.Asking.{set_in, empty_refusal, emptied, not_shown, read_in}
 use Rattle.slot.specs.Gauges.{no_question}
 use Rattle.slot.proofs.Standing.{Asks}
@@ -21,8 +29,8 @@ use Rattle.slot.proofs.Setting as one
 use Rattle.slot.proofs.Turns.{rows_alone}
 use Rattle.board.specs.Work.{slot_at, with_slot, set_work, remove_work, read_work}
 use Rattle.board.specs.declared.Board.{Board}
-use Rattle.board.specs.declared.Placed.{Placed}
-use Rattle.board.specs.declared.Removed.{Removed}
+use Rattle.board.specs.Work.{Placed}
+use Rattle.board.specs.Work.{Removed}
 
 not_13 : ◌≡◌ {A = ℕ} 13 0 → ⊥
 not_13 z = omega arith
@@ -55,6 +63,16 @@ module _ (b : Board) (slot : ℕ) where
     set_seated h e =
         set_there h
         ∙ sym (ap (λ (t : Seated). record { refusal = t.refusal; steps = t.steps; board = with_slot b slot t.question }) (e ∙ ap (set_in (slot_at b slot) k rule) (rows_alone b.window 1024)))
+
+    -- What is answered where the slot refuses it, and where it doesn't.
+    pub set_refused : slot < 32 → {e : Refusal} → Err e ≡ seated_answer (set_in (slot_at b slot) k rule (standing (rows_in b.window.rows) 1024)) → Err e ≡ placed_answer (set_work b slot k rule)
+    set_refused h a = refused_alike _ _ _ a ∙ ap placed_answer (sym (set_seated h refl))
+
+    pub set_taken : slot < 32 → {f : Searched} → Ok f ≡ seated_answer (set_in (slot_at b slot) k rule (standing (rows_in b.window.rows) 1024))
+        → Ok (record { steps = f.steps; board = with_slot b slot f.question }) ≡ placed_answer (set_work b slot k rule)
+    set_taken h a =
+        taken_through (λ (g : Searched). record { steps = g.steps; board = with_slot b slot g.question }) _ _ a
+        ∙ ap placed_answer (sym (set_seated h refl))
 
     -- A refused question leaves the board.
     pub set_kept : ((set_work b slot k rule).refusal ≡ 0 → ⊥) → (set_work b slot k rule).board ≡ b
@@ -93,6 +111,13 @@ module _ (b : Board) (slot : ℕ) where
   pub remove_there : slot < 32 → remove_work b slot ≡ record { refusal = empty_refusal (slot_at b slot).k; board = with_slot b slot (emptied (slot_at b slot)) }
   unfolding remove_work
   remove_there h = if_so _ _ (lt-ltb slot 32 h)
+
+  -- What is answered where the slot is empty, and where it isn't.
+  pub remove_refused : slot < 32 → {e : Refusal} → ◌≡◌ {A = Result (Unit {0}) Refusal} (Err e) (answered (empty_refusal (slot_at b slot).k) tt) → Err e ≡ removed_answer (remove_work b slot)
+  remove_refused h a = refused_alike _ (tt {0}) _ a ∙ ap removed_answer (sym (remove_there h))
+
+  pub remove_taken : slot < 32 → ◌≡◌ {A = Result (Unit {0}) Refusal} (Ok tt) (answered (empty_refusal (slot_at b slot).k) tt) → Ok (with_slot b slot (emptied (slot_at b slot))) ≡ removed_answer (remove_work b slot)
+  remove_taken h a = taken _ _ (taken_number _ (tt {0}) a) ∙ ap removed_answer (sym (remove_there h))
 
   -- A refused removal leaves the board.
   pub remove_kept : ((remove_work b slot).refusal ≡ 0 → ⊥) → (remove_work b slot).board ≡ b

@@ -4,14 +4,10 @@ use Rattle.values.specs.declared.Values.{Values}
 use Rattle.ranking.specs.declared.Rule.{Rule}
 use Rattle.window.specs.Rows.{fit_window}
 use Rattle.list.specs.Lines.{all_of}
-use Rattle.slot.specs.declared.Shown.{Shown}
-use Rattle.slot.specs.Asking.{not_shown}
+use Rattle.slot.specs.Asking.{Shown, not_shown}
 use Rattle.slot.specs.Fitness.{slot_fit}
-use Rattle.board.specs.Work.{set_work, remove_work, read_work, not_entered, enter_work}
+use Rattle.board.specs.Work.{Placed, Removed, Entered, set_work, remove_work, read_work, not_entered, enter_work}
 use Rattle.board.specs.declared.Board.{Board}
-use Rattle.board.specs.declared.Placed.{Placed}
-use Rattle.board.specs.declared.Removed.{Removed}
-use Rattle.board.specs.declared.Entered.{Entered}
 
 -- The window is fit, and so is every slot.
 unfoldable pub fit_board : Board → Bool

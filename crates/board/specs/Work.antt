@@ -1,5 +1,5 @@
 -- What setting, removing, reading and entering do to a board, whatever it holds (docs/RULES.md, sections 6 and 8).
-use Rattle.std.specs.Prelude.{ℕ, ◌+◌, ◌-◌, false, cond, map, get_or, set, replicate, ltb, eqb}
+use Rattle.std.specs.Prelude.{ℕ, ◌+◌, ◌-◌, Bool, false, List, cond, map, get_or, set, replicate, ltb, eqb}
 use Rattle.values.specs.declared.Values.{Values}
 use Rattle.values.specs.Range.{in_range}
 use Rattle.values.specs.Names.{named}
@@ -10,16 +10,31 @@ use Rattle.window.specs.declared.Window.{Window}
 use Rattle.window.specs.Rows.{report_limit, fresh_window, refusal_in, window_in, added}
 use Rattle.question.specs.declared.Question.{Question}
 use Rattle.question.specs.Lines.{empty_slot, in_rows}
-use Rattle.slot.specs.declared.Shown.{Shown}
-use Rattle.slot.specs.declared.Turned.{Turned}
-use Rattle.slot.specs.Asking.{set_in, empty_refusal, emptied, not_shown, read_in}
-use Rattle.slot.specs.Turn.{turn}
+use Rattle.slot.specs.Asking.{Shown, set_in, empty_refusal, emptied, not_shown, read_in}
+use Rattle.slot.specs.Turn.{Turned, turn}
 use Rattle.slot.specs.Gauges.{no_question, slot_count}
 use Rattle.board.specs.declared.Board.{Board}
-use Rattle.board.specs.declared.NewBoard.{NewBoard}
-use Rattle.board.specs.declared.Placed.{Placed}
-use Rattle.board.specs.declared.Removed.{Removed}
-use Rattle.board.specs.declared.Entered.{Entered}
+
+-- What the calls come to in numbers: the refusal's, or 0, and what else is answered, 0 where it is refused. Answers.antt has what the code answers.
+pub record NewBoard : Type 0 where
+  pub refusal : ℕ
+  pub board : Board
+
+pub record Placed : Type 0 where
+  pub refusal : ℕ
+  pub steps : ℕ
+  pub board : Board
+
+pub record Removed : Type 0 where
+  pub refusal : ℕ
+  pub board : Board
+
+pub record Entered : Type 0 where
+  pub refusal : ℕ
+  pub number : ℕ
+  pub searched : List Bool
+  pub steps : List ℕ
+  pub board : Board
 
 -- What a report's entry comes to in numbers: the refusal's, and where it is 0, for none, the others; 0 for no report that leaves.
 pub record Arrival : Type 0 where
@@ -36,9 +51,13 @@ slot_at b slot = get_or b.slots slot no_question
 abbrev pub with_slot : Board → ℕ → Question → Board
 with_slot b slot q = record { window = b.window; slots = set b.slots slot q }
 
+-- A window with 32 empty slots.
+abbrev pub empty_board : Window → Board
+empty_board w = record { window = w; slots = replicate slot_count empty_slot }
+
 -- A fresh window with 32 empty slots; refusal 18, where no window has that size.
 unfoldable pub fresh_board : ℕ → NewBoard
-fresh_board n = record { refusal = refusal_in (fresh_window n); board = record { window = window_in (fresh_window n); slots = replicate slot_count empty_slot } }
+fresh_board n = record { refusal = refusal_in (fresh_window n); board = empty_board (window_in (fresh_window n)) }
 
 -- Refusal 13, where there is no such slot; then what setting answers in that slot.
 unfoldable pub set_work : Board → ℕ → ℕ → Rule → Placed

@@ -1,14 +1,15 @@
 // The window with its 32 slots: standing questions that each have a list.
 #![tactic(auto)]
 
-ghost use Rattle.std.specs.Prelude.{◌≡◌, ◌<◌};
+ghost use Rattle.std.specs.Prelude.{◌≡◌, ◌<◌, Ok};
 ghost use Rattle.window.specs.Rows.{report_limit};
 ghost use Rattle.list.specs.Lines.{all_of};
 ghost use Rattle.slot.specs.Fitness.{slot_fit};
 ghost use Rattle.slot.specs.Gauges.{slot_count};
-ghost use Rattle.board.specs.Work.{fresh_board, with_slot, set_work, remove_work, read_work, leaving, arrival, not_entered, enter_refusal, enter_work};
+ghost use Rattle.board.specs.Work.{fresh_board, empty_board, with_slot, set_work, remove_work, read_work, leaving, arrival, enter_refusal, enter_work};
 ghost use Rattle.board.specs.Calls.{fit_board, set_call, remove_call, read_call, enter_call};
-ghost use Rattle.board.specs.Answers.{arrival_answer};
+ghost use Rattle.board.specs.Answers.{made_answer, placed_answer, removed_answer, entered_answer, arrival_answer};
+ghost use Rattle.slot.specs.Answers.{shown_answer};
 ghost use Rattle.refusal.specs.Answers.{answered};
 
 use question::Question;
@@ -25,34 +26,18 @@ pub struct Board {
     pub slots: [Question; Gauge::SLOTS],
 }
 
-// A board, or the refusal's number and a board of zeros.
-#[derive(Clone, Copy)]
-pub struct NewBoard {
-    pub refusal: u8,
-    pub board: Board,
-}
-
-// What setting a question answers: the steps of its search.
+// What setting a question answers: the board with it, and the steps of its search.
 #[derive(Clone, Copy)]
 pub struct Placed {
-    pub refusal: u8,
     pub steps: u16,
     pub board: Board,
 }
 
-#[derive(Clone, Copy)]
-pub struct Removed {
-    pub refusal: u8,
-    pub board: Board,
-}
-
-// What entering a report answers: its number, which questions were searched, and the steps of each.
+// What entering a report answers: its number, and the steps of each question that was searched.
 #[derive(Clone, Copy)]
 pub struct Entered {
-    pub refusal: u8,
     pub number: u32,
-    pub searched: [bool; Gauge::SLOTS],
-    pub steps: [u16; Gauge::SLOTS],
+    pub steps: [Option<u16>; Gauge::SLOTS],
     pub board: Board,
 }
 
@@ -67,28 +52,27 @@ pub struct Arrival {
 impl Board {
     pub const SLOTS: u8 = 32;
 
-    pub const NO_SLOT: u8 = 13;
+    // A window of n rows and 32 empty slots. Refused 18.
+    pub fn fresh(n: u16) -> Result<Board, Refusal>
+        ensures { result ≡ made_answer (fresh_board n) }
+    {
+        let window = Window::fresh(n)?;
+        Ok(Board::of(window))
+    }
 
-    pub const UNFIT: u8 = 24;
+    // No window yet: one of no rows, and 32 empty slots.
+    pub fn none() -> Board
+        ensures { result ≡ (fresh_board 0).board }
+    {
+        Board::of(Window::none())
+    }
 
-    // A window of n rows and 32 empty slots, or refusal 18.
-    pub fn fresh(n: u16) -> NewBoard
-        ensures { result ≡ fresh_board n }
+    // A window with 32 empty slots.
+    fn of(window: Window) -> Board
+        ensures { result ≡ empty_board window }
     {
         let slots = [Question::fresh(); Gauge::SLOTS];
-        match Window::fresh(n) {
-            Ok(window) => NewBoard {
-                refusal: 0,
-                board: Board { window, slots },
-            },
-            Err(refusal) => NewBoard {
-                refusal: refusal.number(),
-                board: Board {
-                    window: Window::none(),
-                    slots,
-                },
-            },
-        }
+        Board { window, slots }
     }
 
     // Every stored number is in its range, the held numbers are the latest without a gap, and each slot is empty or holds a
@@ -102,122 +86,99 @@ impl Board {
 
     // Sets a question in an empty slot and searches it: the board with it, and the steps. Refused 24, 13, 14, 15, 30,
     // 33, 16.
-    pub fn set(self, slot: u8, k: u8, rule: Rule) -> Placed
-        ensures { result ≡ set_call self slot k rule }
+    #[tactic(auto, unfolding(crate::specs::Calls::set_call, refusal::specs::Answers::refusal_of))]
+    pub fn set(self, slot: u8, k: u8, rule: Rule) -> Result<Placed, Refusal>
+        ensures { result ≡ placed_answer (set_call self slot k rule) }
     {
-        if self.fit() {
-            return self.set_work(slot, k, rule);
+        if !self.fit() {
+            return Err(Refusal::Unfit);
         }
-        Placed {
-            refusal: Board::UNFIT,
-            steps: 0,
-            board: self,
-        }
+        self.set_work(slot, k, rule)
     }
 
     // Empties a slot. Refused 24, 13, 17.
-    pub fn remove(self, slot: u8) -> Removed
-        ensures { result ≡ remove_call self slot }
+    #[tactic(auto, unfolding(crate::specs::Calls::remove_call, refusal::specs::Answers::refusal_of))]
+    pub fn remove(self, slot: u8) -> Result<Board, Refusal>
+        ensures { result ≡ removed_answer (remove_call self slot) }
     {
-        if self.fit() {
-            return self.remove_work(slot);
+        if !self.fit() {
+            return Err(Refusal::Unfit);
         }
-        Removed {
-            refusal: Board::UNFIT,
-            board: self,
-        }
+        self.remove_work(slot)
     }
 
     // The list of a slot. Refused 24, 13, 17.
-    pub fn read(self, slot: u8) -> Shown
-        ensures { result ≡ read_call self slot }
+    #[tactic(auto, unfolding(crate::specs::Calls::read_call, refusal::specs::Answers::refusal_of))]
+    pub fn read(self, slot: u8) -> Result<Shown, Refusal>
+        ensures { result ≡ shown_answer (read_call self slot) }
     {
-        if self.fit() {
-            return self.read_work(slot);
+        if !self.fit() {
+            return Err(Refusal::Unfit);
         }
-        Shown::refused(Board::UNFIT)
+        self.read_work(slot)
     }
 
-    // Enters a report: its number, which questions were searched, and the steps of each. Refused 24, 12, 11.
-    pub fn enter(self, values: Values) -> Entered
-        ensures { result ≡ enter_call self values }
+    // Enters a report: its number, and the steps of each question that was searched. Refused 24, 12, 11.
+    #[tactic(auto, unfolding(crate::specs::Calls::enter_call, refusal::specs::Answers::refusal_of))]
+    pub fn enter(self, values: Values) -> Result<Entered, Refusal>
+        ensures { result ≡ entered_answer (enter_call self values) }
     {
-        if self.fit() {
-            return self.enter_work(values);
+        if !self.fit() {
+            return Err(Refusal::Unfit);
         }
-        self.not_entered(Board::UNFIT)
+        self.enter_work(values)
     }
 
     // Sets a question on a board that is known to be fit: it is searched over the held reports.
-    pub fn set_work(self, slot: u8, k: u8, rule: Rule) -> Placed
-        ensures { result ≡ set_work self slot k rule }
+    pub fn set_work(self, slot: u8, k: u8, rule: Rule) -> Result<Placed, Refusal>
+        ensures { result ≡ placed_answer (set_work self slot k rule) }
     {
         if Board::SLOTS <= slot {
-            return Placed {
-                refusal: Board::NO_SLOT,
-                steps: 0,
-                board: self,
-            };
+            return Err(Refusal::NoSuchSlot);
         }
-        let at = slot as usize;
-        let window = self.window;
-        let slots = self.slots;
-        let question = slots[at];
-        let seated = slot::set_in(question, k, rule, &window.rows);
-        let left = seated.question;
-        Placed {
-            refusal: seated.refusal,
-            steps: seated.steps,
-            board: self.with_slot(slot, left),
-        }
+        let held = self.slots[slot as usize];
+        let found = slot::set_in(held, k, rule, &self.window.rows)?;
+        Ok(Placed {
+            steps: found.steps,
+            board: self.with_slot(slot, found.question),
+        })
     }
 
     // Empties a slot of a board that is known to be fit.
-    pub fn remove_work(self, slot: u8) -> Removed
-        ensures { result ≡ remove_work self slot }
+    pub fn remove_work(self, slot: u8) -> Result<Board, Refusal>
+        ensures { result ≡ removed_answer (remove_work self slot) }
     {
         if Board::SLOTS <= slot {
-            return Removed {
-                refusal: Board::NO_SLOT,
-                board: self,
-            };
+            return Err(Refusal::NoSuchSlot);
         }
-        let at = slot as usize;
-        let slots = self.slots;
-        let question = slots[at];
-        Removed {
-            refusal: slot::empty_refusal(question.k),
-            board: self.with_slot(slot, slot::emptied(question)),
-        }
+        let held = self.slots[slot as usize];
+        slot::empty_refusal(held.k)?;
+        Ok(self.with_slot(slot, slot::emptied(held)))
     }
 
     // The list of a slot of a board that is known to be fit.
-    pub fn read_work(self, slot: u8) -> Shown
-        ensures { result ≡ read_work self slot }
+    pub fn read_work(self, slot: u8) -> Result<Shown, Refusal>
+        ensures { result ≡ shown_answer (read_work self slot) }
     {
         if Board::SLOTS <= slot {
-            return Shown::refused(Board::NO_SLOT);
+            return Err(Refusal::NoSuchSlot);
         }
-        let at = slot as usize;
-        let slots = self.slots;
-        slot::read_in(slots[at])
+        slot::read_in(self.slots[slot as usize])
     }
 
     // Enters a report on a board that is known to be fit: each question lists it as its marks say, then the oldest leaves, and
     // each that lists that one is searched afresh.
-    pub fn enter_work(self, values: Values) -> Entered
-        ensures { result ≡ enter_work self values }
+    pub fn enter_work(self, values: Values) -> Result<Entered, Refusal>
+        ensures { result ≡ entered_answer (enter_work self values) }
     {
-        match enter_refusal(self.window.counts, values) {
-            Ok(()) => self.entering(values),
-            Err(refusal) => self.not_entered(refusal.number()),
-        }
+        enter_refusal(self.window.counts, values)?;
+        Ok(self.entering(values))
     }
 
     // A report that is not refused enters.
     fn entering(self, values: Values) -> Entered
         requires { enter_refusal self.window.counts values ≡ 0 }
-        ensures { result ≡ enter_work self values }
+        ensures { Ok result ≡ entered_answer (enter_work self values) }
     {
         let counts = self.window.counts;
         let number = counts.entered + 1;
@@ -229,32 +190,16 @@ impl Board {
         let gone = leaving(counts);
         let window = self.window.added(values);
         let mut slots = self.slots;
-        let mut searched = [false; Gauge::SLOTS];
-        let mut steps = [0u16; Gauge::SLOTS];
+        let mut steps = [None; Gauge::SLOTS];
         for (i, question) in self.slots.iter().enumerate() {
             let turned = slot::turn(*question, row, gone, &window.rows, Window::ROWS);
             slots[i] = turned.question;
-            searched[i] = turned.searched;
             steps[i] = turned.steps;
         }
         Entered {
-            refusal: 0,
             number,
-            searched,
             steps,
             board: Board { window, slots },
-        }
-    }
-
-    fn not_entered(self, refusal: u8) -> Entered
-        ensures { result ≡ not_entered self refusal }
-    {
-        Entered {
-            refusal,
-            number: 0,
-            searched: [false; Gauge::SLOTS],
-            steps: [0; Gauge::SLOTS],
-            board: self,
         }
     }
 

@@ -97,12 +97,13 @@ impl Desk {
 
     // A fresh window and empty slots in place of what there was.
     fn window(&mut self, n: u16, out: &mut [u8]) -> usize {
-        let made = Board::fresh(n);
-        if made.refusal != 0 {
-            return refused(out, made.refusal);
+        match Board::fresh(n) {
+            Ok(board) => {
+                self.board = Some(board);
+                put(out, 0, b"ok")
+            }
+            Err(refusal) => refused(out, refusal.number()),
         }
-        self.board = Some(made.board);
-        put(out, 0, b"ok")
     }
 
     fn on_board(&mut self, order: BoardOrder, out: &mut [u8]) -> usize {

@@ -65,29 +65,37 @@ fn rule(setting: Setting) -> Rule {
 }
 
 fn set(board: Board, slot: u8, k: u8, rule: Rule, out: &mut [u8]) -> Left {
-    let answer = board.set(slot, k, rule);
-    let left = answer.board;
-    if answer.refusal != 0 {
-        let end = refused(out, answer.refusal);
-        return Left { board: left, end };
+    match board.set(slot, k, rule) {
+        Ok(placed) => {
+            let end = put_counted(out, 0, b"steps", u64::from(placed.steps));
+            Left {
+                board: placed.board,
+                end,
+            }
+        }
+        Err(refusal) => {
+            let end = refused(out, refusal.number());
+            Left { board, end }
+        }
     }
-    let end = put_counted(out, 0, b"steps", u64::from(answer.steps));
-    Left { board: left, end }
 }
 
 fn remove(board: Board, slot: u8, out: &mut [u8]) -> Left {
-    let answer = board.remove(slot);
-    let left = answer.board;
-    let end = done(answer.refusal, out);
-    Left { board: left, end }
+    done(board, board.remove(slot), out)
 }
 
-// Ok, or the refusal.
-fn done(refusal: u8, out: &mut [u8]) -> usize {
-    if refusal != 0 {
-        return refused(out, refusal);
+// Ok and the board that is left, or the refusal and the board as it was.
+fn done(board: Board, left: Result<Board, Refusal>, out: &mut [u8]) -> Left {
+    match left {
+        Ok(board) => {
+            let end = put(out, 0, b"ok");
+            Left { board, end }
+        }
+        Err(refusal) => {
+            let end = refused(out, refusal.number());
+            Left { board, end }
+        }
     }
-    put(out, 0, b"ok")
 }
 
 fn begin(board: Board, slot: u8, out: &mut [u8]) -> Left {
@@ -102,25 +110,22 @@ fn step(board: Board, slot: u8, out: &mut [u8]) -> Left {
 
 // The slot's question as a step or a beginning leaves it; a refusal leaves the board.
 fn moved(board: Board, slot: u8, answer: Result<Question, Refusal>, out: &mut [u8]) -> Left {
+    let left = match answer {
+        Ok(question) => Ok(pokes::with_slot(board, slot, question)),
+        Err(refusal) => Err(refusal),
+    };
+    done(board, left, out)
+}
+
+fn read(answer: Result<Shown, Refusal>, out: &mut [u8]) -> usize {
     match answer {
-        Ok(question) => {
-            let end = done(0, out);
-            Left {
-                board: pokes::with_slot(board, slot, question),
-                end,
-            }
-        }
-        Err(refusal) => {
-            let end = done(refusal.number(), out);
-            Left { board, end }
-        }
+        Ok(shown) => listed(shown, out),
+        Err(refusal) => refused(out, refusal.number()),
     }
 }
 
-fn read(shown: Shown, out: &mut [u8]) -> usize {
-    if shown.refusal != 0 {
-        return refused(out, shown.refusal);
-    }
+// The list's lines.
+fn listed(shown: Shown, out: &mut [u8]) -> usize {
     let lines = shown.numbers.iter().zip(&shown.scores).zip(&shown.editions);
     let mut end = put_counted(out, 0, b"list", u64::from(shown.len));
     for ((number, score), edition) in lines.take(usize::from(shown.len)) {
@@ -131,22 +136,26 @@ fn read(shown: Shown, out: &mut [u8]) -> usize {
 }
 
 fn enter(board: Board, values: Values, out: &mut [u8]) -> Left {
-    let answer = board.enter(values);
-    let left = answer.board;
-    if answer.refusal != 0 {
-        let end = refused(out, answer.refusal);
-        return Left { board: left, end };
+    match board.enter(values) {
+        Ok(entered) => {
+            let end = searches(&entered, out);
+            Left {
+                board: entered.board,
+                end,
+            }
+        }
+        Err(refusal) => {
+            let end = refused(out, refusal.number());
+            Left { board, end }
+        }
     }
-    let end = searches(answer, out);
-    Left { board: left, end }
 }
 
 // The report's number, and the slots that were searched with their steps.
-fn searches(entered: Entered, out: &mut [u8]) -> usize {
+fn searches(entered: &Entered, out: &mut [u8]) -> usize {
     let mut end = put_counted(out, 0, b"report", u64::from(entered.number));
-    let slots = entered.searched.iter().zip(&entered.steps);
-    for (slot, (searched, steps)) in slots.enumerate() {
-        if *searched {
+    for (slot, search) in entered.steps.iter().enumerate() {
+        if let Some(steps) = search {
             end = put_number(out, end, slot as u64);
             end = put_mark(out, end, b":", u64::from(*steps));
         }
@@ -170,7 +179,7 @@ fn marks(question: Question, out: &mut [u8]) -> usize {
 // The reports that a fit window holds, oldest first.
 fn held(window: &Window, out: &mut [u8]) -> usize {
     if !window.fit() {
-        return refused(out, Board::UNFIT);
+        return refused(out, Refusal::Unfit.number());
     }
     let counts = window.counts;
     let mut end = put_counted(out, 0, b"held", u64::from(counts.held));

@@ -16,7 +16,7 @@ use Rattle.values.specs.Range.{in_range}
 use Rattle.window.specs.declared.Counts.{Counts}
 use Rattle.board.specs.Work.{enter_refusal, enter_work}
 use Rattle.board.specs.declared.Board.{Board}
-use Rattle.board.specs.declared.Entered.{Entered}
+use Rattle.board.specs.Work.{Entered}
 use Rattle.report.specs.declared.Report.{Report}
 use Rattle.joining.specs.declared.Answer.{Answer}
 use Rattle.joining.specs.declared.Answer.TheVariants.{Refused, Kept, Complete}

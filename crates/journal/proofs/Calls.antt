@@ -6,6 +6,12 @@ use mathlib.Core.List.{List}
 use Rattle.items.specs.declared.Item.{Item}
 use Rattle.items.specs.Items.{data_of, item_in}
 use Rattle.board.proofs.Refusals.{zero_is, zero_not}
+use Rattle.std.specs.Prelude.{Ok, Err}
+use Rattle.refusal.specs.declared.Refusal.{Refusal}
+use Rattle.refusal.specs.Numbers.{number_of}
+use Rattle.refusal.specs.Answers.{answered}
+use Rattle.refusal.proofs.Answers.{taken_is, taken_number, refused_number}
+use Rattle.slot.proofs.Refusals.{Told, answer_number}
 use Rattle.text.specs.Text.{behind}
 use Rattle.text.proofs.Places.{none}
 use lib.Seq.{sets}
@@ -27,6 +33,19 @@ module _ {room left : List ℕ} {at next : ℕ} {log₁ : Log} where
       → Stores (unless log n done) room at log₁ next left
   unfolding unless
   does log {d} {done} {m} {n} e z p s = outcome_is (p ∙ sym (zero_is done (refused log n) (sym e ∙ z))) s
+
+  -- The same, of what a call answered.
+  pub answer_refuses : (log : Log) (done : Outcome) {A : Type 0} (n : ℕ) (a : A) {e : Refusal} {m : ℕ} → Told n → Err e ≡ answered n a → m ≡ number_of e
+      → Stores (refused log m) room at log₁ next left → Stores (unless log n done) room at log₁ next left
+  unfolding unless
+  answer_refuses log done n a told h is s =
+      outcome_is (ap (refused log) (is ∙ answer_number n a told h) ∙ sym (zero_not done (refused log n) (refused_number n a h))) s
+
+  pub answer_does : (log : Log) {A : Type 0} (done : A → Outcome) {x : A} (n : ℕ) (a : A) → Ok x ≡ answered n a → Stores (done x) room at log₁ next left
+      → Stores (unless log n (done a)) room at log₁ next left
+  unfolding unless
+  answer_does log done n a h s =
+      outcome_is (ap done (taken_is n a h) ∙ sym (zero_is (done a) (refused log n) (taken_number n a h))) s
 
   -- A text that was put is the outcome's.
   pub stores : (log : Log) (text : List ℕ) → log₁ ≡ log → (next ≡ behind at text) × (left ≡ sets room at text)

@@ -26,7 +26,7 @@ use Rattle.list.proofs.Blank.{all_in}
 use Rattle.board.specs.Work.{slot_at, fresh_board, set_work, remove_work, read_work, new_report, outgoing, turned, enter_refusal, enter_work}
 use Rattle.board.specs.Calls.{fit_board, enter_call}
 use Rattle.board.specs.Reached as board
-use Rattle.slot.specs.declared.Shown.{Shown}
+use Rattle.slot.specs.Asking.{Shown}
 use Rattle.slot.specs.Asking.{read_in}
 use Rattle.slot.specs.Fitness.{slot_fit}
 use Rattle.slot.specs.Gauges.{no_question}
@@ -35,10 +35,10 @@ use Rattle.slot.proofs.Standing as state
 use Rattle.slot.proofs.Setting.{set-refusal, set_few}
 use Rattle.slot.proofs.Turns.{turn_few}
 use Rattle.board.specs.declared.Board.{Board}
-use Rattle.board.specs.declared.NewBoard.{NewBoard}
-use Rattle.board.specs.declared.Placed.{Placed}
-use Rattle.board.specs.declared.Removed.{Removed}
-use Rattle.board.specs.declared.Entered.{Entered}
+use Rattle.board.specs.Work.{NewBoard}
+use Rattle.board.specs.Work.{Placed}
+use Rattle.board.specs.Work.{Removed}
+use Rattle.board.specs.Work.{Entered}
 use Rattle.board.proofs.Seats.{set_nowhere, set_there, set_kept, settable, remove_kept}
 use Rattle.board.proofs.Kept.{kept, slot_of}
 use Rattle.board.proofs.Demands.{reached_fit}

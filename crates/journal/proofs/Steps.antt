@@ -10,8 +10,8 @@ use Rattle.window.specs.Rows.{added}
 use Rattle.board.specs.Work.{slot_at, enter_refusal}
 use Rattle.board.specs.Calls.{set_call, enter_call}
 use Rattle.board.specs.declared.Board.{Board}
-use Rattle.board.specs.declared.Placed.{Placed}
-use Rattle.board.specs.declared.Entered.{Entered}
+use Rattle.board.specs.Work.{Placed}
+use Rattle.board.specs.Work.{Entered}
 use Rattle.board.proofs.Refusals.{zero_is}
 use Rattle.board.proofs.Demands.{Exactly, set_exact, enter_exact}
 use Rattle.report.specs.declared.Report.{Report}

@@ -1,13 +1,13 @@
 // A log of the bench: its items, what each does, and the lines of text that it prints.
 #![tactic(auto)]
 
-ghost use Rattle.std.specs.Prelude.{◌≡◌, cond, [], ◌<◌, set};
+ghost use Rattle.std.specs.Prelude.{◌≡◌, ◌<◌, set};
 ghost use Rattle.std.proofs.lemmas.List.Edits.{sets};
 ghost use Rattle.joining.specs.Frame.{frame_refusal};
 ghost use Rattle.joining.specs.Run.{senders};
 ghost use Rattle.times.specs.Run.{with_station, timed_at, untimed_at};
-ghost use Rattle.text.specs.Text.{behind, s_line};
-ghost use Rattle.journal.specs.Log.{Stores, fresh_log, next_item, with_item, stations_of, with_board, with_stations, refused, item_refusal, window_item, weights_of, setting_rule, rule_in, set_item, remove_item, show_item, s_lines, enter_item, answer_item, frame_item, by_item, item_done};
+ghost use Rattle.text.specs.Text.{behind};
+ghost use Rattle.journal.specs.Log.{Stores, fresh_log, next_item, with_item, stations_of, with_board, with_stations, refused, item_refusal, window_item, weights_of, setting_rule, rule_in, set_item, remove_item, show_item, steps_line, steps_lines, enter_item, answer_item, frame_item, by_item, item_done};
 
 use board::Board;
 use bus::Bus;
@@ -46,8 +46,7 @@ impl Log {
     pub fn fresh() -> Log
         ensures { result ≡ fresh_log }
     {
-        let made = Board::fresh(0);
-        let board = made.board;
+        let board = Board::none();
         let bus = Bus::fresh();
         let sessions = bus.sessions;
         let times = Times::fresh();
@@ -159,15 +158,12 @@ impl Log {
     fn window_item(self, size: u16, out: &mut [u8], at: usize) -> Done
         ensures { Stores (window_item self size) out.old at result.log result.at out.new }
     {
-        let made = Board::fresh(size);
-        let refusal = made.refusal;
-        if refusal != 0 {
-            return self.refused(refusal, out, at);
-        }
-        let board = made.board;
-        Done {
-            log: self.with_board(board),
-            at,
+        match Board::fresh(size) {
+            Ok(board) => Done {
+                log: self.with_board(board),
+                at,
+            },
+            Err(refusal) => self.refused(refusal.number(), out, at),
         }
     }
 
@@ -175,18 +171,15 @@ impl Log {
     fn set_item(self, s: Setting, out: &mut [u8], at: usize) -> Done
         ensures { Stores (set_item self s) out.old at result.log result.at out.new }
     {
-        let rule = setting_rule(s);
-        let board = self.board;
-        let placed = board.set_work(s.slot, s.k, rule);
-        let refusal = placed.refusal;
-        if refusal != 0 {
-            return self.refused(refusal, out, at);
-        }
-        let next = text::put_s(out, at, self.items, s.slot, placed.steps);
-        let left = placed.board;
-        Done {
-            log: self.with_board(left),
-            at: next,
+        match self.board.set_work(s.slot, s.k, setting_rule(s)) {
+            Ok(placed) => {
+                let next = text::put_s(out, at, self.items, s.slot, placed.steps);
+                Done {
+                    log: self.with_board(placed.board),
+                    at: next,
+                }
+            }
+            Err(refusal) => self.refused(refusal.number(), out, at),
         }
     }
 
@@ -194,16 +187,12 @@ impl Log {
     fn remove_item(self, slot: u8, out: &mut [u8], at: usize) -> Done
         ensures { Stores (remove_item self slot) out.old at result.log result.at out.new }
     {
-        let board = self.board;
-        let removed = board.remove_work(slot);
-        let refusal = removed.refusal;
-        if refusal != 0 {
-            return self.refused(refusal, out, at);
-        }
-        let left = removed.board;
-        Done {
-            log: self.with_board(left),
-            at,
+        match self.board.remove_work(slot) {
+            Ok(board) => Done {
+                log: self.with_board(board),
+                at,
+            },
+            Err(refusal) => self.refused(refusal.number(), out, at),
         }
     }
 
@@ -211,18 +200,16 @@ impl Log {
     fn show_item(self, slot: u8, out: &mut [u8], at: usize) -> Done
         ensures { Stores (show_item self slot) out.old at result.log result.at out.new }
     {
-        let board = self.board;
-        let shown = board.read_work(slot);
-        let refusal = shown.refusal;
-        if refusal != 0 {
-            return self.refused(refusal, out, at);
-        }
-        let numbers = shown.numbers;
-        let scores = shown.scores;
-        let next = text::put_q(out, at, slot, numbers, scores, shown.len as usize);
-        Done {
-            log: self,
-            at: next,
+        match self.board.read_work(slot) {
+            Ok(shown) => {
+                let len = shown.len as usize;
+                let next = text::put_q(out, at, slot, shown.numbers, shown.scores, len);
+                Done {
+                    log: self,
+                    at: next,
+                }
+            }
+            Err(refusal) => self.refused(refusal.number(), out, at),
         }
     }
 
@@ -276,19 +263,15 @@ impl Log {
     fn enter_item(self, values: Values, out: &mut [u8], at: usize) -> Done
         ensures { Stores (enter_item self values) out.old at result.log result.at out.new }
     {
-        let board = self.board;
-        let entered = board.enter_work(values);
-        let refusal = entered.refusal;
-        if refusal != 0 {
-            return self.refused(refusal, out, at);
-        }
-        let searched = entered.searched;
-        let steps = entered.steps;
-        let next = put_searches(out, at, self.items, searched, steps);
-        let left = entered.board;
-        Done {
-            log: self.with_board(left),
-            at: next,
+        match self.board.enter_work(values) {
+            Ok(entered) => {
+                let next = put_searches(out, at, self.items, entered.steps);
+                Done {
+                    log: self.with_board(entered.board),
+                    at: next,
+                }
+            }
+            Err(refusal) => self.refused(refusal.number(), out, at),
         }
     }
 }
@@ -330,37 +313,26 @@ fn put_searches(
     out: &mut [u8],
     at: usize,
     item: u64,
-    searched: [bool; Gauge::SLOTS],
-    steps: [u16; Gauge::SLOTS],
+    steps: [Option<u16>; Gauge::SLOTS],
 ) -> usize
-    ensures value { result ≡ behind at (s_lines item 0 searched steps) }
-    ensures out_after { out.new ≡ sets out.old at (s_lines item 0 searched steps) }
+    ensures value { result ≡ behind at (steps_lines item 0 steps) }
+    ensures out_after { out.new ≡ sets out.old at (steps_lines item 0 steps) }
 {
     let mut next = at;
-    let mut i: usize = 0;
-    while i < Gauge::SLOTS {
-        next = put_search(out, next, item, i as u8, searched[i], steps[i]);
-        i += 1;
+    for i in 0..Gauge::SLOTS {
+        next = put_search(out, next, item, i as u8, steps[i]);
     }
     next
 }
 
-// Prints the line of a slot, if it was searched.
-pub fn put_search(
-    out: &mut [u8],
-    at: usize,
-    item: u64,
-    slot: u8,
-    searched: bool,
-    steps: u16,
-) -> usize
-    ensures value { result ≡ behind at (cond searched (s_line item slot steps) []) }
-    ensures out_after { out.new ≡ sets out.old at (cond searched (s_line item slot steps) []) }
+// Prints the line of a slot: the steps of its search, if it was searched.
+pub fn put_search(out: &mut [u8], at: usize, item: u64, slot: u8, search: Option<u16>) -> usize
+    ensures value { result ≡ behind at (steps_line item slot search) }
+    ensures out_after { out.new ≡ sets out.old at (steps_line item slot search) }
 {
-    if searched {
-        text::put_s(out, at, item, slot, steps)
-    } else {
-        at
+    match search {
+        Some(steps) => text::put_s(out, at, item, slot, steps),
+        None => at,
     }
 }
 

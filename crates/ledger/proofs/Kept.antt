@@ -21,9 +21,7 @@ use Rattle.window.proofs.Fitness.{fit_facts}
 use Rattle.window.proofs.History.{Since}
 use Rattle.question.specs.Calls.{step_call, begin_call}
 use Rattle.board.specs.declared.Board.{Board}
-use Rattle.board.specs.declared.Placed as placed
-use Rattle.board.specs.declared.Removed as removed
-use Rattle.board.specs.declared.Entered as done
+use Rattle.board.specs.Work as work
 use Rattle.board.specs.Work.{slot_at, with_slot, fresh_board, set_work, remove_work, enter_refusal, enter_work}
 use Rattle.board.specs.Calls.{fit_board}
 use Rattle.board.specs.Calls as calls
@@ -40,9 +38,9 @@ use Rattle.senders.proofs.Runs.{sent_many, sent-added}
 use Rattle.senders.proofs.Entering.{Facts, fit_from, Enters, enters}
 use Rattle.senders.proofs.Kept.{entered_facts}
 use Rattle.ledger.specs.declared.Ledger.{Ledger}
-use Rattle.ledger.specs.declared.Placed.{Placed}
-use Rattle.ledger.specs.declared.Removed.{Removed}
-use Rattle.ledger.specs.declared.Entered.{Entered}
+use Rattle.ledger.specs.Calls.{Placed}
+use Rattle.ledger.specs.Calls.{Removed}
+use Rattle.ledger.specs.Calls.{Entered}
 use Rattle.ledger.specs.Calls.{fit_ledger, with_board, fresh_ledger, set_call, remove_call, entered_with, enter_call}
 use Rattle.ledger.specs.Reached.{past_after, values_of, Reached, fresh, remove, enter, begin, step}
 use Rattle.ledger.specs.Reached as reach
@@ -87,15 +85,15 @@ pub set_window : (b : Board) (slot m : ℕ) (rule : Rule) → (set_work b slot m
 set_window b slot m rule = go (tested (ltb slot 32))
   where
     go : Tested (ltb slot 32) → (set_work b slot m rule).board.window ≡ b.window
-    go (passed t) = ap (λ (r : placed.Placed). r.board.window) (set_there b slot m rule (ltb-true slot 32 t))
-    go (failed t) = ap (λ (r : placed.Placed). r.board.window) (set_nowhere b slot m rule (ltb-false slot 32 t))
+    go (passed t) = ap (λ (r : work.Placed). r.board.window) (set_there b slot m rule (ltb-true slot 32 t))
+    go (failed t) = ap (λ (r : work.Placed). r.board.window) (set_nowhere b slot m rule (ltb-false slot 32 t))
 
 pub remove_window : (b : Board) (slot : ℕ) → (remove_work b slot).board.window ≡ b.window
 remove_window b slot = go (tested (ltb slot 32))
   where
     go : Tested (ltb slot 32) → (remove_work b slot).board.window ≡ b.window
-    go (passed t) = ap (λ (r : removed.Removed). r.board.window) (remove_there b slot (ltb-true slot 32 t))
-    go (failed t) = ap (λ (r : removed.Removed). r.board.window) (remove_nowhere b slot (ltb-false slot 32 t))
+    go (passed t) = ap (λ (r : work.Removed). r.board.window) (remove_there b slot (ltb-true slot 32 t))
+    go (failed t) = ap (λ (r : work.Removed). r.board.window) (remove_nowhere b slot (ltb-false slot 32 t))
 
 -- The board after an entry that nothing refuses.
 module _ (g : Ledger) (x : FromSender) (may : sent_refusal g.board.window.counts x.sender x.values ≡ 0) where
@@ -108,7 +106,7 @@ module _ (g : Ledger) (x : FromSender) (may : sent_refusal g.board.window.counts
 
   pub window_after_lem : (enter_work g.board x.values).board.window ≡ added g.board.window x.values
   unfolding enter_work
-  window_after_lem = ap (λ (r : done.Entered). r.board.window) (if_so _ _ (eq-eqb (enter_refusal g.board.window.counts x.values) 0 no_more))
+  window_after_lem = ap (λ (r : work.Entered). r.board.window) (if_so _ _ (eq-eqb (enter_refusal g.board.window.counts x.values) 0 no_more))
 
 module _ {n : ℕ} {past : List FromSender} (g : Ledger) (k : Kept n past g) where
   pub kept_set : (slot m : ℕ) (rule : Rule) → Kept n past (set_call g slot m rule).ledger
@@ -120,7 +118,7 @@ module _ {n : ℕ} {past : List FromSender} (g : Ledger) (k : Kept n past g) whe
       go (passed t) =
           subst (λ (r : Placed). Kept n past r.ledger) (sym (if_so _ _ t))
           (kept_board g k (set_work g.board slot m rule).board (set_window g.board slot m rule)
-          (subst (λ (r : placed.Placed). board.Reached n (values_of past) r.board) (set_known g.board (sym (kept_fit k) ∙ t) slot m rule) (board.set k.board_reached slot m rule)))
+          (subst (λ (r : work.Placed). board.Reached n (values_of past) r.board) (set_known g.board (sym (kept_fit k) ∙ t) slot m rule) (board.set k.board_reached slot m rule)))
 
   pub kept_remove : (slot : ℕ) → Kept n past (remove_call g slot).ledger
   unfolding remove_call
@@ -131,7 +129,7 @@ module _ {n : ℕ} {past : List FromSender} (g : Ledger) (k : Kept n past g) whe
       go (passed t) =
           subst (λ (r : Removed). Kept n past r.ledger) (sym (if_so _ _ t))
           (kept_board g k (remove_work g.board slot).board (remove_window g.board slot)
-          (subst (λ (r : removed.Removed). board.Reached n (values_of past) r.board) (remove_known g.board (sym (kept_fit k) ∙ t) slot) (board.remove k.board_reached slot)))
+          (subst (λ (r : work.Removed). board.Reached n (values_of past) r.board) (remove_known g.board (sym (kept_fit k) ∙ t) slot) (board.remove k.board_reached slot)))
 
   -- Entering, where nothing refuses it.
   module _ (x : FromSender) (fit : fit_ledger g ≡ true) (may : sent_refusal g.board.window.counts x.sender x.values ≡ 0) where
@@ -147,13 +145,13 @@ module _ {n : ℕ} {past : List FromSender} (g : Ledger) (k : Kept n past g) whe
     reached_after : board.Reached n (values_of (past ++ (x ∷ []))) (enter_work g.board v).board
     reached_after =
         let known = enter_known g.board (sym (kept_fit k) ∙ fit) v in
-        let refusal = ap (λ (r : done.Entered). r.refusal) known ∙ not_refused g x may in
-        subst (λ (r : done.Entered). board.Reached n (values_of (past ++ (x ∷ []))) r.board) known
+        let refusal = ap (λ (r : work.Entered). r.refusal) known ∙ not_refused g x may in
+        subst (λ (r : work.Entered). board.Reached n (values_of (past ++ (x ∷ []))) r.board) known
         (subst (λ (l : List Values). board.Reached n l enter_call'.board)
         (if_so _ _ (eq-eqb enter_call'.refusal 0 refusal) ∙ sym (map-append (λ (y : FromSender). y.values) past (x ∷ [])))
         (board.enter k.board_reached v))
       where
-        enter_call' : done.Entered
+        enter_call' : work.Entered
         enter_call' = calls.enter_call g.board v
 
     since_here : Since n (values_of past) w

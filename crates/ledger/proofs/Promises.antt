@@ -26,9 +26,7 @@ use Rattle.question.specs.Calls.{holds_number}
 use Rattle.question.proofs.Fitness.{holds}
 use Rattle.question.proofs.Listed.{holds-is}
 use Rattle.slot.specs.Asking.{not_shown}
-use Rattle.board.specs.declared.Placed as placed
-use Rattle.board.specs.declared.Removed as removed
-use Rattle.board.specs.declared.Entered as done
+use Rattle.board.specs.Work as work
 use Rattle.board.specs.Work.{with_slot, read_work, enter_refusal, enter_work}
 use Rattle.board.specs.Calls.{fit_board}
 use Rattle.board.specs.Calls as calls
@@ -47,9 +45,9 @@ use Rattle.senders.proofs.Entering.{Facts, fit_parts, enters}
 use Rattle.senders.proofs.Kept.{entered_facts}
 use Rattle.senders.proofs.Kept as senders
 use Rattle.ledger.specs.declared.Ledger.{Ledger}
-use Rattle.ledger.specs.declared.Placed.{Placed}
-use Rattle.ledger.specs.declared.Removed.{Removed}
-use Rattle.ledger.specs.declared.Entered.{Entered}
+use Rattle.ledger.specs.Calls.{Placed}
+use Rattle.ledger.specs.Calls.{Removed}
+use Rattle.ledger.specs.Calls.{Entered}
 use Rattle.ledger.specs.Calls.{fit_ledger, with_board, set_call, remove_call, read_call, not_entered, enter_call, tally_call, report_call}
 use Rattle.ledger.specs.Reached.{values_of, Reached}
 use Rattle.ledger.proofs.Kept.{kept_fit, kept_ledger, set_window, remove_window, window_after_lem}
@@ -226,7 +224,7 @@ module _ {n : ℕ} {past : List FromSender} {g : Ledger} (reached : Reached n pa
 -- ---- the board's answers
 
 -- What entering answers, by the ledger and by its board alone.
-pub record SameEntry (r : Entered) (e : done.Entered) : Type 0 where
+pub record SameEntry (r : Entered) (e : work.Entered) : Type 0 where
   pub refusal : r.refusal ≡ e.refusal
   pub number : r.number ≡ e.number
   pub searched : r.searched ≡ e.searched
@@ -243,7 +241,7 @@ module _ {n : ℕ} {past : List FromSender} {g : Ledger} (reached : Reached n pa
   unfolding set_call calls.set_call
   set_as_board slot k rule = go (tested (fit_board g.board))
     where
-      P : placed.Placed → Type 0
+      P : work.Placed → Type 0
       P p = set_call g slot k rule ≡ record { refusal = p.refusal; steps = p.steps; ledger = with_board g p.board }
 
       go : Tested (fit_board g.board) → P (calls.set_call g.board slot k rule)
@@ -255,7 +253,7 @@ module _ {n : ℕ} {past : List FromSender} {g : Ledger} (reached : Reached n pa
   unfolding remove_call calls.remove_call
   remove_as_board slot = go (tested (fit_board g.board))
     where
-      P : removed.Removed → Type 0
+      P : work.Removed → Type 0
       P p = remove_call g slot ≡ record { refusal = p.refusal; ledger = with_board g p.board }
 
       go : Tested (fit_board g.board) → P (calls.remove_call g.board slot)
@@ -276,7 +274,7 @@ module _ {n : ℕ} {past : List FromSender} {g : Ledger} (reached : Reached n pa
       same : sent_refusal g.board.window.counts sender v ≡ enter_refusal g.board.window.counts v
       same = if_so _ _ (lt-ltb sender 254 there_is)
 
-      both : {r r' : Entered} {e e' : done.Entered} → r ≡ r' → e ≡ e' → SameEntry r' e' → SameEntry r e
+      both : {r r' : Entered} {e e' : work.Entered} → r ≡ r' → e ≡ e' → SameEntry r' e' → SameEntry r e
       both {r' = r'} {e} p q s = subst (λ (x : Entered). SameEntry x e) (sym p) (subst (SameEntry r') (sym q) s)
 
       go : Tested (fit_board g.board) → Tested (eqb (enter_refusal g.board.window.counts v) 0) → SameEntry (enter_call g sender v) (calls.enter_call g.board v)

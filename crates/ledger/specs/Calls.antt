@@ -1,12 +1,11 @@
 -- Which ledgers are fit, and what each call answers (docs/RULES.md, sections 9 and 19).
-use Rattle.std.specs.Prelude.{ℕ, Bool, false, cond, Option, Result, Ok, Err, ◌&&◌, replicate, eqb}
+use Rattle.std.specs.Prelude.{ℕ, Bool, false, List, cond, Option, Result, Ok, Err, ◌&&◌, replicate, eqb}
 use Rattle.values.specs.declared.Values.{Values}
 use Rattle.ranking.specs.declared.Rule.{Rule}
-use Rattle.slot.specs.declared.Shown.{Shown}
-use Rattle.slot.specs.Asking.{not_shown}
+use Rattle.slot.specs.Asking.{Shown, not_shown}
 use Rattle.slot.specs.Gauges.{slot_count}
 use Rattle.board.specs.declared.Board.{Board}
-use Rattle.board.specs.declared.Entered as board
+use Rattle.board.specs.Work as board
 use Rattle.board.specs.Work.{fresh_board, set_work, remove_work, read_work, enter_work}
 use Rattle.board.specs.Calls.{fit_board}
 use Rattle.senders.specs.declared.Senders.{Senders}
@@ -17,10 +16,27 @@ use Rattle.tally.specs.declared.FromSender.{FromSender}
 use Rattle.senders.specs.Rows.{fit_senders, fresh_senders}
 use Rattle.senders.specs.Calls.{entered, sent_refusal, told, traced}
 use Rattle.ledger.specs.declared.Ledger.{Ledger}
-use Rattle.ledger.specs.declared.NewLedger.{NewLedger}
-use Rattle.ledger.specs.declared.Placed.{Placed}
-use Rattle.ledger.specs.declared.Removed.{Removed}
-use Rattle.ledger.specs.declared.Entered.{Entered}
+
+-- What the calls come to in numbers: the refusal's, or 0, and what else is answered, 0 where it is refused. Answers.antt has what the code answers.
+pub record NewLedger : Type 0 where
+  pub refusal : ℕ
+  pub ledger : Ledger
+
+pub record Placed : Type 0 where
+  pub refusal : ℕ
+  pub steps : ℕ
+  pub ledger : Ledger
+
+pub record Removed : Type 0 where
+  pub refusal : ℕ
+  pub ledger : Ledger
+
+pub record Entered : Type 0 where
+  pub refusal : ℕ
+  pub number : ℕ
+  pub searched : List Bool
+  pub steps : List ℕ
+  pub ledger : Ledger
 
 -- The board is fit, and so are senders and tallies beside its window (rule 19.6).
 unfoldable pub fit_ledger : Ledger → Bool

@@ -2,8 +2,9 @@
 #![tactic(auto)]
 
 ghost use Rattle.std.specs.Prelude.{◌≡◌};
-ghost use Rattle.board.specs.Work.{enter_work};
-ghost use Rattle.ledger.specs.Calls.{fit_ledger, with_board, fresh_ledger, set_call, remove_call, read_call, not_entered, entered_with, enter_call, tally_call, report_call};
+ghost use Rattle.slot.specs.Answers.{shown_answer};
+ghost use Rattle.ledger.specs.Calls.{fit_ledger, with_board, fresh_ledger, set_call, remove_call, read_call, enter_call, tally_call, report_call};
+ghost use Rattle.ledger.specs.Answers.{made_answer, placed_answer, removed_answer, entered_answer};
 
 use board::Board;
 use ranking::Rule;
@@ -20,51 +21,29 @@ pub struct Ledger {
     pub senders: Senders,
 }
 
-// A ledger, or the refusal's number and one of zeros.
-#[derive(Clone, Copy)]
-pub struct NewLedger {
-    pub refusal: u8,
-    pub ledger: Ledger,
-}
-
-// What setting a question answers: the steps of its search.
+// What setting a question answers: the ledger with it, and the steps of its search.
 #[derive(Clone, Copy)]
 pub struct Placed {
-    pub refusal: u8,
     pub steps: u16,
     pub ledger: Ledger,
 }
 
-#[derive(Clone, Copy)]
-pub struct Removed {
-    pub refusal: u8,
-    pub ledger: Ledger,
-}
-
-// What entering a report answers: its number, which questions were searched, and the steps of each.
+// What entering a report answers: its number, and the steps of each question that was searched.
 #[derive(Clone, Copy)]
 pub struct Entered {
-    pub refusal: u8,
     pub number: u32,
-    pub searched: [bool; Gauge::SLOTS],
-    pub steps: [u16; Gauge::SLOTS],
+    pub steps: [Option<u16>; Gauge::SLOTS],
     pub ledger: Ledger,
 }
 
 impl Ledger {
-    pub const UNFIT: u8 = 24;
-
-    // A window of n rows, 32 empty slots and no tally of anything, or refusal 18.
-    pub fn fresh(n: u16) -> NewLedger
-        ensures { result ≡ fresh_ledger n }
+    // A window of n rows, 32 empty slots and no tally of anything. Refused 18.
+    pub fn fresh(n: u16) -> Result<Ledger, Refusal>
+        ensures { result ≡ made_answer (fresh_ledger n) }
     {
-        let made = Board::fresh(n);
-        let board = made.board;
+        let board = Board::fresh(n)?;
         let senders = Senders::fresh();
-        NewLedger {
-            refusal: made.refusal,
-            ledger: Ledger { board, senders },
-        }
+        Ok(Ledger { board, senders })
     }
 
     // The board is fit, every row's sender is one that there is, or 0 where the row holds nothing, and every tally is what a fresh
@@ -76,69 +55,56 @@ impl Ledger {
     }
 
     // Sets a question in an empty slot and searches it: the steps. Refused 24, 13, 14, 15, 30, 33, 16.
-    pub fn set(self, slot: u8, k: u8, rule: Rule) -> Placed
-        ensures { result ≡ set_call self slot k rule }
+    pub fn set(self, slot: u8, k: u8, rule: Rule) -> Result<Placed, Refusal>
+        ensures { result ≡ placed_answer (set_call self slot k rule) }
     {
         if !self.fit() {
-            return Placed {
-                refusal: Ledger::UNFIT,
-                steps: 0,
-                ledger: self,
-            };
+            return Err(Refusal::Unfit);
         }
-        let board = self.board;
-        let placed = board.set_work(slot, k, rule);
-        let left = placed.board;
-        Placed {
-            refusal: placed.refusal,
+        let placed = self.board.set_work(slot, k, rule)?;
+        Ok(Placed {
             steps: placed.steps,
-            ledger: self.with_board(left),
-        }
+            ledger: self.with_board(placed.board),
+        })
     }
 
     // Empties a slot. Refused 24, 13, 17.
-    pub fn remove(self, slot: u8) -> Removed
-        ensures { result ≡ remove_call self slot }
+    pub fn remove(self, slot: u8) -> Result<Ledger, Refusal>
+        ensures { result ≡ removed_answer (remove_call self slot) }
     {
         if !self.fit() {
-            return Removed {
-                refusal: Ledger::UNFIT,
-                ledger: self,
-            };
+            return Err(Refusal::Unfit);
         }
-        let board = self.board;
-        let removed = board.remove_work(slot);
-        let left = removed.board;
-        Removed {
-            refusal: removed.refusal,
-            ledger: self.with_board(left),
-        }
+        let board = self.board.remove_work(slot)?;
+        Ok(self.with_board(board))
     }
 
     // The list of a slot. Refused 24, 13, 17.
-    pub fn read(self, slot: u8) -> Shown
-        ensures { result ≡ read_call self slot }
+    pub fn read(self, slot: u8) -> Result<Shown, Refusal>
+        ensures { result ≡ shown_answer (read_call self slot) }
     {
         if !self.fit() {
-            return Shown::refused(Ledger::UNFIT);
+            return Err(Refusal::Unfit);
         }
-        let board = self.board;
-        board.read_work(slot)
+        self.board.read_work(slot)
     }
 
-    // Enters a report of that sender: its number, which questions were searched, and the steps of each. Refused 24, 3, 12, 11.
-    pub fn enter(self, sender: u8, values: Values) -> Entered
-        ensures { result ≡ enter_call self sender values }
+    // Enters a report of that sender: its number, and the steps of each question that was searched. Refused 24, 3, 12, 11.
+    pub fn enter(self, sender: u8, values: Values) -> Result<Entered, Refusal>
+        ensures { result ≡ entered_answer (enter_call self sender values) }
     {
-        let board = self.board;
-        let senders = self.senders;
-        if !board.slots_fit() {
-            return self.not_entered(Ledger::UNFIT);
+        if !self.board.slots_fit() {
+            return Err(Refusal::Unfit);
         }
-        match senders.enter(board.window, sender, values) {
-            Ok(next) => self.entering(values, next),
-            Err(refusal) => self.not_entered(refusal.number()),
-        }
+        let senders = self.senders.enter(self.board.window, sender, values)?;
+        let entered = self.board.enter_work(values)?;
+        let board = entered.board;
+        let steps = entered.steps;
+        Ok(Entered {
+            number: entered.number,
+            steps,
+            ledger: Ledger { board, senders },
+        })
     }
 
     // What a sender has in the window. Refused 24, 3.
@@ -159,38 +125,6 @@ impl Ledger {
             return Err(Refusal::Unfit);
         }
         Ok(self.senders.report(self.board.window, number))
-    }
-
-    // The board enters a report that is not refused; these senders and tallies stand beside it then.
-    fn entering(self, values: Values, senders: Senders) -> Entered
-        ensures { result ≡ entered_with (enter_work self.board values) senders }
-    {
-        let before = self.board;
-        let done = before.enter_work(values);
-        let searched = done.searched;
-        let steps = done.steps;
-        let board = done.board;
-        Entered {
-            refusal: done.refusal,
-            number: done.number,
-            searched,
-            steps,
-            ledger: Ledger { board, senders },
-        }
-    }
-
-    fn not_entered(self, refusal: u8) -> Entered
-        ensures { result ≡ not_entered self refusal }
-    {
-        let searched = [false; Gauge::SLOTS];
-        let steps = [0u16; Gauge::SLOTS];
-        Entered {
-            refusal,
-            number: 0,
-            searched,
-            steps,
-            ledger: self,
-        }
     }
 
     fn with_board(self, board: Board) -> Ledger

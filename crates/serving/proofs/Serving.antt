@@ -17,13 +17,22 @@ use Rattle.window.proofs.Fitness.{size_range}
 use Rattle.question.specs.declared.Question.{Question}
 use Rattle.list.specs.Rows.{rows_in}
 use Rattle.board.specs.declared.Board.{Board}
-use Rattle.board.specs.declared.Placed.{Placed}
+use Rattle.board.specs.Work.{Placed}
 use Rattle.items.specs.Items.{setting_in}
-use Rattle.slot.specs.declared.Seated.{Seated}
+use Rattle.slot.specs.Asking.{Seated}
 use Rattle.slot.specs.Asking.{set_in, emptied, read_in}
 use Rattle.slot.specs.Gauges.{no_question}
 use Rattle.board.specs.Work.{slot_at, with_slot, set_work, remove_work, read_work}
 use Rattle.board.proofs.Seats.{set_seated, set_kept}
+use Rattle.std.specs.Prelude.{Ok, Err}
+use Rattle.refusal.specs.declared.Refusal.{Refusal}
+use Rattle.refusal.specs.Numbers.{number_of}
+use Rattle.refusal.proofs.Answers.{taken_is, taken_number, refused_number}
+use Rattle.question.specs.declared.Searched.{Searched}
+use Rattle.slot.specs.Answers.{seated_answer}
+use Rattle.slot.proofs.Refusals.{zero_is, zero_not, answer_number}
+use Rattle.slot.proofs.Setting.{set_told}
+use Rattle.slot.proofs.Setting as one
 use Rattle.text.specs.Text.{r_line, s_line}
 use Rattle.journal.specs.declared.Log.{Log}
 use Rattle.journal.specs.Log.{Outcome, next_item, with_item, with_board, unless, rule_in, set_item, remove_item, show_item, item_done}
@@ -48,6 +57,28 @@ module _ (tag item : ℕ) (v : List ℕ) (q : Question) (w : List Held) where
   served-set n m {seated} e =
       if_not _ _ (ne_eqb tag 20 n) ∙ if_not _ _ (ne_eqb tag 19 m)
       ∙ ap (λ (s : Seated). record { text = seated_text item (get_or v 0 0) s.refusal s.steps; question = s.question }) (sym e)
+
+  module _ (no_show : tag ≡ 20 → ⊥) (no_remove : tag ≡ 19 → ⊥) where
+    abbrev seated_there : Seated
+    seated_there = set_in q (get_or v 1 0) (rule_in v) w
+
+    -- A question that is set prints its search, and a refused one the refusal, and leaves the slot.
+    pub served_found : {f : Searched} → Ok f ≡ seated_answer seated_there → served tag item v q w ≡ record { text = s_line item (get_or v 0 0) f.steps; question = f.question }
+    unfolding seated_text
+    served_found h =
+        let same = taken_is seated_there.refusal _ h in
+        served-set no_show no_remove refl
+        ∙ (λ j. record { text = zero_is (s_line item (get_or v 0 0) seated_there.steps) (r_line item seated_there.refusal) (taken_number seated_there.refusal _ h) j; question = seated_there.question })
+        ∙ (λ j. record { text = s_line item (get_or v 0 0) (sym same j).steps; question = (sym same j).question })
+
+    pub served_refused : {e : Refusal} {m : ℕ} → Err e ≡ seated_answer seated_there → m ≡ number_of e → served tag item v q w ≡ record { text = r_line item m; question = q }
+    unfolding seated_text
+    served_refused h is =
+        let no = refused_number seated_there.refusal _ h in
+        let number = is ∙ answer_number seated_there.refusal _ (set_told q (get_or v 1 0) (rule_in v) w) h in
+        served-set no_show no_remove refl
+        ∙ (λ j. record { text = zero_not (s_line item (get_or v 0 0) seated_there.steps) (r_line item seated_there.refusal) no j; question = one.set_kept q (get_or v 1 0) (rule_in v) w no j })
+        ∙ (λ j. record { text = r_line item (sym number j); question = q })
 
 -- ---- in a log that has a window
 

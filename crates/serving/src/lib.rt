@@ -6,11 +6,11 @@ ghost use Rattle.std.proofs.lemmas.List.Edits.{sets};
 ghost use Rattle.text.specs.Text.{behind, r_line};
 ghost use Rattle.window.specs.Rows.{row_count, standing};
 ghost use Rattle.list.specs.Rows.{rows_in};
-ghost use Rattle.serving.specs.Serving.{shown_text, seated_text, served, Serves};
+ghost use Rattle.serving.specs.Serving.{shown_text, served, Serves};
 
 use items::Item;
 use question::Question;
-use slot::Shown;
+use refusal::Refusal;
 use window::Rows;
 
 // What a slot holds behind an item for it, and the place behind what that printed.
@@ -41,22 +41,19 @@ pub fn serve<'a>(
     if tag == Item::REMOVE {
         return Slot {
             question: slot::emptied(held),
-            at: put_refusal(out, at, item, held.k == 0, Shown::EMPTY),
+            at: put_refusal(out, at, item, held.k == 0, Refusal::SlotEmpty.number()),
         };
     }
-    let rule = journal::rule_in(value);
-    let seated = slot::set_in(held, wire::byte(value, 1), rule, rows);
-    let question = seated.question;
-    Slot {
-        question,
-        at: put_seated(
-            out,
-            at,
-            item,
-            wire::byte(value, 0),
-            seated.refusal,
-            seated.steps,
-        ),
+    let slot = wire::byte(value, 0);
+    match slot::set_in(held, wire::byte(value, 1), journal::rule_in(value), rows) {
+        Ok(found) => Slot {
+            question: found.question,
+            at: text::put_s(out, at, item, slot, found.steps),
+        },
+        Err(refusal) => Slot {
+            question: held,
+            at: text::put_r(out, at, item, refusal.number()),
+        },
     }
 }
 
@@ -66,23 +63,12 @@ fn put_shown(out: &mut [u8], at: usize, item: u64, slot: u8, question: Question)
     ensures out_after { out.new ≡ sets out.old at (shown_text item slot question) }
 {
     if question.k == 0 {
-        return text::put_r(out, at, item, Shown::EMPTY);
+        return text::put_r(out, at, item, Refusal::SlotEmpty.number());
     }
     let names = question.names;
     let numbers = list::numbers_in(names);
     let scores = question.scores;
     text::put_q(out, at, slot, numbers, scores, question.len as usize)
-}
-
-// Prints what setting a question in a slot answers: the line of a refusal, or of the search.
-fn put_seated(out: &mut [u8], at: usize, item: u64, slot: u8, refusal: u8, steps: u16) -> usize
-    ensures value { result ≡ behind at (seated_text item slot refusal steps) }
-    ensures out_after { out.new ≡ sets out.old at (seated_text item slot refusal steps) }
-{
-    if refusal == 0 {
-        return text::put_s(out, at, item, slot, steps);
-    }
-    text::put_r(out, at, item, refusal)
 }
 
 // Prints the line of a refusal, if there is one.

@@ -24,8 +24,8 @@ use Rattle.question.proofs.Steps.{reached}
 use Rattle.question.proofs.Searches.{Found, search_finds, searched-is, whole_search}
 use Rattle.slot.specs.Asking.{searched_among, set_in}
 use Rattle.slot.specs.Turn.{listed, turn}
-use Rattle.slot.specs.declared.Seated.{Seated}
-use Rattle.slot.specs.declared.Turned.{Turned}
+use Rattle.slot.specs.Asking.{Seated}
+use Rattle.slot.specs.Turn.{Turned}
 use Rattle.slot.proofs.Standing.{Slot, empty, stands, searches, searches_on, step-none, step_no_more, step_further}
 use Rattle.slot.proofs.Setting.{set_asks, set-searched}
 use Rattle.slot.proofs.Turns.{among_held, listed_keeps, turn-searched, turn_when}

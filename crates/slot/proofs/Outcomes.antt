@@ -14,8 +14,6 @@ use Rattle.slot.proofs.turn.Kinds as turn-kinds
 use Rattle.slot.proofs.turn.Reads as turn-reads
 use Rattle.slot.proofs.fit.Kinds as fit-kinds
 use Rattle.slot.proofs.fit.Reads as fit-reads
-use Rattle.slot.proofs.Shown.refused.Kinds as refused-kinds
-use Rattle.slot.proofs.Shown.refused.Reads as refused-reads
 use Rattle.slot.proofs.gauge.Gauge.of.Kinds as gauge-kinds
 use Rattle.slot.proofs.gauge.Gauge.of.Reads as gauge-reads
 use Rattle.slot.proofs.gauge.Gauge.quiet.Kinds as quiet-kinds
@@ -42,9 +40,6 @@ turn_once κs a x y s t p q = p ∙ sym q
 
 fit_once : OneAnswer 0 fit-kinds.ps fit-kinds.r fit-reads.Post
 fit_once κs a x y s t p q = p ∙ sym q
-
-refused_once : OneAnswer 0 refused-kinds.ps refused-kinds.r refused-reads.Post
-refused_once κs a x y s t p q = p ∙ sym q
 
 gauge_once : OneAnswer 0 gauge-kinds.ps gauge-kinds.r gauge-reads.Post
 gauge_once κs a x y s t p q = p ∙ sym q

@@ -10,7 +10,7 @@ use lib.Dec.{leb, eqb}
 use Rattle.ranking.specs.Cells.{weights_fit, ranges_proper, ties_known}
 use Rattle.ranking.specs.Standing.{Held}
 use Rattle.ranking.specs.declared.Rule.{Rule}
-use Rattle.laws.proofs.Tests.{Tested, passed, failed, tested, and_both}
+use Rattle.laws.proofs.Tests.{Tested, passed, failed, tested, either, and_both}
 use Rattle.ranking.proofs.Cells.{fit_all}
 use Rattle.window.specs.declared.Window.{Window}
 use Rattle.window.specs.Rows.{held_reports, fit_window}
@@ -18,11 +18,24 @@ use Rattle.question.specs.declared.Question.{Question}
 use Rattle.question.specs.declared.Searched.{Searched}
 use Rattle.question.specs.Lines.{asked, empty_slot, in_rows}
 use Rattle.laws.proofs.Tests.{if_so, if_not}
-use Rattle.slot.specs.Asking.{searched_among, ask_refusal, set_in, empty_refusal, emptied}
-use Rattle.slot.specs.declared.Seated.{Seated}
-use Rattle.slot.proofs.Refusals.{no_refusal}
+use Rattle.slot.specs.Asking.{Shown, searched_among, ask_refusal, set_in, empty_refusal, emptied, read_in}
+use Rattle.slot.specs.Asking.{Seated}
+use Rattle.std.specs.Prelude.{Result, Err}
+use Rattle.refusal.specs.declared.Refusal.{Refusal}
+use Rattle.refusal.specs.declared.Refusal.TheVariants.{LinesOutOfRange, WeightOutOfRange, SlotInUse, SlotEmpty, RangeNotProper, TieRuleUnknown}
+use Rattle.refusal.specs.Answers.{answered}
+use Rattle.refusal.proofs.Answers.{refused_alike}
+use Rattle.slot.specs.Answers.{seated_answer}
+use Rattle.slot.proofs.Refusals.{no_refusal, Told, told_none, told_of, told_if}
 use Rattle.slot.proofs.Standing.{Asks, Stands, search_stands}
 use Rattle.slot.proofs.Turns.{among_held, among_few}
+
+-- Its refusals have their numbers.
+ask_told : (held k : ℕ) (rule : Rule) → Told (ask_refusal held k rule)
+ask_told held k rule =
+    told_if (leb 1 k && leb k 16)
+    (told_if (weights_fit rule) (told_if (ranges_proper rule) (told_if (ties_known rule) (told_if (eqb held 0) told_none (told_of SlotInUse)) (told_of TieRuleUnknown)) (told_of RangeNotProper)) (told_of WeightOutOfRange))
+    (told_of LinesOutOfRange)
 
 module _ (q : Question) (k : ℕ) (rule : Rule) (reports : List Held) where
   set-taken : eqb (ask_refusal q.k k rule) 0 ≡ true
@@ -41,6 +54,15 @@ module _ (q : Question) (k : ℕ) (rule : Rule) (reports : List Held) where
       go : Tested (eqb (ask_refusal q.k k rule) 0) → (set_in q k rule reports).refusal ≡ ask_refusal q.k k rule
       go (passed t) = ap (λ (s : Seated). s.refusal) (set-taken t) ∙ sym (eqb-true (ask_refusal q.k k rule) 0 t)
       go (failed t) = ap (λ (s : Seated). s.refusal) (set-refused t)
+
+  -- A refused question is answered with that refusal.
+  pub set_refused : {e : Refusal} → ◌≡◌ {A = Result (Unit {0}) Refusal} (Err e) (answered (ask_refusal q.k k rule) tt) → Err e ≡ seated_answer (set_in q k rule reports)
+  set_refused {e} h =
+      refused_alike _ (tt {0}) (record { steps = (set_in q k rule reports).steps; question = (set_in q k rule reports).question }) h
+      ∙ ap (λ n. answered n (record { steps = (set_in q k rule reports).steps; question = (set_in q k rule reports).question })) (sym set-refusal)
+
+  pub set_told : Told (set_in q k rule reports).refusal
+  set_told = subst Told (sym set-refusal) (ask_told q.k k rule)
 
   pub set_few : (set_in q k rule reports).steps ≤ 256
   set_few = go (tested (eqb (ask_refusal q.k k rule) 0))
@@ -82,6 +104,13 @@ set_stands w fit q k rule free =
     (search_stands w fit (asked k rule [] 0) asks)
 
 module _ (q : Question) where
+  pub empty_told : Told (empty_refusal q.k)
+  empty_told = told_if (eqb q.k 0) (told_of SlotEmpty) told_none
+
+  pub read_told : Told (read_in q).refusal
+  unfolding read_in
+  read_told = either (λ (r : Shown). Told r.refusal) (eqb q.k 0) (λ t. told_of SlotEmpty) (λ t. told_none)
+
   -- An empty slot that is to be removed stays.
   pub emptied_kept : (empty_refusal q.k ≡ 0 → ⊥) → emptied q ≡ q
   unfolding emptied

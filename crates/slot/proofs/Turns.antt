@@ -34,7 +34,7 @@ use Rattle.list.proofs.Blank.{all_in}
 use Rattle.question.proofs.Searches.{searched_held}
 use Rattle.slot.specs.Asking.{searched_among}
 use Rattle.slot.specs.Turn.{takes, listed, number_named, later, lists, turn}
-use Rattle.slot.specs.declared.Turned.{Turned}
+use Rattle.slot.specs.Turn.{Turned}
 use Rattle.slot.proofs.Listing.{listed_not, takes_unmarked}
 use Rattle.slot.proofs.Gauges.{idle_untouched}
 use Rattle.slot.proofs.Standing.{taken, Stands, search_stands, listed-is, guard_more}

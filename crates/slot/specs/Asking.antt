@@ -1,5 +1,5 @@
 -- What setting, removing and reading do to one slot, whatever it holds (docs/RULES.md, sections 6 and 9).
-use Rattle.std.specs.Prelude.{ℕ, cond, ◌&&◌, List, [], replicate, leb, eqb, pos}
+use Rattle.std.specs.Prelude.{ℕ, cond, ◌&&◌, List, [], replicate, leb, eqb, ℤ, pos}
 use Rattle.ranking.specs.declared.Rule.{Rule}
 use Rattle.ranking.specs.Cells.{weights_fit, ranges_proper, ties_known}
 use Rattle.ranking.specs.Standing.{Held}
@@ -7,8 +7,20 @@ use Rattle.list.specs.Lines.{most_lines, numbers_in, editions_in}
 use Rattle.question.specs.declared.Question.{Question}
 use Rattle.question.specs.declared.Searched.{Searched}
 use Rattle.question.specs.Lines.{asked, empty_slot, searched_in}
-use Rattle.slot.specs.declared.Seated.{Seated}
-use Rattle.slot.specs.declared.Shown.{Shown}
+
+-- What setting comes to in numbers: the refusal's, or 0, the steps of the search, and what the slot holds then.
+pub record Seated : Type 0 where
+  pub refusal : ℕ
+  pub steps : ℕ
+  pub question : Question
+
+-- What reading comes to in numbers: the refusal's, or 0, and the list, 0 past its lines.
+pub record Shown : Type 0 where
+  pub refusal : ℕ
+  pub len : ℕ
+  pub numbers : List ℕ
+  pub scores : List ℤ
+  pub editions : List ℕ
 
 -- A search of these reports from its beginning to its end, and its steps; none, where k is over 16.
 abbrev pub searched_among : Question → List Held → Searched

@@ -3,3 +3,4 @@ pub mod Asking
 pub mod Turn
 pub mod Fitness
 pub mod Gauges
+pub mod Answers

@@ -7,8 +7,13 @@ use Rattle.ranking.specs.Standing.{Held, Entry, entry, has_place}
 use Rattle.question.specs.declared.Question.{Question}
 use Rattle.question.specs.Lines.{lines, with_entry, cut_to_k, is_marked}
 use Rattle.list.specs.Lines.{all_of}
-use Rattle.slot.specs.declared.Turned.{Turned}
 use Rattle.slot.specs.Asking.{searched_among}
+
+-- What a turn comes to: whether the question was searched, the steps of that, 0 where it wasn't, and what the slot holds then.
+pub record Turned : Type 0 where
+  pub searched : Bool
+  pub steps : ℕ
+  pub question : Question
 
 -- The question's list has a place for a report that enters now with this score.
 abbrev pub place_on : Question → ℤ → Bool

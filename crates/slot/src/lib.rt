@@ -6,130 +6,93 @@ ghost use Rattle.window.specs.Rows.{row_count, report_at, standing};
 ghost use Rattle.list.specs.Lines.{most_lines};
 ghost use Rattle.question.specs.Lines.{is_past};
 ghost use Rattle.list.specs.Rows.{rows_in};
-ghost use Rattle.slot.specs.Asking.{ask_refusal, set_in, empty_refusal, emptied, not_shown, read_in};
+ghost use Rattle.refusal.specs.Answers.{answered};
+ghost use Rattle.slot.specs.Asking.{ask_refusal, set_in, empty_refusal, emptied, read_in};
 ghost use Rattle.slot.specs.Turn.{place_on, listed, lists, turn};
 ghost use Rattle.slot.specs.Gauges.{least_of, last_name};
 ghost use Rattle.slot.specs.Fitness.{is_empty, slot_fit};
+ghost use Rattle.slot.specs.Answers.{seated_answer, shown_answer, turned_answer};
 
 mod gauge;
 
 pub use gauge::Gauge;
 use list::{Lines, editions_in, numbers_in};
-use question::Question;
+use question::{Question, Searched};
 use ranking::{Grid, Rule};
+use refusal::Refusal;
 use values::Name;
 use window::{Row, Rows, Window};
-
-// What setting a question answers: the steps of its search, and what the slot holds then.
-#[derive(Clone, Copy)]
-pub struct Seated {
-    pub refusal: u8,
-    pub steps: u16,
-    pub question: Question,
-}
 
 // A list: its first `len` lines, and 0 past them. Of each its report's number and score, and the heat: 0 for a report of the
 // first edition, one more than its heat for one of the second.
 #[derive(Clone, Copy)]
 pub struct Shown {
-    pub refusal: u8,
     pub len: u8,
     pub numbers: [u32; Lines::MOST],
     pub scores: [i32; Lines::MOST],
     pub editions: [u16; Lines::MOST],
 }
 
-// What a report's entry leaves of a question: whether it was searched, the steps of that, and what the slot holds then.
+// What a report's entry leaves of a question: the steps of its search, if it was searched, and what the slot holds then.
 #[derive(Clone, Copy)]
 pub struct Turned {
-    pub searched: bool,
-    pub steps: u16,
+    pub steps: Option<u16>,
     pub question: Question,
 }
 
-impl Seated {
-    pub const LINES_OUT_OF_RANGE: u8 = 14;
-
-    pub const WEIGHT_OUT_OF_RANGE: u8 = 15;
-
-    pub const IN_USE: u8 = 16;
-
-    pub const RANGE_NOT_PROPER: u8 = 30;
-
-    pub const TIE_RULE_UNKNOWN: u8 = 33;
-}
-
-impl Shown {
-    pub const EMPTY: u8 = 17;
-
-    // The answer of a refused reading.
-    pub fn refused(refusal: u8) -> Shown
-        ensures { result ≡ not_shown refusal }
-    {
-        let numbers = [0u32; Lines::MOST];
-        let scores = [0i32; Lines::MOST];
-        let editions = [0u16; Lines::MOST];
-        Shown {
-            refusal,
-            len: 0,
-            numbers,
-            scores,
-            editions,
-        }
-    }
-}
-
 // Sets a question in a slot that holds this one, and searches it over the rows that are lent. Refused 14, 15, 30, 33, 16.
-pub fn set_in<'a>(question: Question, k: u8, rule: Rule, rows: &'a Rows) -> Seated
-    ensures { result ≡ set_in question k rule (standing (rows_in rows.now) row_count) }
+pub fn set_in<'a>(
+    question: Question,
+    k: u8,
+    rule: Rule,
+    rows: &'a Rows,
+) -> Result<Searched, Refusal>
+    ensures { result ≡ seated_answer (set_in question k rule (standing (rows_in rows.now) row_count)) }
 {
-    let refusal = ask_refusal(question.k, k, rule);
-    if refusal != 0 {
-        return Seated {
-            refusal,
-            steps: 0,
-            question,
-        };
-    }
+    ask_refusal(question.k, k, rule)?;
     let mut fresh = Question::fresh();
     fresh.k = k;
     fresh.rule = rule;
-    let found = fresh.searched_in(rows, Window::ROWS);
-    let placed = found.question;
-    Seated {
-        refusal: 0,
-        steps: found.steps,
-        question: placed,
-    }
+    Ok(fresh.searched_in(rows, Window::ROWS))
 }
 
-// Why a question is not set in a slot that holds one of that k, or 0; 0 for no reason.
-fn ask_refusal(held: u8, k: u8, rule: Rule) -> u8
-    ensures { result ≡ ask_refusal held k rule }
+// Why a question is not set in a slot that holds one of that k, or 0.
+#[tactic(auto, unfolding(refusal::specs::Answers::refusal_of))]
+fn ask_refusal(held: u8, k: u8, rule: Rule) -> Result<(), Refusal>
+    ensures { result ≡ answered (ask_refusal held k rule) tt }
 {
     if k < 1 {
-        return Seated::LINES_OUT_OF_RANGE;
+        return Err(Refusal::LinesOutOfRange);
     }
     if Question::LINES < k {
-        return Seated::LINES_OUT_OF_RANGE;
+        return Err(Refusal::LinesOutOfRange);
     }
     if !rule.weights_fit() {
-        return Seated::WEIGHT_OUT_OF_RANGE;
+        return Err(Refusal::WeightOutOfRange);
     }
     if !rule.ranges_proper() {
-        return Seated::RANGE_NOT_PROPER;
+        return Err(Refusal::RangeNotProper);
     }
     if !rule.ties_known() {
-        return Seated::TIE_RULE_UNKNOWN;
+        return Err(Refusal::TieRuleUnknown);
     }
-    if held == 0 { 0 } else { Seated::IN_USE }
+    if held == 0 {
+        Ok(())
+    } else {
+        Err(Refusal::SlotInUse)
+    }
 }
 
-// Why a slot that holds a question of that k, or 0, is not removed or read; 0 for no reason.
-pub fn empty_refusal(held: u8) -> u8
-    ensures { result ≡ empty_refusal held }
+// Why a slot that holds a question of that k, or 0, is not removed or read.
+#[tactic(auto, unfolding(refusal::specs::Answers::refusal_of))]
+pub fn empty_refusal(held: u8) -> Result<(), Refusal>
+    ensures { result ≡ answered (empty_refusal held) tt }
 {
-    if held == 0 { Shown::EMPTY } else { 0 }
+    if held == 0 {
+        Err(Refusal::SlotEmpty)
+    } else {
+        Ok(())
+    }
 }
 
 // What a slot holds that is removed; one that is empty stays.
@@ -145,46 +108,43 @@ pub fn emptied(question: Question) -> Question
 }
 
 // The list of a slot. Refused 17.
-#[tactic(auto, unfolding(crate::specs::Asking::read_in))]
-pub fn read_in(question: Question) -> Shown
-    ensures { result ≡ read_in question }
+#[tactic(auto, unfolding(crate::specs::Asking::read_in, refusal::specs::Answers::refusal_of))]
+pub fn read_in(question: Question) -> Result<Shown, Refusal>
+    ensures { result ≡ shown_answer (read_in question) }
 {
     if question.k == 0 {
-        return Shown::refused(Shown::EMPTY);
+        return Err(Refusal::SlotEmpty);
     }
     let names = question.names;
     let numbers = numbers_in(names);
     let scores = question.scores;
     let editions = editions_in(names);
-    Shown {
-        refusal: 0,
+    Ok(Shown {
         len: question.len,
         numbers,
         scores,
         editions,
-    }
+    })
 }
 
 // A report enters: the question lists it if its list takes it, and is searched afresh if it lists one that has gone, over the
 // first `n` of the rows that are lent. The numbers up to `gone` have gone. Of the loss and the shake the low 12 bits
 // are looked at.
 pub fn turn<'a>(question: Question, row: Row, gone: u32, rows: &'a Rows, n: usize) -> Turned
-    ensures { result ≡ turn question (report_at row) gone
-        (standing (rows_in rows.now) (min n row_count)) }
+    ensures { result ≡ turned_answer (turn question (report_at row) gone
+        (standing (rows_in rows.now) (min n row_count))) }
 {
     let with = listed(question, row);
     if !lists(with, gone) {
         return Turned {
-            searched: false,
-            steps: 0,
+            steps: None,
             question: with,
         };
     }
     let found = with.searched_in(rows, n);
     let left = found.question;
     Turned {
-        searched: true,
-        steps: found.steps,
+        steps: Some(found.steps),
         question: left,
     }
 }

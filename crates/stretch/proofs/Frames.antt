@@ -24,7 +24,7 @@ use Rattle.window.proofs.Fitness.{size_range, added-taken}
 use Rattle.question.specs.declared.Question.{Question}
 use Rattle.question.specs.Lines.{in_rows}
 use Rattle.list.specs.Rows.{rows_in}
-use Rattle.slot.specs.declared.Turned.{Turned}
+use Rattle.slot.specs.Turn.{Turned}
 use Rattle.slot.specs.Turn.{takes, lists}
 use Rattle.slot.specs.Turn as one
 use Rattle.slot.specs.Gauges.{is_idle}

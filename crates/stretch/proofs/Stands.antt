@@ -33,7 +33,11 @@ use Rattle.journal.specs.declared.Log.{Log}
 use Rattle.journal.specs.Log.{next_item, with_item, frame_item, item_done}
 use Rattle.stretch.specs.declared.Brought.{Brought}
 use Rattle.stretch.specs.declared.Standing.{Standing}
-use Rattle.slot.specs.declared.Turned.{Turned}
+use Rattle.slot.specs.Turn.{Turned}
+use Rattle.slot.specs.declared.Turned as code
+use Rattle.slot.specs.Answers.{turned_answer}
+use Rattle.journal.specs.Log.{steps_line}
+use Rattle.journal.proofs.Searches.{line_of}
 use Rattle.coming.specs.Coming.{size_at, comes, has_room, is_frame}
 use Rattle.serving.specs.Serving.{served, Serves}
 use Rattle.coming.specs.Inner.{frame_size}
@@ -96,11 +100,10 @@ module _ {b : Brought} {w : Window} {items rows : ℕ} {slots₀ : List Question
           rowed = t.rowed;
         }
 
-    -- A slot that has its turn.
-    pub turns_more : {r : Turned} {g : Gauge} {at₁ : ℕ} {out₁ : List ℕ} → r ≡ one.turn (get_or slots n no_question) (report b) b.gone (standing (rows_in w.rows) (min rows 1024))
+    turns_by : {r : Turned} {g : Gauge} {at₁ : ℕ} {out₁ : List ℕ} → r ≡ one.turn (get_or slots n no_question) (report b) b.gone (standing (rows_in w.rows) (min rows 1024))
         → (at₁ ≡ behind at (cond r.searched (s_line items n r.steps) [])) × (out₁ ≡ sets out at (cond r.searched (s_line items n r.steps) [])) → g ≡ gauge_of r.question
         → Turns b w items rows slots₀ used out₀ at₀ (n + 1) (set slots n r.question) (set gauges n g) at₁ out₁
-    turns_more {r} e p f =
+    turns_by {r} e p f =
         let is = e ∙ turned-is b w (get_or slots n no_question) (min rows 1024) (rowed_all (rows_in w.rows) t.rowed) in
         record {
           within = omega arith;
@@ -112,6 +115,17 @@ module _ {b : Brought} {w : Window} {items rows : ℕ} {slots₀ : List Question
           each = gauges_set slots n r.question t.each f;
           rowed = t.rowed;
         }
+
+    -- A slot that has its turn.
+    pub turns_more : {r : code.Turned} {g : Gauge} {at₁ : ℕ} {out₁ : List ℕ} → r ≡ turned_answer (one.turn (get_or slots n no_question) (report b) b.gone (standing (rows_in w.rows) (min rows 1024)))
+        → (at₁ ≡ behind at (steps_line items n r.steps)) × (out₁ ≡ sets out at (steps_line items n r.steps)) → g ≡ gauge_of r.question
+        → Turns b w items rows slots₀ used out₀ at₀ (n + 1) (set slots n r.question) (set gauges n g) at₁ out₁
+    turns_more {g = g} {at₁ = at₁} {out₁ = out₁} e p f =
+        let s = one.turn (get_or slots n no_question) (report b) b.gone (standing (rows_in w.rows) (min rows 1024)) in
+        let line = ap (λ (x : code.Turned). steps_line items n x.steps) e ∙ line_of items n s.searched s.steps in
+        let left = ap (λ (x : code.Turned). x.question) e in
+        subst (λ q. Turns b w items rows slots₀ used out₀ at₀ (n + 1) (set slots n q) (set gauges n g) at₁ out₁) (sym left)
+        (turns_by {r = s} refl (p.0 ∙ ap (behind at) line, p.1 ∙ ap (sets out at) line) (f ∙ ap gauge_of left))
 
 -- ---- the items
 

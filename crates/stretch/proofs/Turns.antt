@@ -14,7 +14,7 @@ use Rattle.text.specs.Text.{s_line}
 use Rattle.text.proofs.Places.{Put, then, said, none}
 use Rattle.journal.specs.Log.{s_lines}
 use Rattle.journal.proofs.Searches.{lines_more, lines_none}
-use Rattle.slot.specs.declared.Turned.{Turned}
+use Rattle.slot.specs.Turn.{Turned}
 
 module _ (turn : Question → Turned) (items : ℕ) (old : List Question) (out₀ : List ℕ) (at₀ : ℕ) where
   abbrev pub search_lines : ℕ → List ℕ

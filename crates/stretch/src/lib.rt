@@ -163,7 +163,7 @@ fn run(
             }
             let held = slots[slot];
             let turned = slot::turn(held, brought.row, brought.gone, &rows, filled);
-            at = journal::put_search(out, at, items, slot as u8, turned.searched, turned.steps);
+            at = journal::put_search(out, at, items, slot as u8, turned.steps);
             let left = turned.question;
             slots[slot] = left;
             gauges[slot] = Gauge::of(left);

@@ -25,18 +25,18 @@ use Rattle.joining.specs.declared.Answer.{Answer}
 use Rattle.joining.specs.declared.Answer.TheVariants.{Refused, Kept, Complete}
 use Rattle.times.specs.Run.{Timed, sender, stations_after, timed_answer, timed_at, untimed_at}
 use Rattle.text.specs.Text.{s_line, q_line, entries_of}
-use Rattle.slot.specs.declared.Shown.{Shown}
+use Rattle.slot.specs.Asking.{Shown}
 use Rattle.board.specs.declared.Board.{Board}
-use Rattle.board.specs.declared.Entered as Entered-of
+use Rattle.board.specs.Work as Entered-of
 use Rattle.board.specs.Work.{fresh_board, set_work, remove_work, read_work, enter_work}
 use Rattle.board.specs.Calls.{fit_board}
 use Rattle.board.proofs.Refusals.{enter-refusal}
 use Rattle.tally.specs.declared.FromSender.{FromSender}
 use Rattle.senders.specs.Calls.{sent_refusal, entered}
 use Rattle.ledger.specs.declared.Ledger.{Ledger}
-use Rattle.ledger.specs.declared.Placed.{Placed}
-use Rattle.ledger.specs.declared.Removed.{Removed}
-use Rattle.ledger.specs.declared.Entered.{Entered}
+use Rattle.ledger.specs.Calls.{Placed}
+use Rattle.ledger.specs.Calls.{Removed}
+use Rattle.ledger.specs.Calls.{Entered}
 use Rattle.ledger.specs.Calls.{fit_ledger, fresh_ledger, set_call, remove_call, read_call, not_entered, entered_with, enter_call}
 use Rattle.ledger.specs.Calls as calls
 use Rattle.ledger.specs.Reached as ledger

@@ -6,7 +6,7 @@ use Rattle.serving.proofs.put_shown.Goals as goal
 
 pub returns-then-question-eq0 : goal.returns-then-question-eq0
 unfolding shown_text
-returns-then-question-eq0 c = rw (eq-eqb c.args.question.k 0 c.if-question-eq0.true) (record { value = c.put_r.ensures.value; out_after = c.put_r.ensures.buf_after })
+returns-then-question-eq0 c = rw (eq-eqb c.args.question.k 0 c.if-question-eq0.true, ← c.number.ensures) (record { value = c.put_r.ensures.value; out_after = c.put_r.ensures.buf_after })
 
 pub returns : goal.returns
 unfolding shown_text

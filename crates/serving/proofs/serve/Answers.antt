@@ -1,7 +1,7 @@
 -- By the item's tag.
 -- Assumes nothing.
 use mathlib.Core.Path.{◌≡◌, refl, sym, ap, ◌∙◌}
-use mathlib.Core.List.{List}
+use mathlib.Core.List.{List, []}
 use Prim.Native.Nat.{ℕ}
 use lib.Seq.{sets}
 use Rattle.text.specs.Text.{behind}
@@ -9,8 +9,12 @@ use Rattle.question.specs.declared.Question.{Question}
 use Rattle.list.specs.Rows.{rows_in}
 use Rattle.window.specs.Rows.{standing}
 use Rattle.slot.specs.Asking.{set_in}
-use Rattle.serving.specs.Serving.{Served, Serves, shown_text, seated_text}
-use Rattle.serving.proofs.Serving.{served_show, served-remove, served-set}
+use Rattle.slot.specs.Answers.{seated_answer}
+use Rattle.text.specs.Text.{r_line, s_line}
+use mathlib.Core.Bool.{cond}
+use lib.Dec.{eqb}
+use Rattle.serving.specs.Serving.{Served, Serves, shown_text}
+use Rattle.serving.proofs.Serving.{served_show, served-remove, served_found, served_refused}
 use Rattle.serving.proofs.serve.Goals as goal
 
 -- What was put, and what the slot holds, are those of the definition.
@@ -29,14 +33,18 @@ pub returns-then-tag-eq-REMOVE : goal.returns-then-tag-eq-REMOVE
 returns-then-tag-eq-REMOVE c =
     let a = c.args in
     serves (served-remove c.args.tag c.args.item c.args.value.now c.args.held (standing (rows_in c.args.rows.now) 1024) c.if-tag-eq-SHOW.false c.if-tag-eq-REMOVE.true)
-    refl c.emptied.ensures (c.put_refusal.ensures.value, c.put_refusal.ensures.out_after)
+    (ap (λ n. cond (eqb c.args.held.k 0) (r_line c.args.item n) []) c.number.ensures) c.emptied.ensures (c.put_refusal.ensures.value, c.put_refusal.ensures.out_after)
 
-pub returns : goal.returns
-returns c =
+pub returns-in-Ok : goal.returns-in-Ok
+returns-in-Ok c =
     let a = c.args in
-    let rows = standing (rows_in c.args.rows.now) 1024 in
-    let k = c.byte-2.ensures in
-    let rule = c.rule_in-rule.ensures in
-    let set = c.set_in-seated in
-    serves (served-set c.args.tag c.args.item c.args.value.now c.args.held rows c.if-tag-eq-SHOW.false c.if-tag-eq-REMOVE.false (c.set_in-seated.ensures ∙ (λ j. set_in c.args.held (k j) (rule j) rows)))
-    (ap (λ (n : ℕ). seated_text c.args.item n c.set_in-seated.result.refusal c.set_in-seated.result.steps) c.byte-3.ensures) refl (c.put_seated.ensures.value, c.put_seated.ensures.out_after)
+    let rows = standing (rows_in a.rows.now) 1024 in
+    serves (served_found a.tag a.item a.value.now a.held rows c.if-tag-eq-SHOW.false c.if-tag-eq-REMOVE.false (c.in-Ok.ensures ∙ (λ j. seated_answer (set_in a.held (c.byte-2.ensures j) (c.rule_in.ensures j) rows))))
+    (ap (λ (n : ℕ). s_line a.item n c.in-Ok.found.steps) c.byte-slot.ensures) refl (c.put_s.ensures.value, c.put_s.ensures.buf_after)
+
+pub returns-in-Err : goal.returns-in-Err
+returns-in-Err c =
+    let a = c.args in
+    let rows = standing (rows_in a.rows.now) 1024 in
+    serves (served_refused a.tag a.item a.value.now a.held rows c.if-tag-eq-SHOW.false c.if-tag-eq-REMOVE.false (c.in-Err.ensures ∙ (λ j. seated_answer (set_in a.held (c.byte-2.ensures j) (c.rule_in.ensures j) rows))) c.number-in-Err.ensures) refl refl
+    (c.put_r.ensures.value, c.put_r.ensures.buf_after)

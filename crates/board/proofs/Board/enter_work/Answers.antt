@@ -1,13 +1,18 @@
--- A refusal by its number, or the entry.
+-- A refusal, or the entry.
 use Rattle.std.proofs.Common.{sym, ap, ◌∙◌}
-use Rattle.board.specs.Work.{not_entered, enter_work}
-use Rattle.refusal.proofs.Answers.{refused_number}
-use Rattle.board.proofs.Refusals.{zero_not, entry-number}
+use Rattle.std.proofs.lemmas.Result.{err_from_is_err_and}
+use Rattle.board.specs.Work.{enter_work}
+use Rattle.board.specs.Answers.{entered_answer}
+use Rattle.refusal.proofs.Answers.{refused_number, refused_alike, taken_number}
+use Rattle.board.proofs.Refusals.{zero_not}
 use Rattle.board.proofs.Board.enter_work.Goals as goal
 
-pub returns-in-Err : goal.returns-in-Err
+pub returns-in_err-enter_refusal : goal.returns-in_err-enter_refusal
 unfolding enter_work
-returns-in-Err c =
-    c.not_entered.ensures
-    ∙ ap (not_entered c.args.self) (c.number.ensures ∙ entry-number c.args.self.window.counts c.args.values c.in-Err.ensures)
-    ∙ sym (zero_not _ _ (refused_number _ (tt {0}) c.in-Err.ensures))
+returns-in_err-enter_refusal c =
+    let p = err_from_is_err_and c.from_residual.result c.from_residual.ensures.1 in
+    rw (p.1, p.2)
+    (refused_alike _ (tt {0}) _ c.in_err-enter_refusal.ensures ∙ ap entered_answer (sym (zero_not _ _ (refused_number _ (tt {0}) c.in_err-enter_refusal.ensures))))
+
+pub entering-requires : goal.entering-requires
+entering-requires c = taken_number _ (tt {0}) c.in_ok-enter_refusal.ensures

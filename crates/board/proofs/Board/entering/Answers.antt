@@ -17,7 +17,7 @@ leaving-gone-requires c =
 pub loop-i-init : goal.loop-i-init
 loop-i-init c =
     let all_slots : length c.args.self.slots ≡ 32 = c.well_formed.0.1.1.1.0.1.0.1 in
-    turns-none _ _ _ _ _ _ _ refl (sym all_slots) (sym all_slots)
+    turns-none _ _ _ _ _ _ refl (sym all_slots)
 
 pub loop-i-preserved : goal.loop-i-preserved
 loop-i-preserved c =

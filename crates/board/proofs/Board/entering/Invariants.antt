@@ -5,4 +5,4 @@ use Rattle.board.proofs.Board.entering.Given as goal
 
 abbrev pub invariant-loop-i : goal.invariant-loop-i
 invariant-loop-i l =
-    Turns (report_at l.row) l.fn.self.slots l.gone (standing (rows_in l.window.rows) 1024) l.i l.slots l.searched l.steps
+    Turns (report_at l.row) l.fn.self.slots l.gone (standing (rows_in l.window.rows) 1024) l.i l.slots l.steps

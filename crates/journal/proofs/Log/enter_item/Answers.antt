@@ -2,21 +2,22 @@
 -- Assumes nothing.
 use mathlib.Core.Path.{ap}
 use Rattle.board.specs.declared.Entered.{Entered}
-use Rattle.journal.specs.Log.{with_board, s_lines, enter_item}
-use Rattle.journal.proofs.Calls.{refuses, does, stores}
+use Rattle.board.specs.Work.{enter_work}
+use Rattle.board.proofs.Told.{enter_told}
+use Rattle.journal.specs.Log.{with_board, unless, steps_lines, enter_item}
+use Rattle.journal.proofs.Calls.{outcome_is, answer_refuses, answer_does, stores}
+use Rattle.journal.proofs.Searches.{lines_of_searches}
 use Rattle.journal.proofs.Log.enter_item.Goals as goal
 
-pub returns-then-refusal-ne0 : goal.returns-then-refusal-ne0
+pub returns-in-Ok : goal.returns-in-Ok
 unfolding enter_item
-returns-then-refusal-ne0 c =
-    let a = c.args in
-    refuses c.args.self _ (ap (λ (e : Entered). e.refusal) c.enter_work-entered.ensures) c.if-refusal-ne0.true c.refused.ensures
+returns-in-Ok c =
+    let log = c.args.self in
+    let done = enter_work log.board c.args.values in
+    outcome_is (ap (λ t. unless log done.refusal (record { text = t; log = with_board log done.board })) (lines_of_searches log.items 0 done.searched done.steps))
+    (answer_does log (λ (e : Entered). record { text = steps_lines log.items 0 e.steps; log = with_board log e.board }) _ _ c.in-Ok.ensures
+    (stores _ _ c.with_board.ensures (c.put_searches-next.ensures.value, c.put_searches-next.ensures.out_after)))
 
-pub returns : goal.returns
+pub returns-in-Err : goal.returns-in-Err
 unfolding enter_item
-returns c =
-    let a = c.args in
-    let entered = c.enter_work-entered.ensures in
-    does c.args.self (ap (λ (e : Entered). e.refusal) entered) c.if-refusal-ne0.false
-    (ap (λ (e : Entered). record { text = s_lines c.args.self.items 0 e.searched e.steps; log = with_board c.args.self e.board }) entered)
-    (stores _ _ c.with_board.ensures (c.put_searches-next.ensures.value, c.put_searches-next.ensures.out_after))
+returns-in-Err c = answer_refuses c.args.self _ _ _ (enter_told c.args.self.board c.args.values) c.in-Err.ensures c.number.ensures c.refused.ensures

@@ -6,7 +6,7 @@ use Rattle.journal.proofs.Log.fresh.Goals as goal
 pub returns : goal.returns
 unfolding fresh_log
 returns c =
-    let made = c.fresh-made.ensures in
+    let board = c.none-board.ensures in
     let bus = c.fresh-bus.ensures in
     let times = c.fresh-times.ensures in
-    λ i. record { items = 0; board = (made i).board; sessions = bus i; times = times i }
+    λ i. record { items = 0; board = board i; sessions = bus i; times = times i }

@@ -1,23 +1,17 @@
 -- `journal::Log::remove_item` meets its contract: the board answers the refusal, or is left without the slot.
 -- Assumes nothing.
-use mathlib.Core.Path.{ap}
-use Rattle.board.specs.declared.Removed.{Removed}
+use Rattle.board.specs.declared.Board.{Board}
+use Rattle.board.proofs.Told.{remove_told}
 use Rattle.journal.specs.Log.{no_text, with_board, remove_item}
-use Rattle.journal.proofs.Calls.{refuses, does, silent}
+use Rattle.journal.proofs.Calls.{answer_refuses, answer_does, silent}
 use borrow.Author.Rules.{rules}
 use Rattle.journal.proofs.Log.remove_item.Goals as goal
 
-pub returns-then-refusal-ne0 : goal.returns-then-refusal-ne0
+pub returns-in-Ok : goal.returns-in-Ok
 unfolding remove_item
-returns-then-refusal-ne0 c =
-    let a = c.args in
-    let removed = c.remove_work-removed.ensures in
-    refuses c.args.self _ (ap (λ (r : Removed). r.refusal) removed) c.if-refusal-ne0.true c.refused.ensures
+returns-in-Ok c =
+    answer_does c.args.self (λ (b : Board). no_text (with_board c.args.self b)) _ _ c.in-Ok.ensures (silent c.args.out.now c.args.at _ (search rules) c.with_board.ensures)
 
-pub returns : goal.returns
+pub returns-in-Err : goal.returns-in-Err
 unfolding remove_item
-returns c =
-    let a = c.args in
-    let removed = c.remove_work-removed.ensures in
-    does c.args.self (ap (λ (r : Removed). r.refusal) removed) c.if-refusal-ne0.false (ap (λ (r : Removed). no_text (with_board c.args.self r.board)) removed)
-    (silent c.args.out.now c.args.at _ (search rules) c.with_board.ensures)
+returns-in-Err c = answer_refuses c.args.self _ _ _ (remove_told c.args.self.board c.args.slot) c.in-Err.ensures c.number.ensures c.refused.ensures

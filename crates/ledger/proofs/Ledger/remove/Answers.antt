@@ -1,17 +1,33 @@
 -- 24, or what the board does, with the senders as they were.
 -- Assumes nothing.
-use mathlib.Core.Path.{sym, ◌∙◌}
+use mathlib.Core.Path.{sym, ap, ◌∙◌}
 use borrow.Author.Tests.{not-true, not-false}
 use Rattle.laws.proofs.Tests.{if_so, if_not}
-use Rattle.ledger.specs.Calls.{remove_call}
-use mathlib.Core.Path.{ap}
 use mathlib.Core.Bool.{not}
+use Rattle.std.proofs.lemmas.Result.{err_from_is_err_and}
+use Rattle.std.specs.Prelude.{Ok}
+use Rattle.refusal.specs.Answers.{refusal_of}
+use Rattle.refusal.proofs.Answers.{refused_alike}
+use Rattle.board.specs.declared.Board.{Board}
+use Rattle.board.proofs.Refusals.{taken_through}
+use Rattle.ledger.specs.Calls.{with_board, remove_call}
+use Rattle.ledger.specs.Answers.{removed_answer}
 use Rattle.ledger.proofs.Ledger.remove.Goals as goal
 
 pub returns-then-not-fit : goal.returns-then-not-fit
+unfolding remove_call refusal_of
+returns-then-not-fit c = ap removed_answer (sym (if_not _ _ (sym c.fit.ensures ∙ not-true _ (ap not c.if-not-fit.true))))
+
+pub returns-in_err-board : goal.returns-in_err-board
 unfolding remove_call
-returns-then-not-fit c = sym (if_not _ _ (sym c.fit.ensures ∙ not-true _ (ap not c.if-not-fit.true)))
+returns-in_err-board c =
+    let p = err_from_is_err_and c.from_residual.result c.from_residual.ensures.1 in
+    rw (p.1, p.2)
+    (refused_alike _ _ _ c.in_err-board.ensures ∙ ap removed_answer (sym (if_so _ _ (sym c.fit.ensures ∙ not-false _ (ap not c.if-not-fit.false)))))
 
 pub returns : goal.returns
 unfolding remove_call
-returns c = rw (c.with_board.ensures, c.remove_work-removed.ensures) (sym (if_so _ _ (sym c.fit.ensures ∙ not-false _ (ap not c.if-not-fit.false))))
+returns c =
+    ap (λ l. Ok l) c.with_board.ensures
+    ∙ taken_through (λ (b : Board). with_board c.args.self b) _ _ c.in_ok-board.ensures
+    ∙ ap removed_answer (sym (if_so _ _ (sym c.fit.ensures ∙ not-false _ (ap not c.if-not-fit.false))))
