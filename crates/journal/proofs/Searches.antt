@@ -10,7 +10,8 @@ use native.Mathlib.Numerals.{add-one}
 use native.Mathlib.Omega.{arith}
 use lib.ListN.{length, get_or, take}
 use Rattle.text.specs.Text.{s_line}
-use Rattle.journal.specs.Log.{s_lines, steps_line, steps_lines}
+use Rattle.journal.specs.Log.{s_lines, steps_line}
+use Rattle.journal.specs.Inner.{steps_lines}
 
 lines_next : (item slot : ℕ) (bs : List Bool) (ns : List ℕ) (d : Bool) (e i : ℕ) → i < length bs → i < length ns
     → s_lines item slot (take i bs) (take i ns) ++ cond (get_or bs i d) (s_line item (slot + i) (get_or ns i e)) [] ≡ s_lines item slot (take (suc i) bs) (take (suc i) ns)

@@ -2,3 +2,4 @@
 pub mod Log
 pub mod Meaning
 pub mod Reached
+pub mod Inner

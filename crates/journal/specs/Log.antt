@@ -123,14 +123,10 @@ s_lines item slot [] steps = []
 s_lines item slot (b ∷ bs) [] = []
 s_lines item slot (b ∷ bs) (n ∷ ns) = cond b (s_line item slot n) [] ++ s_lines item (slot + 1) bs ns
 
--- The line of a slot that was searched with so many steps, or none; and the lines of the slots from one on.
+-- The line of a slot that was searched with so many steps, or none.
 abbrev pub steps_line : ℕ → ℕ → Option ℕ → List ℕ
 steps_line item slot None = []
 steps_line item slot (Some n) = s_line item slot n
-
-unfoldable pub steps_lines : ℕ → ℕ → List (Option ℕ) → List ℕ
-steps_lines item slot [] = []
-steps_lines item slot (o ∷ os) = steps_line item slot o ++ steps_lines item (slot + 1) os
 
 -- Rule 5.3: a report is entered with its last packet.
 unfoldable pub enter_item : Log → Values → Outcome

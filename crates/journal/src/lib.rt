@@ -7,7 +7,8 @@ ghost use Rattle.joining.specs.Frame.{frame_refusal};
 ghost use Rattle.joining.specs.Run.{senders};
 ghost use Rattle.times.specs.Run.{with_station, timed_at, untimed_at};
 ghost use Rattle.text.specs.Text.{behind};
-ghost use Rattle.journal.specs.Log.{Stores, fresh_log, next_item, with_item, stations_of, with_board, with_stations, refused, item_refusal, window_item, weights_of, setting_rule, rule_in, set_item, remove_item, show_item, steps_line, steps_lines, enter_item, answer_item, frame_item, by_item, item_done};
+ghost use Rattle.journal.specs.Log.{Stores, fresh_log, next_item, with_item, stations_of, with_board, with_stations, refused, item_refusal, window_item, weights_of, setting_rule, rule_in, set_item, remove_item, show_item, steps_line, enter_item, answer_item, frame_item, by_item, item_done};
+ghost use Rattle.journal.specs.Inner.{steps_lines};
 
 use board::Board;
 use bus::Bus;

@@ -7,7 +7,7 @@ use native.Mathlib.Omega.{arith}
 use lib.ListN.{length, take}
 use lib.Seq.{take_all}
 use Rattle.text.proofs.Places.{put, then, said, both, none}
-use Rattle.journal.specs.Log.{steps_lines}
+use Rattle.journal.specs.Inner.{steps_lines}
 use Rattle.journal.proofs.Searches.{steps_more, steps_none}
 use borrow.Author.Rules.{rules}
 use Rattle.journal.proofs.put_searches.Goals as goal

@@ -1,7 +1,7 @@
 use mathlib.Core.Path.{◌≡◌}
 use lib.ListN.{length, take}
 use Rattle.text.proofs.Places.{Put}
-use Rattle.journal.specs.Log.{steps_lines}
+use Rattle.journal.specs.Inner.{steps_lines}
 use Rattle.journal.proofs.put_searches.Given as goal
 
 abbrev pub invariant-loop-i : goal.invariant-loop-i

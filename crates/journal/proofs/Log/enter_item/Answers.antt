@@ -4,7 +4,8 @@ use mathlib.Core.Path.{ap}
 use Rattle.board.specs.declared.Entered.{Entered}
 use Rattle.board.specs.Work.{enter_work}
 use Rattle.board.proofs.Told.{enter_told}
-use Rattle.journal.specs.Log.{with_board, unless, steps_lines, enter_item}
+use Rattle.journal.specs.Log.{with_board, unless, enter_item}
+use Rattle.journal.specs.Inner.{steps_lines}
 use Rattle.journal.proofs.Calls.{outcome_is, answer_refuses, answer_does, stores}
 use Rattle.journal.proofs.Searches.{lines_of_searches}
 use Rattle.journal.proofs.Log.enter_item.Goals as goal
