@@ -308,12 +308,7 @@ pub fn rule_in(value: &[u8]) -> Rule
 }
 
 // Prints a line for each question that was searched, slots rising.
-fn put_searches(
-    out: &mut [u8],
-    at: usize,
-    item: u64,
-    steps: [Option<u16>; Gauge::SLOTS],
-) -> usize
+fn put_searches(out: &mut [u8], at: usize, item: u64, steps: [Option<u16>; Gauge::SLOTS]) -> usize
     ensures value { result ≡ behind at (steps_lines item 0 steps) }
     ensures out_after { out.new ≡ sets out.old at (steps_lines item 0 steps) }
 {
