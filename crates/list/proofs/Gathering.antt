@@ -1,7 +1,7 @@
 -- Rows taken in any order leave the best k of them: the same reports have the same best, and a report that doesn't rank above the last line of a
 -- full list changes nothing.
 -- Assumes nothing.
-use mathlib.Core.Path.{◌≡◌, refl, sym, ap, ap₂, ◌∙◌, subst}
+use mathlib.Core.Path.{◌≡◌, sym, ap, ap₂, ◌∙◌, subst}
 use mathlib.Core.Bool.{Bool, true, false, cond}
 use mathlib.Core.List.Memᴰ
 use mathlib.Core.List.{List, [], ◌∷◌}
@@ -102,7 +102,7 @@ row_down w hs row high h h' =
 -- ---- a pass over rows
 
 -- The arrays have the best k of the reports so far, and the bar and its least score are theirs.
-pub record Pass (rule : Rule) (k : ℕ) (hs : List Held) (ns : List ℕ) (ss : List ℤ) (len : ℕ) (bar : Option Bar) (least : ℤ) : Type 0 where
+pub record Pass (rule : Rule) (k : ℕ) (hs : List Held) (ns : List ℕ) (ss : List ℤ) (len : ℕ) (bar : Bar) (least : ℤ) : Type 0 where
   pub lines : Gathered rule k hs ns ss len
   pub bar_is : bar ≡ bar_at ns ss len (eqb len k)
   pub least-is : least ≡ least_at bar
@@ -143,7 +143,7 @@ module _ (rule : Rule) (k : ℕ) (small : k ≤ 16) (hs : List Held) where
     report = entry rule (report_in w r)
 
     -- the bar, as the list has it
-    abbrev bar_now : Option Bar
+    abbrev bar_now : Bar
     bar_now = bar_of (columns_of (top rule k hs)) k
 
     -- the number in its name is the row's
@@ -164,7 +164,7 @@ module _ (rule : Rule) (k : ℕ) (small : k ≤ 16) (hs : List Held) where
     row_places {ns} {ns'} {ss} {ss'} {len} {len'} x is room placing xe counts h = go (tested (eqb (number_in w r) 0))
       where
         go : Tested (eqb (number_in w r) 0) → Gathered rule k (with_row w r hs) ns' ss' len'
-        go (passed z) = clash h (admits-none (above rule) report bar_now (named_so z))
+        go (passed z) = clash h (admits-none (above rule) bar_now report (named_so z))
         go (failed z) =
             placed-stored (above rule) (above_strict rule) k small ns ns' ss ss' len len' (top rule k hs) x is few_k room placing
             ∙ ap columns_of
@@ -182,24 +182,24 @@ module _ (rule : Rule) (k : ℕ) (small : k ≤ 16) (hs : List Held) where
 
     -- and one whose report counts and doesn't pass
     row_skips : is_counted rule (report_in w r) ≡ true → admits (above rule) bar_now report ≡ false → top rule k hs ≡ top rule k (with_row w r hs)
-    row_skips counts h = go (tested (eqb (number_in w r) 0)) bar_now refl
+    row_skips counts h = go (tested (eqb (number_in w r) 0)) (tested bar_now.full)
       where
-        go : Tested (eqb (number_in w r) 0) → (bar : Option Bar) → bar_now ≡ bar → top rule k hs ≡ top rule k (with_row w r hs)
-        go (passed z) bar t = sym (row_none z)
-        go (failed z) None t = clash (ap (λ b. admits (above rule) b report) t ∙ admits_room (above rule) report (named_so z)) h
-        go (failed z) (Some bar) t =
-            let full = bar_full (columns_of (top rule k hs)) k bar (roomy_stored (top rule k hs)) t in
+        go : Tested (eqb (number_in w r) 0) → Tested bar_now.full → top rule k hs ≡ top rule k (with_row w r hs)
+        go (passed z) t = sym (row_none z)
+        go (failed z) (failed t) = clash (admits_room (above rule) bar_now report (named_so z) t) h
+        go (failed z) (passed t) =
+            let full = bar_full (columns_of (top rule k hs)) k (roomy_stored (top rule k hs)) t in
             sym
             (best_skip (above rule) (above_strict rule) k report (entries rule hs) full.positive full.as_many
             (ap (on_last (above rule report)) (sym (best_back (above rule) (above_strict rule) k small (entries rule hs)))
             ∙ full.last (above rule report)
-            ∙ sym (ap (λ b. admits (above rule) b report) t ∙ admits-full (above rule) report bar (named_so z))
+            ∙ sym (admits-full (above rule) bar_now report (named_so z) t)
             ∙ h))
             ∙ best_cons (above rule) (above_strict rule) k report (entries rule hs)
             ∙ sym (top_cons rule k (report_in w r) hs counts)
             ∙ sym (row_some z)
 
-module _ {rule : Rule} {k : ℕ} {hs : List Held} {ns : List ℕ} {ss : List ℤ} {len : ℕ} {bar : Option Bar} {least : ℤ} (small : k ≤ 16) (p : Pass rule k hs ns ss len bar least) where
+module _ {rule : Rule} {k : ℕ} {hs : List Held} {ns : List ℕ} {ss : List ℤ} {len : ℕ} {bar : Bar} {least : ℤ} (small : k ≤ 16) (p : Pass rule k hs ns ss len bar least) where
   pub pass_few : len ≤ 16
   pass_few = gathered_few rule k small hs p.lines
 
@@ -223,7 +223,7 @@ module _ {rule : Rule} {k : ℕ} {hs : List Held} {ns : List ℕ} {ss : List ℤ
         (⊎_elim (row_out rule k small hs w r)
         (λ low. row_skips rule k small hs w r low.0
         (ap (λ b. admits (above rule) b own_entry) (sym same_bar)
-        ∙ admits_under (above rule) own_entry bar (score_below rule) scored.1.sfits (ap (lt_z own_entry.score) (sym p.least-is) ∙ low.1)))
+        ∙ admits_under (above rule) bar own_entry (score_below rule) scored.1.sfits (ap (lt_z own_entry.score) (sym p.least-is) ∙ low.1)))
         (from_none least (score rule (report_in w r).values) (sym scored.0 ∙ none)))
 
     module _ {own : ℤ} (some : sc ≡ Some own) where
@@ -247,7 +247,7 @@ module _ {rule : Rule} {k : ℕ} {hs : List Held} {ns : List ℕ} {ss : List ℤ
         pub pass_skips : t ≡ false → Pass rule k hs' ns ss len bar least
         pass_skips e = stays (row_skips rule k small hs w r (ap is_scored score-is) (test_is ∙ e))
 
-        pub pass_puts : t ≡ true → {ns' : List ℕ} {ss' : List ℤ} {len' : ℕ} {bar' : Option Bar} {s : ℤ} → Placing (above rule) read len k (lines_of ns ss) (lines_of ns' ss') len' × Roomy ns' ss' → bar' ≡ bar_at ns' ss' len' (eqb len' k) → mag s < 2147483648 → s ≡ least_at bar' → Pass rule k hs' ns' ss' len' bar' (to_z w32 (of_z w32 s))
+        pub pass_puts : t ≡ true → {ns' : List ℕ} {ss' : List ℤ} {len' : ℕ} {bar' : Bar} {s : ℤ} → Placing (above rule) read len k (lines_of ns ss) (lines_of ns' ss') len' × Roomy ns' ss' → bar' ≡ bar_at ns' ss' len' (eqb len' k) → mag s < 2147483648 → s ≡ least_at bar' → Pass rule k hs' ns' ss' len' bar' (to_z w32 (of_z w32 s))
         pass_puts e {ns'} {ss'} {len'} {bar'} {s} placing b fits l =
             record {
               lines = row_places rule k small hs w r read p.lines placing.1 placing.0 read_is (ap is_scored score-is) (test_is ∙ e) ∙ ap (λ l. columns_of (top rule k l)) (sym more);

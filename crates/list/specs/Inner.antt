@@ -1,5 +1,5 @@
 -- What the inner functions of `list` answer, and what its proofs speak of; no public contract and no promise cites it.
-use Rattle.std.specs.Prelude.{◌≡◌, ℕ, suc, ◌/◌, Bool, true, false, Option, Some, None, cond, not, ◌&&◌, List, [], ◌∷◌, ◌++◌, length, take, drop, replicate, ℤ, negsuc, eqb}
+use Rattle.std.specs.Prelude.{◌≡◌, ℕ, suc, ◌/◌, Bool, true, cond, not, ◌&&◌, ◌||◌, List, [], ◌∷◌, ◌++◌, length, take, drop, replicate, ℤ, negsuc, eqb}
 use Rattle.laws.specs.Whole.{equal}
 use Rattle.search.specs.Best.{placed}
 use Rattle.values.specs.Names.{editions}
@@ -35,20 +35,17 @@ module _ {E : Type 0} (above : E → E → Bool) where
     pub rest : drop r new ≡ drop r old
 
 -- No entry with a lower score passes it: the last line's score, or the least that an `i32` holds.
-unfoldable pub least_at : Option Bar → ℤ
-least_at (Some bar) = bar.score
-least_at None = negsuc 2147483647
+unfoldable pub least_at : Bar → ℤ
+least_at bar = cond bar.full bar.score (negsuc 2147483647)
 
 -- A full list's last line has that score, and of equal ones the newer goes first.
-unfoldable pub turns : Rule → Option Bar → ℤ → Bool
-turns rule (Some bar) s = equal s bar.score && later_first rule
-turns rule None s = false
+unfoldable pub turns : Rule → Bar → ℤ → Bool
+turns rule bar s = equal s bar.score && bar.full && later_first rule
 
 -- An entry passes the bar: the number in its name isn't 0, and where the list is full it ranks above the last line.
-unfoldable pub admits : (Entry → Entry → Bool) → Option Bar → Entry → Bool
-admits above (Some bar) e =
-    not (eqb (e.name / editions) 0) && above e (record { name = bar.name; score = bar.score })
-admits above None e = not (eqb (e.name / editions) 0)
+unfoldable pub admits : (Entry → Entry → Bool) → Bar → Entry → Bool
+admits above bar e =
+    not (eqb (e.name / editions) 0) && (not bar.full || above e (record { name = bar.name; score = bar.score }))
 
 -- The first n of a column, and d in the places past them.
 abbrev pub wiped : {A : Type 0} → ℕ → A → List A → List A

@@ -23,9 +23,10 @@ pub struct Lines {
     pub len: u8,
 }
 
-// What an entry has to rank above to change a list that is full: its last line. A list that has room has none.
+// What an entry has to rank above to change a list that is full: its last line.
 #[derive(Clone, Copy)]
 pub struct Bar {
+    pub full: bool,
     pub name: u32,
     pub score: i32,
 }
@@ -128,8 +129,8 @@ impl Lines {
         true
     }
 
-    // The bar of a list for k lines, if it has as many; a list with no line has none.
-    pub fn bar(self, k: u8) -> Option<Bar>
+    // The bar of a list for k lines; a list with no line has none.
+    pub fn bar(self, k: u8) -> Bar
         ensures { result ≡ bar_of self k }
     {
         let n = self.line_count();
@@ -141,35 +142,26 @@ impl Lines {
 impl Bar {
     // No report with a lower score passes; most fail by that alone.
     #[tactic(auto, unfolding(crate::specs::Inner::least_at))]
-    fn least(bar: Option<Bar>) -> i32
-        ensures { result ≡ least_at bar }
+    fn least(self) -> i32
+        ensures { result ≡ least_at self }
     {
-        match bar {
-            Some(bar) => bar.score,
-            None => i32::MIN,
-        }
+        if self.full { self.score } else { i32::MIN }
     }
 
     // A full list's last line has that score, and of equal ones the newer goes first.
     #[tactic(auto, unfolding(crate::specs::Inner::turns))]
-    fn turns(bar: Option<Bar>, rule: Rule, score: i32) -> bool
-        ensures { result ≡ turns rule bar score }
+    fn turns(self, rule: Rule, score: i32) -> bool
+        ensures { result ≡ turns rule self score }
     {
-        match bar {
-            Some(bar) => score == bar.score && rule.later_first(),
-            None => false,
-        }
+        score == self.score && self.full && rule.later_first()
     }
 
     // A report passes: the number in its name isn't 0, and the list isn't full or it ranks above the last line.
     #[tactic(auto, unfolding(crate::specs::Inner::admits))]
-    fn admits(bar: Option<Bar>, rule: Rule, name: u32, score: i32) -> bool
-        ensures { result ≡ admits (above rule) bar (record { name = name; score = score }) }
+    fn admits(self, rule: Rule, name: u32, score: i32) -> bool
+        ensures { result ≡ admits (above rule) self (record { name = name; score = score }) }
     {
-        match bar {
-            Some(bar) => Name::number(name) != 0 && rule.above(name, score, bar.name, bar.score),
-            None => Name::number(name) != 0,
-        }
+        Name::number(name) != 0 && (!self.full || rule.above(name, score, self.name, self.score))
     }
 }
 
@@ -183,7 +175,10 @@ pub fn gathered<'a>(rule: Rule, k: u8, rows: &'a Rows, n: usize) -> Lines
     let mut found = [0u32; Lines::MOST];
     let mut by = [0i32; Lines::MOST];
     let up = upward(rule, most, rows, end, &mut found, &mut by);
-    let len = downward(rule, most, rows, up.rows, end, &mut found, &mut by, up.len);
+    let mut len = up.len;
+    if up.rows < end {
+        len = downward(rule, most, rows, up.rows, end, &mut found, &mut by, len);
+    }
     let count = len as u8;
     Lines {
         names: found,
@@ -209,7 +204,7 @@ fn upward<'a, 'b>(
 {
     let mut len: usize = 0;
     let mut bar = bar_in(found, by, len, len == most);
-    let mut least = Bar::least(bar);
+    let mut least = bar.least();
     for row in 0..end {
         let loss = rows.losses[row];
         let shake = rows.shakes[row];
@@ -217,15 +212,15 @@ fn upward<'a, 'b>(
         let Some(score) = rule.score_from(loss, shake, name, least) else {
             continue;
         };
-        if !Bar::admits(bar, rule, name, score) {
+        if !bar.admits(rule, name, score) {
             continue;
         }
-        if Bar::turns(bar, rule, score) {
+        if bar.turns(rule, score) {
             return Passed { len, rows: row };
         }
         len = put_in(rule, found, by, len, most, name, score);
         bar = bar_in(found, by, len, len == most);
-        least = Bar::least(bar);
+        least = bar.least();
     }
     Passed { len, rows: end }
 }
@@ -248,7 +243,7 @@ fn downward<'a, 'b>(
 {
     let mut len = had;
     let mut bar = bar_in(found, by, len, len == most);
-    let mut least = Bar::least(bar);
+    let mut least = bar.least();
     for row in (low..high).rev() {
         let loss = rows.losses[row];
         let shake = rows.shakes[row];
@@ -256,12 +251,12 @@ fn downward<'a, 'b>(
         let Some(score) = rule.score_from(loss, shake, name, least) else {
             continue;
         };
-        if !Bar::admits(bar, rule, name, score) {
+        if !bar.admits(rule, name, score) {
             continue;
         }
         len = put_in(rule, found, by, len, most, name, score);
         bar = bar_in(found, by, len, len == most);
-        least = Bar::least(bar);
+        least = bar.least();
     }
     len
 }
@@ -281,24 +276,28 @@ pub fn editions_in(names: [u32; Lines::MOST]) -> [u16; Lines::MOST]
 }
 
 // The bar of the first `len` lines of two arrays, where it is told whether they are a full list.
-#[tactic(auto, unfolding(crate::specs::Bars::bar_at))]
 fn bar_in<'a>(
     names: &'a [u32; Lines::MOST],
     scores: &'a [i32; Lines::MOST],
     len: usize,
     full: bool,
-) -> Option<Bar>
+) -> Bar
     requires { len ≤ most_lines }
     ensures { result ≡ bar_at names.now scores.now len full }
 {
-    if len == 0 || !full {
-        return None;
+    if len == 0 {
+        return Bar {
+            full: false,
+            name: 0,
+            score: 0,
+        };
     }
     let last = len - 1;
-    Some(Bar {
+    Bar {
+        full,
         name: names[last],
         score: scores[last],
-    })
+    }
 }
 
 // 0 in the places of two arrays from one on.

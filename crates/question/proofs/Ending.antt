@@ -5,8 +5,6 @@ use mathlib.Core.Bool.{true, false, not, ◌&&◌, ◌||◌, and-false, not-not}
 use borrow.Author.Tests.{ne_eqb, eq-eqb, eqb-true}
 use lib.Dec.{eqb}
 use lib.Signed.{lt_z}
-use Rattle.std.specs.Prelude.{Some, None}
-use Rattle.list.specs.declared.Bar.{Bar}
 use Rattle.laws.specs.Lists.{on_last}
 use Rattle.ranking.specs.Cells.{best_score, in_order}
 use Rattle.ranking.specs.Standing.{reaches}
@@ -26,7 +24,7 @@ module _ (q : Question) where
     unfolding finished
     finished_other e = rw (h, ne_eqb q.len q.k e)
 
-    pub finished_open : bar_of q ≡ None → finished q ≡ false
+    pub finished_open : (bar_of q).full ≡ false → finished q ≡ false
     unfolding finished
     finished_open e = go (tested (eqb q.len q.k))
       where
@@ -35,10 +33,10 @@ module _ (q : Question) where
         go (passed t) =
             rw (h, no_lines q (bar_open (list_of q) q.k e (eqb-true q.len q.k t))) (and-false (eqb q.len q.k))
 
-    pub finished-full : Roomy q.names q.scores → (bar : Bar) → bar_of q ≡ Some bar → finished q ≡ lt_z (best_score q.rule q.next) bar.score
+    pub finished-full : Roomy q.names q.scores → (bar_of q).full ≡ true → finished q ≡ lt_z (best_score q.rule q.next) (bar_of q).score
     unfolding finished
-    finished-full r bar e =
-        let full = bar_full (list_of q) q.k bar r e in
+    finished-full r e =
+        let full = bar_full (list_of q) q.k r e in
         ap₂ (λ a b. not a || b && on_last (λ z. not (reaches q.rule q.next z)) (lines q)) h (eq-eqb q.len q.k full.as_many)
         ∙ full.last (λ z. not (reaches q.rule q.next z))
-        ∙ not-not (lt_z (best_score q.rule q.next) bar.score)
+        ∙ not-not (lt_z (best_score q.rule q.next) (bar_of q).score)

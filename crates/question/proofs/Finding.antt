@@ -2,7 +2,7 @@
 -- Assumes nothing.
 use mathlib.Core.Path.{◌≡◌, refl, sym, ap, ap₂, ◌∙◌, subst}
 use mathlib.Core.Logic.{◌⊎◌, inl, inr, ⊎_elim}
-use mathlib.Core.Bool.{cond}
+use mathlib.Core.Bool.{true, false, cond}
 use mathlib.Core.List.Memᴰ
 use mathlib.Core.List.{List, ◌∷◌}
 use Prim.Native.Nat.{ℕ, zero, suc, ◌≤◌, ◌<◌}
@@ -24,7 +24,6 @@ use Rattle.ranking.proofs.Scan.{left_none}
 use Rattle.ranking.proofs.Standing.{found-best, steps_all, steps-full}
 use Rattle.window.specs.declared.Window.{Window}
 use Rattle.window.specs.Rows.{number_in, values_in, report_at, report_in, standing}
-use Rattle.std.specs.Prelude.{Option, Some, None}
 use Rattle.list.specs.declared.Bar.{Bar}
 use Rattle.list.specs.Lines.{columns_of}
 use Rattle.list.specs.Rows.{rows_in}
@@ -33,7 +32,7 @@ use Rattle.list.proofs.Placing.{best_back}
 use Rattle.list.proofs.Bars.{bar_full, bar_open}
 use Rattle.question.specs.declared.Question.{Question}
 use Rattle.question.specs.declared.Searched.{Searched}
-use Rattle.question.specs.Lines.{lines, asked, with_list, searched, searched_in, in_rows, searched_on, searched_first, ended_by, ended_of, bar_of, with_next}
+use Rattle.question.specs.Lines.{lines, asked, with_list, searched, searched_in, in_rows, searched_on, searched_first, ended_of, bar_of, with_next}
 use Rattle.question.specs.Inner.{line_count}
 
 -- ---- the end
@@ -82,20 +81,21 @@ module _ (q : Question) (small : q.k ≤ 16) (w : Window) (n : ℕ) where
   -- the list says where its search ended
   pub ended-searched : ended_of (with_list q (top q.rule q.k (standing w n))) ≡ searched_in q (standing w n)
   unfolding ended_of ending
-  ended-searched = go (bar_of with_it) refl
+  ended-searched = go (tested (bar_of with_it).full)
     where
       few_lines : line_count with_it ≡ length list
       few_lines = sym (length_shown with_it.names with_it.scores (roomy_stored list) (length list) (line_count with_it) refl) ∙ ap length back
 
-      go : (bar : Option Bar) → bar_of with_it ≡ bar → ended_of with_it ≡ searched_in q hs
-      go (Some bar) t =
-          let full = bar_full (columns_of list) q.k bar (roomy_stored list) t in
-          ap (ended_by with_it) t
+      go : Tested (bar_of with_it).full → ended_of with_it ≡ searched_in q hs
+      go (passed t) =
+          let full = bar_full (columns_of list) q.k (roomy_stored list) t in
+          let bar = bar_of with_it in
+          if_so _ _ t
           ∙ by_steps (reaching q.rule bar.score)
           (steps-full q.rule hs (standing-permitted w n) q.k full.positive full.as_many (record { name = bar.name; score = bar.score })
           (λ p. ap (on_last p) (sym back) ∙ full.last p))
-      go None t =
-          ap (ended_by with_it) t
+      go (failed t) =
+          if_not _ _ t
           ∙ ap (λ c. record { steps = most_steps q.rule; question = with_next with_it c }) (sym all-taken)
           ∙ by_steps (most_steps q.rule) (steps_all q.rule hs (standing-permitted w n) q.k (open_list (tested (eqb (length list) q.k))))
         where
@@ -104,13 +104,17 @@ module _ (q : Question) (small : q.k ≤ 16) (w : Window) (n : ℕ) where
           open_list (failed m) = inl (eqb-false (length list) q.k m)
 
 -- as the code tells it
-pub ended-full : (q : Question) (bar : Bar) → Some bar ≡ bar_of q → (r : Reach) → r ≡ reach_of q.rule bar.score → record { steps = r.cells; question = with_next q r.next } ≡ ended_of q
-unfolding ended_of reach_of
-ended-full q bar is r e = ap (λ (z : Reach). record { steps = z.cells; question = with_next q z.next }) e ∙ ap (ended_by q) is
+module _ (q : Question) (bar : Bar) (is : bar ≡ bar_of q) where
+  pub ended-full : bar.full ≡ true → (r : Reach) → r ≡ reach_of q.rule bar.score → record { steps = r.cells; question = with_next q r.next } ≡ ended_of q
+  unfolding ended_of reach_of
+  ended-full t r e =
+      ap (λ (z : Reach). record { steps = z.cells; question = with_next q z.next }) e
+      ∙ ap (λ s. record { steps = reaching q.rule s; question = with_next q (cell_at q.rule (reaching q.rule s)) }) (ap (λ (b : Bar). b.score) is)
+      ∙ sym (if_so _ _ (sym (ap (λ (b : Bar). b.full) is) ∙ t))
 
-pub ended_open : (q : Question) → None ≡ bar_of q → record { steps = most_steps q.rule; question = with_next q 256 } ≡ ended_of q
-unfolding ended_of
-ended_open q is = ap (ended_by q) is
+  pub ended_open : bar.full ≡ false → record { steps = most_steps q.rule; question = with_next q 256 } ≡ ended_of q
+  unfolding ended_of
+  ended_open t = sym (if_not _ _ (sym (ap (λ (b : Bar). b.full) is) ∙ t))
 
 -- ---- the search of a window's rows
 

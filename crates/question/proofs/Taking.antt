@@ -1,6 +1,6 @@
 -- What a step does to a list: the rows' reports of its cell are put in their rank one after the other and the list is cut, which is the best k of them all.
 -- Assumes nothing.
-use mathlib.Core.Path.{◌≡◌, sym, ap, ◌∙◌}
+use mathlib.Core.Path.{◌≡◌, sym, ap, ap₂, ◌∙◌}
 use mathlib.Core.Logic.{⊎_elim}
 use mathlib.Core.Bool.{true, false}
 use mathlib.Core.List.Memᴰ
@@ -16,7 +16,7 @@ use Rattle.laws.specs.Lists.{only}
 use Rattle.laws.proofs.Lists.{◌⊆◌, Same, there, only_yes, only_no}
 use Rattle.laws.proofs.Tests.{Tested, passed, failed, tested, and_true, and_stops, and_no, if_so, if_not}
 use Rattle.search.specs.Best.{best, placed}
-use Rattle.search.proofs.Best.{best_cons, best-same, length_best_le}
+use Rattle.search.proofs.Best.{best_cons, best-append, best-same, length_best_le}
 use Rattle.ranking.specs.declared.Rule.{Rule}
 use Rattle.ranking.specs.Cells.{in_order, cell_after}
 use Rattle.ranking.specs.Standing.{Held, Entry, above, is_counted, entry, entries}

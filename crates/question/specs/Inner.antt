@@ -1,5 +1,5 @@
 -- What the inner functions of `question` answer, and what its proofs speak of; no public contract and no promise cites it.
-use Rattle.std.specs.Prelude.{ℕ, min, cond, eqb}
+use Rattle.std.specs.Prelude.{ℕ, min, cond, ◌&&◌, eqb}
 use Rattle.ranking.specs.Standing.{Held, is_counted, entry}
 use Rattle.window.specs.declared.Window.{Window}
 use Rattle.window.specs.Rows.{standing}

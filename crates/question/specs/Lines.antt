@@ -1,5 +1,5 @@
 -- A question as it is stored, and what its search does to it (docs/RULES.md, sections 6 and 7).
-use Rattle.std.specs.Prelude.{ℕ, zero, suc, Bool, Option, Some, None, true, cond, not, ◌&&◌, ◌||◌, List, [], ◌++◌, map, length, take, leb, eqb}
+use Rattle.std.specs.Prelude.{ℕ, zero, suc, Bool, true, cond, not, ◌&&◌, ◌||◌, List, [], ◌++◌, map, length, take, leb, eqb}
 use Rattle.laws.specs.Lists.{on_last, only}
 use Rattle.search.specs.Best.{best, placed}
 use Rattle.search.specs.Search.{has, steps, found}
@@ -125,8 +125,8 @@ searched_on q w = cond (leb q.k most_lines) (searched_in q (in_rows w)) (record 
 unfoldable pub searched_first : Question → Window → ℕ → Searched
 searched_first q w n = cond (leb q.k most_lines) (searched_in q (standing w n)) (record { steps = 0; question = q })
 
--- What an entry has to rank above to change its list, if it has k lines.
-abbrev pub bar_of : Question → Option Bar
+-- What an entry has to rank above to change its list, where it has k lines.
+abbrev pub bar_of : Question → Bar
 bar_of q = bars.bar_of (list_of q) q.k
 
 -- The same list, and another cell is next.
@@ -134,17 +134,15 @@ abbrev pub with_next : Question → ℕ → Question
 with_next q next =
     record { k = q.k; rule = q.rule; names = q.names; scores = q.scores; len = q.len; next = next }
 
--- Where the search that found this list ends: its bar says.
-abbrev pub ended_by : Question → Option Bar → Searched
-ended_by q (Some bar) =
-    record {
-      steps = reaching q.rule bar.score;
-      question = with_next q (cell_at q.rule (reaching q.rule bar.score));
-    }
-ended_by q None = record { steps = most_steps q.rule; question = with_next q cell_count }
-
+-- Where the search that found this list ends.
 unfoldable pub ended_of : Question → Searched
-ended_of q = ended_by q (bar_of q)
+ended_of q =
+    cond (bar_of q).full
+    (record {
+      steps = reaching q.rule (bar_of q).score;
+      question = with_next q (cell_at q.rule (reaching q.rule (bar_of q).score));
+    })
+    (record { steps = most_steps q.rule; question = with_next q cell_count })
 
 -- One entry among the first k.
 abbrev pub cut_with : Question → Entry → Question

@@ -134,10 +134,8 @@ impl Question {
         if !self.rule.in_order(next) {
             return true;
         }
-        match self.list().bar(self.k) {
-            Some(bar) => self.rule.best_score(next as u8) < bar.score,
-            None => false,
-        }
+        let bar = self.list().bar(self.k);
+        bar.full && self.rule.best_score(next as u8) < bar.score
     }
 
     // A search anew: no lines, and the first cell is next.
@@ -232,18 +230,17 @@ impl Question {
     fn ended(self) -> Searched
         ensures { result ≡ ended_of self }
     {
-        match self.list().bar(self.k) {
-            Some(bar) => {
-                let reach = self.rule.reach(bar.score);
-                Searched {
-                    steps: reach.cells,
-                    question: self.with_next(reach.next),
-                }
-            }
-            None => Searched {
-                steps: self.rule.most_steps(),
-                question: self.with_next(Grid::CELLS),
-            },
+        let bar = self.list().bar(self.k);
+        if bar.full {
+            let reach = self.rule.reach(bar.score);
+            return Searched {
+                steps: reach.cells,
+                question: self.with_next(reach.next),
+            };
+        }
+        Searched {
+            steps: self.rule.most_steps(),
+            question: self.with_next(Grid::CELLS),
         }
     }
 

@@ -1,6 +1,6 @@
 -- A number that is held has a row, whose name is compared, and its score.
 -- Assumes nothing.
-use mathlib.Core.Path.{sym, ap, ◌∙◌}
+use mathlib.Core.Path.{◌≡◌, sym, ap, ◌∙◌}
 use Prim.Native.Nat.{◌-◌, ◌%◌}
 use native.Mathlib.Omega.{arith}
 use mir.Facts.{to_z-of_z}

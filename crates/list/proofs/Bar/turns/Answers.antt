@@ -1,21 +1,20 @@
 -- The tests are those of the definition: two scores are equal where their bits are.
 -- Assumes nothing.
 use native.Mathlib.Omega.{arith}
-use borrow.Author.Rules.{rules}
 use mir.Syntax.{w32}
 use Rattle.std.proofs.lemmas.Grind.{common_steps}
 use Rattle.laws.proofs.Words.{same_bits}
 use Rattle.list.specs.Inner.{turns}
 use Rattle.list.proofs.Bar.turns.Goals as goal
 
-pub returns-then-score-bar : goal.returns-then-score-bar
+pub returns-then-self : goal.returns-then-self
 unfolding turns
-returns-then-score-bar c =
-    let bits = same_bits w32 c.args.score c.in-Some.bar.score c.ranges.score (record { sfits = search rules }) in
+returns-then-self c =
+    let bits = same_bits w32 c.args.score c.args.self.score c.ranges.score (record { sfits = c.struct_told-1.given.1.1.0.1 }) in
     grind (arith, common_steps, bits)
 
-pub returns-else-score-bar : goal.returns-else-score-bar
+pub returns-else-self : goal.returns-else-self
 unfolding turns
-returns-else-score-bar c =
-    let bits = same_bits w32 c.args.score c.in-Some.bar.score c.ranges.score (record { sfits = search rules }) in
+returns-else-self c =
+    let bits = same_bits w32 c.args.score c.args.self.score c.ranges.score (record { sfits = c.struct_told-1.given.1.1.0.1 }) in
     grind (arith, common_steps, bits)
