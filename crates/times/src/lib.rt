@@ -52,9 +52,6 @@ pub struct Times {
 }
 
 impl Times {
-    // Refusal 26: a time before the sender's last kept one.
-    pub const BEFORE: u8 = 26;
-
     // The longest time between two kept frames of a report, in milliseconds.
     pub const LONGEST: u32 = 750;
 
