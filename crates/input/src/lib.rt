@@ -13,6 +13,7 @@ use std::io;
 use std::io::Read;
 
 // Whether more can be read: the text goes on, it has ended, or a read failed.
+// Stays: three states that a reader keeps from call to call; a Result of an Option would only nest them.
 #[derive(Clone, Copy)]
 pub enum Source {
     Open,
@@ -185,6 +186,7 @@ pub fn read_full<R: Read>(reader: &mut R, space: &mut [u8]) -> usize
     ensures bytes { Consumes (R.remaining reader.old) (R.remaining reader.new) (take result space.new) }
 {
     let mut done = 0;
+    // Stays: each read gives as many bytes as it likes, so no range or iterator counts them.
     while done < space.len() {
         let n = reader.read(&mut space[done..]).unwrap_or(0);
         if n == 0 {

@@ -38,6 +38,7 @@ pub enum Item {
 }
 
 impl Item {
+    // Stays: the tags and lengths are the bytes of the log's format; `Item` is their enum, which `Item::read` and `Item::put` turn them into and out of.
     // The tags.
     pub const WINDOW: u8 = 16;
 

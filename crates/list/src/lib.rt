@@ -24,6 +24,7 @@ pub struct Lines {
 }
 
 // What an entry has to rank above to change a list that is full: its last line.
+// Stays: an Option would lose the last line's name and score where the list isn't full, which `Lines::bar` (`bar_of`) answers too.
 #[derive(Clone, Copy)]
 pub struct Bar {
     pub full: bool,

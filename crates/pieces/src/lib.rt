@@ -83,6 +83,7 @@ impl Waiting {
         let mut next = self;
         let mut at: usize = 0;
         let mut i: usize = 0;
+        // Stays: a turn takes as many bytes as its items have, or one, so no range or iterator counts them.
         while goes_on(piece.len(), i, out.len(), at) {
             if starts(next.have, left.board.window.counts.size, &piece[i..]) {
                 let done = stretch::take(left, &piece[i..], out, at);

@@ -166,6 +166,7 @@ impl Range {
 }
 
 impl Rule {
+    // Stays: `ties` holds any byte, for a rule with another one is unfit (`ties_known`) and refused 33, a state that an enum of two would lack.
     // Of equal scores the newest report goes first.
     pub const NEWEST: u8 = 0;
 

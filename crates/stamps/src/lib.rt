@@ -13,6 +13,7 @@ pub struct Stamp {
 }
 
 // A frame's time in a log: none, milliseconds, or more of them than a log can hold.
+// Stays: three answers, each with a meaning of its own (no time, a time, one past a log's last), which an Option of a Result would only nest.
 #[derive(Clone, Copy)]
 pub enum Since {
     Unknown,

@@ -122,6 +122,7 @@ fn run(
         refusal: 0,
         last: None,
     };
+    // Stays: a turn takes as many bytes as its item has, so no range or iterator counts them.
     while coming::goes_on(counts.size, bytes, i, out.len(), at) {
         items = journal::next_item(items);
         let tag = bytes[i];
