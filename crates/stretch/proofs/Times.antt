@@ -3,7 +3,9 @@
 use mathlib.Core.Path.{◌≡◌, refl, sym, ap, subst, ◌∙◌}
 use mathlib.Core.Bool.{Bool, true, false, cond}
 use mathlib.Core.Logic.{◌⊎◌, inl, inr}
-use Rattle.std.specs.Prelude.{Option, None, Some}
+use Rattle.std.specs.Prelude.{Option, None, Some, Ok, Err}
+use Rattle.refusal.specs.declared.Refusal.{Refusal}
+use Rattle.refusal.specs.Numbers.{number_of}
 use mathlib.Core.List.{List}
 use Prim.Native.Nat.{ℕ, ◌+◌, ◌≤◌, ◌<◌}
 use native.Mathlib.Omega.{arith}
@@ -17,10 +19,9 @@ use Rattle.joining.specs.declared.Answer.TheVariants.{Refused}
 use Rattle.joining.specs.Frame.{Frame, sender_of}
 use Rattle.bus.specs.Room.{room_bytes}
 use Rattle.times.specs.declared.Last.{Last}
-use Rattle.times.specs.declared.Met.{Met}
 use Rattle.times.specs.declared.Times.{Times}
 use Rattle.times.specs.Timed.{is_kept, put_last}
-use Rattle.times.specs.Run.{Timed, Stations, stations_in, Meets}
+use Rattle.times.specs.Run.{Timed, Stations, stations_in, Takes, Meets}
 use Rattle.times.proofs.Lent.{met-refused, met-taken, untimed-takes}
 use Rattle.journal.specs.Log.{frame_in, timed_in}
 use Rattle.stretch.specs.declared.Brought.{Brought}
@@ -47,6 +48,12 @@ untimed_there {tag} h i l = rw (ne_eqb tag 21 h)
 
 -- ---- where it begins
 
+none_some : {e : Refusal} → ◌≡◌ {A = Option Refusal} None (Some e) → ⊥
+none_some h = let x = h in cc
+
+the_same : {d e : Refusal} → ◌≡◌ {A = Option Refusal} (Some d) (Some e) → d ≡ e
+the_same h = let x = h in cc
+
 not_put : (place : ℕ) (o : Option (ℕ × Last)) (id : ℕ) (ts : Times) → Elsewhere place o → put_back_at place o id ts ≡ ts
 not_put place None id ts h = refl
 not_put place (Some m) id ts h = rw (ne_eqb m.0 place h)
@@ -56,7 +63,7 @@ module _ (room : List ℕ) (times : Times) (i : ℕ) (bytes : List ℕ) (last : 
   lent = stations_in room times
 
   abbrev same_as : Begun
-  same_as = record { place = i; refusal = 0; last = last.last }
+  same_as = record { place = i; refusal = None; last = last.last }
 
   -- Without a time nothing is met, and nothing put back.
   pub untimed_begins : {tag : ℕ} → (tag ≡ 21 → ⊥) → Elsewhere i last.last
@@ -66,7 +73,7 @@ module _ (room : List ℕ) (times : Times) (i : ℕ) (bytes : List ℕ) (last : 
       (record {
         ends = omega (arith, twelve h);
         due = inr refl;
-        stops = λ n. absurd (n refl);
+        stops = λ e n. absurd (none_some n);
         goes_on =
             λ z a room₁ left₁ e f k.
             let t = untimed-takes room times (frame_in (part (i + 3) 12 bytes)).frame e f in
@@ -78,22 +85,35 @@ module _ (room : List ℕ) (times : Times) (i : ℕ) (bytes : List ℕ) (last : 
       stay true id = refl
       stay false id = not_put i last.last id times other
 
-  abbrev met_as : Met → Begun
-  met_as m = record { place = i + 4; refusal = m.refusal; last = Some (i + 4, m.last) }
+  -- A time that is met refuses the frame, ...
+  module _ {tag : ℕ} (tag_is : tag ≡ 21) (long : length room ≡ room_bytes) (v : List ℕ) (v_is : v ≡ part (i + 3) 16 bytes) where
+    its : timed_in v ≡ frame_of tag (part (i + 3) (frame_size tag) bytes)
+    its = ap timed_in v_is ∙ timed_there tag_is i bytes
 
-  module _ {m : Met} {q : List ℕ} {ts : Times} where
-    pub timed_begins : {tag : ℕ} → tag ≡ 21 → length room ≡ room_bytes → (v : List ℕ) → v ≡ part (i + 3) 16 bytes → Meets lent (number (part 0 4 v)) (number (part 4 4 v)) (part 8 8 v) m q ts
-        → Begins lent (frame_of tag (part (i + 3) (frame_size tag) bytes)) (i + (3 + frame_size tag)) last (met_as m) q ts
-    timed_begins {tag} e long v e-v met =
-        subst (λ (f : Timed). Begins lent f (i + (3 + frame_size tag)) last (met_as m) q ts) (ap timed_in e-v ∙ timed_there e i bytes)
+    pub refused_begins : {q : List ℕ} {ts : Times} {e : Refusal} → Meets lent (number (part 0 4 v)) (number (part 4 4 v)) (part 8 8 v) (Err e) q ts
+        → Begins lent (frame_of tag (part (i + 3) (frame_size tag) bytes)) (i + (3 + frame_size tag)) last (record { place = i + 4; refusal = Some e; last = last.last }) q ts
+    refused_begins {q} {ts} {e} met =
+        subst (λ (f : Timed). Begins lent f (i + (3 + frame_size tag)) last (record { place = i + 4; refusal = Some e; last = last.last }) q ts) its
         (record {
-          ends = omega (arith, sixteen e);
-          due = inl (m.last, refl);
-          stops = λ n. met-refused room times (number (part 0 4 v)) (number (part 4 4 v)) (part 8 8 v) long met n;
+          ends = omega (arith, sixteen tag_is);
+          due = inr refl;
+          stops = λ x n. subst (λ (y : Refusal). Takes lent (timed_in v) (Refused (number_of y)) q ts) (the_same n) (met-refused room times (number (part 0 4 v)) (number (part 4 4 v)) (part 8 8 v) long met);
+          goes_on = λ z. absurd (none_some (sym z));
+        })
+
+    -- ... or what the last one was is kept, to be put back.
+    pub timed_begins : {q : List ℕ} {ts : Times} {l : Last} → Meets lent (number (part 0 4 v)) (number (part 4 4 v)) (part 8 8 v) (Ok l) q ts
+        → Begins lent (frame_of tag (part (i + 3) (frame_size tag) bytes)) (i + (3 + frame_size tag)) last (record { place = i + 4; refusal = None; last = Some (i + 4, l) }) q ts
+    timed_begins {q} {ts} {l} met =
+        subst (λ (f : Timed). Begins lent f (i + (3 + frame_size tag)) last (record { place = i + 4; refusal = None; last = Some (i + 4, l) }) q ts) its
+        (record {
+          ends = omega (arith, sixteen tag_is);
+          due = inl (l, refl);
+          stops = λ x n. absurd (none_some n);
           goes_on =
               λ z a room₁ left₁ e f k.
-              let s = back (is_kept a) ts (put_last ts (sender_of (number (part 4 4 v))) m.last) in
-              met-taken room times (number (part 0 4 v)) (number (part 4 4 v)) (part 8 8 v) long met z e f (k ∙ s);
+              let s = back (is_kept a) ts (put_last ts (sender_of (number (part 4 4 v))) l) in
+              met-taken room times (number (part 0 4 v)) (number (part 4 4 v)) (part 8 8 v) long met e f (k ∙ s);
         })
       where
         back : (y : Bool) (x z : Times) → cond y x (cond (eqb (i + 4) (i + 4)) z x) ≡ cond y x z
@@ -102,10 +122,10 @@ module _ (room : List ℕ) (times : Times) (i : ℕ) (bytes : List ℕ) (last : 
 -- ---- and then
 
 module _ {b : Stations} {f : Timed} {end : ℕ} {last g : Begun} {room : List ℕ} {left : Times} (begins : Begins b f end last g room left) {c : Counts} where
-  pub hears_stopped : (g.refusal ≡ 0 → ⊥) → Hears b f c (not_brought true g.refusal) room left
-  hears_stopped n = record { answer = Refused g.refusal; takes = begins.stops n; brings = refl }
+  pub hears_stopped : {e : Refusal} {n : ℕ} → g.refusal ≡ Some e → n ≡ number_of e → Hears b f c (not_brought true n) room left
+  hears_stopped {e} h is = rw is (record { answer = Refused (number_of e); takes = begins.stops e h; brings = refl })
 
-  pub hears_then : g.refusal ≡ 0 → {h : Frame} {r : Brought} {room₁ : List ℕ} {left₁ : Times} → h ≡ f.frame → HearsAt (stations_in room left) g h c r room₁ left₁ → Hears b f c r room₁ left₁
+  pub hears_then : g.refusal ≡ None → {h : Frame} {r : Brought} {room₁ : List ℕ} {left₁ : Times} → h ≡ f.frame → HearsAt (stations_in room left) g h c r room₁ left₁ → Hears b f c r room₁ left₁
   hears_then z {h} {r} {room₁} {left₁} e heard =
       let x = subst (λ (y : Frame). HearsAt (stations_in room left) g y c r room₁ left₁) e heard in
       record { answer = x.answer; takes = begins.goes_on z x.answer room₁ left₁ x.answers x.sessions x.times; brings = x.brings }

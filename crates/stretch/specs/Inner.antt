@@ -10,6 +10,8 @@ use Rattle.slot.specs.Gauges.{up_to_last}
 use Rattle.board.specs.Work.{arrival}
 use Rattle.text.specs.Text.{behind}
 use Rattle.journal.specs.declared.Log.{Log}
+use Rattle.refusal.specs.declared.Refusal.{Refusal}
+use Rattle.refusal.specs.Numbers.{number_of}
 use Rattle.joining.specs.declared.Answer.{Answer}
 use Rattle.joining.specs.declared.Answer.TheVariants.{Refused, Kept, Complete}
 use Rattle.bus.specs.Room.{sessions_in, room_of}
@@ -90,8 +92,8 @@ Elsewhere place (Some m) = m.0 ≡ place → ⊥
 pub record Begins (b : Stations) (f : Timed) (end : ℕ) (last r : Begun) (room : List ℕ) (left : Times) : Type 0 where
   pub ends : r.place + 15 ≡ end
   pub due : ((m : Last) × (r.last ≡ Some (r.place, m))) ⊎ (r.last ≡ last.last)
-  pub stops : (r.refusal ≡ 0 → ⊥) → Takes b f (Refused r.refusal) room left
-  pub goes_on : r.refusal ≡ 0 → (a : Answer) (room₁ : List ℕ) (left₁ : Times) → a ≡ answer_to (sessions_in room) f.frame → room₁ ≡ room_of (sessions_after (sessions_in room) f.frame)
+  pub stops : (e : Refusal) → r.refusal ≡ Some e → Takes b f (Refused (number_of e)) room left
+  pub goes_on : r.refusal ≡ None → (a : Answer) (room₁ : List ℕ) (left₁ : Times) → a ≡ answer_to (sessions_in room) f.frame → room₁ ≡ room_of (sessions_after (sessions_in room) f.frame)
       → left₁ ≡ times_by r a f.frame.identifier left → Takes b f a room₁ left₁
 
 -- Then its sender's session takes it.

@@ -21,8 +21,9 @@ use items::Item;
 use joining::Answer;
 use journal::Log;
 use question::Question;
+use refusal::Refusal;
 use slot::Gauge;
-use times::{Last, Met, Times};
+use times::{Last, Times};
 use window::{Counts, Place, Row, Rows, Window};
 use wire::Field;
 
@@ -45,12 +46,12 @@ struct Brought {
     row: Row,
 }
 
-// The place of a frame, 3 bytes before its identifier, and what its time refuses before it is taken, 0 for nothing. Beside it, of the last
+// The place of a frame, 3 bytes before its identifier, and what its time refuses before it is taken, if anything. Beside it, of the last
 // frame that had a time, its place and what its sender's last time was before: that is put back if the frame is refused.
 #[derive(Clone, Copy)]
 struct Begun {
     place: usize,
-    refusal: u8,
+    refusal: Option<Refusal>,
     last: Option<(usize, Last)>,
 }
 
@@ -119,7 +120,7 @@ fn run(
     let mut i: usize = 0;
     let mut begun = Begun {
         place: 0,
-        refusal: 0,
+        refusal: None,
         last: None,
     };
     // Stays: a turn takes as many bytes as its item has, so no range or iterator counts them.
@@ -141,8 +142,8 @@ fn run(
         }
         begun = begin(bus, times, tag, bytes, i, begun);
         i = begun.place;
-        if begun.refusal != 0 {
-            at = serving::put_refusal(out, at, items, true, begun.refusal);
+        if let Some(refusal) = begun.refusal {
+            at = serving::put_refusal(out, at, items, true, refusal.number());
             i += Item::FRAME_BYTES;
             continue;
         }
@@ -241,21 +242,28 @@ fn begin(
     if tag != Item::TIMED {
         return Begun {
             place: i,
-            refusal: 0,
+            refusal: None,
             last: last.last,
         };
     }
     let met = meet(room, times, &bytes[i + Field::HEAD..i + Item::TIMED_BYTES]);
     let place = i + Item::TIME;
-    Begun {
-        place,
-        refusal: met.refusal,
-        last: Some((place, met.last)),
+    match met {
+        Err(refusal) => Begun {
+            place,
+            refusal: Some(refusal),
+            last: last.last,
+        },
+        Ok(found) => Begun {
+            place,
+            refusal: None,
+            last: Some((place, found)),
+        },
     }
 }
 
 // Meets the time in the value of an item that has one.
-fn meet(room: &mut [u8; Bus::ROOM], times: &mut Times, value: &[u8]) -> Met
+fn meet(room: &mut [u8; Bus::ROOM], times: &mut Times, value: &[u8]) -> Result<Last, Refusal>
     requires { length value.now ≡ 16 }
     ensures { Meets (stations_in room.old times.old) (number (part 0 4 value.now)) (number (part 4 4 value.now)) (part 8 8 value.now) result room.new times.new }
 {

@@ -42,10 +42,7 @@ take_times_once : OneLeft 3 take-kinds.ps take-kinds.r take-reads.Post Times (λ
 take_times_once κs a x y s t p q = p.times ∙ sym q.times
 
 meet_once : OneAnswer 3 meet-kinds.ps meet-kinds.r meet-reads.Post
-meet_once κs a x y s t p q =
-    let refusal = p.refuses ∙ sym q.refuses in
-    let last = p.found ∙ sym q.found in
-    λ i. record { refusal = refusal i; last = last i }
+meet_once κs a x y s t p q = p.answers ∙ sym q.answers
 
 meet_leaves_once : OneLeft 3 meet-kinds.ps meet-kinds.r meet-reads.Post (List ℕ) (λ κs s. s.1.0.now)
 meet_leaves_once κs a x y s t p q = p.sessions ∙ sym q.sessions

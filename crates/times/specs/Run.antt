@@ -1,6 +1,6 @@
 -- What a run of frames, each with a time or without, does to all sessions and last times (docs/RULES.md, section 15).
 use Rattle.std.specs.Prelude.{ℕ, ◌+◌, ◌≤◌, ◌≡◌, Bool, true, false, cond, ◌||◌, List, [], ◌∷◌, ◌++◌, length, take, set, leb, ltb, eqb}
-use Rattle.std.specs.Prelude.{Option, None, Some, Ok}
+use Rattle.std.specs.Prelude.{Option, None, Some, Result, Ok}
 use Rattle.report.specs.Payload.{read_payload}
 use Rattle.report.specs.declared.Report.{Report}
 use Rattle.joining.specs.declared.Session.{Session}
@@ -13,7 +13,8 @@ use Rattle.bus.specs.Room.{sessions_in, room_of}
 use Rattle.times.specs.declared.Last.{Last}
 use Rattle.times.specs.declared.Station.{Station}
 use Rattle.times.specs.declared.Heard.{Heard}
-use Rattle.times.specs.declared.Met.{Met}
+use Rattle.refusal.specs.declared.Refusal.{Refusal}
+use Rattle.refusal.specs.Answers.{answered}
 use Rattle.times.specs.declared.Times.{Times}
 use Rattle.times.specs.Timed.{no_time, timed_frame, untimed_frame, stops, meets, last_of, with_last, fresh_times}
 
@@ -88,9 +89,13 @@ pub record Takes (b : Stations) (f : Timed) (answer : Answer) (room : List ℕ) 
 abbrev pub stations_met : Stations → ℕ → ℕ → List ℕ → Stations
 stations_met b t id d = cond (ltb (sender_of id) senders) (with_station b (sender_of id) (meets (station_of (sender_of id) b) t id d)) b
 
-pub record Meets (b : Stations) (t id : ℕ) (d : List ℕ) (r : Met) (room : List ℕ) (left : Times) : Type 0 where
-  pub refuses : r.refusal ≡ cond (ltb (sender_of id) senders) (stops (station_of (sender_of id) b) t id d) 0
-  pub found : r.last ≡ cond (ltb (sender_of id) senders) (last_of (sender_of id) b.times) no_time
+-- The number of the refusal that a time brings; 0 for none, and senders 254 and 255 have no time.
+abbrev pub refusal_met : Stations → ℕ → ℕ → List ℕ → ℕ
+refusal_met b t id d = cond (ltb (sender_of id) senders) (stops (station_of (sender_of id) b) t id d) 0
+
+-- It answers that refusal, or what the sender's last time was.
+pub record Meets (b : Stations) (t id : ℕ) (d : List ℕ) (r : Result Last Refusal) (room : List ℕ) (left : Times) : Type 0 where
+  pub answers : r ≡ answered (refusal_met b t id d) (cond (ltb (sender_of id) senders) (last_of (sender_of id) b.times) no_time)
   pub sessions : room ≡ room_of (stations_met b t id d).sessions
   pub times : left ≡ (stations_met b t id d).times
 

@@ -3,6 +3,7 @@
 
 ghost use Rattle.std.specs.Prelude.{◌≡◌, true, cond, ◌<◌, length, set, eqb};
 ghost use Rattle.refusal.specs.Numbers.{number_of};
+ghost use Rattle.refusal.specs.Answers.{answered};
 ghost use Rattle.joining.specs.Frame.{sender_of, frame_refusal};
 ghost use Rattle.joining.specs.Joining.{fit, closed, take_frame};
 ghost use Rattle.joining.specs.Run.{senders, session_of, sessions_after, answer_to};
@@ -35,13 +36,6 @@ pub struct Station {
 pub struct Heard {
     pub answer: Answer,
     pub station: Station,
-}
-
-// What a time settles before its frame is taken: a refusal, 0 for none, and what the sender's last time was.
-#[derive(Clone, Copy)]
-pub struct Met {
-    pub refusal: u8,
-    pub last: Last,
 }
 
 // The last kept time of each sender from 0 to 253, in their order: whether there is one, and it, 0 where there is none.
@@ -78,8 +72,14 @@ impl Times {
 // nothing `Bus::take`, and `put` of the last time that `meet` found, where the frame is refused.
 impl Times {
     // What a time settles before its frame is taken. It refuses a frame that is before the last time, or at one that is unfit, by its
-    // first refusal; else it closes the session where more than 750 ms lie between, and sets the time.
-    pub fn meet(&mut self, room: &mut [u8; Bus::ROOM], time: u32, id: u32, data: &[u8]) -> Met
+    // first refusal; else it closes the session where more than 750 ms lie between, sets the time, and tells what the last one was.
+    pub fn meet(
+        &mut self,
+        room: &mut [u8; Bus::ROOM],
+        time: u32,
+        id: u32,
+        data: &[u8],
+    ) -> Result<Last, Refusal>
         ensures { Meets (stations_in room.old self.old) time id «data».now result room.new self.new }
     {
         whole(room);
@@ -228,57 +228,67 @@ impl Times {
         requires { length room.old ≡ room_bytes }
         ensures { Takes (stations_in room.old self.old) (timed_at time id «data».now) result room.new self.new }
     {
-        let met = self.meet(room, time, id, data);
-        if met.refusal != 0 {
-            return Answer::Refused(met.refusal);
-        }
+        let last = match self.meet(room, time, id, data) {
+            Err(refusal) => return Answer::Refused(refusal.number()),
+            Ok(last) => last,
+        };
         let answer = Bus::take(room, id, data);
         if kept(answer) {
             return answer;
         }
-        self.put((id % 256) as u8, met.last);
+        self.put((id % 256) as u8, last);
         answer
     }
 
     // `meet` on bytes that are known to be a room.
-    fn meet_in(&mut self, room: &mut [u8; Bus::ROOM], time: u32, id: u32, data: &[u8]) -> Met
+    fn meet_in(
+        &mut self,
+        room: &mut [u8; Bus::ROOM],
+        time: u32,
+        id: u32,
+        data: &[u8],
+    ) -> Result<Last, Refusal>
         requires { length room.old ≡ room_bytes }
         ensures { Meets (stations_in room.old self.old) time id «data».now result room.new self.new }
     {
         let k = (id % 256) as usize;
         if Bus::SENDERS <= k {
-            return Met {
-                refusal: 0,
-                last: Last {
-                    known: false,
-                    at: 0,
-                },
-            };
+            return Ok(Last {
+                known: false,
+                at: 0,
+            });
         }
         let last = Last {
             known: self.known[k],
             at: self.at[k],
         };
-        let refusal = stopped(room, last, time, id, data);
-        if refusal == 0 {
-            self.known[k] = true;
-            self.at[k] = time;
-        }
-        Met { refusal, last }
+        stopped(room, last, time, id, data)?;
+        self.known[k] = true;
+        self.at[k] = time;
+        Ok(last)
     }
 }
 
-// The refusal of a frame that came at a time, where this is its sender's last one; 0 for none, and then the session is closed where the frame
+// The refusal of a frame that came at a time, where this is its sender's last one; where it refuses none, the session is closed if the frame
 // comes too late.
-fn stopped(room: &mut [u8; Bus::ROOM], last: Last, time: u32, id: u32, data: &[u8]) -> u8
+fn stopped(
+    room: &mut [u8; Bus::ROOM],
+    last: Last,
+    time: u32,
+    id: u32,
+    data: &[u8],
+) -> Result<(), Refusal>
     requires { (length room.old ≡ room_bytes) × (sender_of id < senders) }
-    ensures value { result ≡ stops (station_in room.old last id) time id «data».now }
+    ensures value { result ≡ answered (stops (station_in room.old last id) time id «data».now) tt }
     ensures room_after { room.new ≡ room_of (set (sessions_in room.old) (sender_of id) (meets (station_in room.old last id) time id «data».now).session) }
 {
     let came = compared(last.known, last.at, time);
     match came {
-        Came::InTime => 0,
-        Came::Late => shut(room, id, data),
+        Came::InTime => Ok(()),
+        Came::Late => {
+            shut(room, id, data);
+            Ok(())
+        }
         Came::Before => turned(room, id, data, Refusal::BeforeLastTime),
         Came::Unfit => turned(room, id, data, Refusal::Unfit),
     }
@@ -322,31 +332,30 @@ fn kept(answer: Answer) -> bool
     }
 }
 
-// Closes the session of a frame that came too late, unless 1 to 3 or 24 refuse it; they stand before, and no time does: 0.
-fn shut(room: &mut [u8; Bus::ROOM], id: u32, data: &[u8]) -> u8
+// Closes the session of a frame that came too late, unless 1 to 3 or 24 refuse it: they stand before, and no time does.
+fn shut(room: &mut [u8; Bus::ROOM], id: u32, data: &[u8])
     requires { length room.old ≡ room_bytes }
-    ensures value { result ≡ 0 }
-    ensures room_after { room.new ≡ room_of (set (sessions_in room.old) (sender_of id) (shut_by (session_of (sender_of id) (sessions_in room.old)) id «data».now)) }
+    ensures { room.new ≡ room_of (set (sessions_in room.old) (sender_of id) (shut_by (session_of (sender_of id) (sessions_in room.old)) id «data».now)) }
 {
     if joining::frame_refusal(id, data).is_err() {
-        return 0;
+        return;
     }
     let sender = (id % 256) as u8;
     if Bus::fit(room, sender) {
         Bus::close(room, sender);
     }
-    0
 }
 
 // The refusal of a frame that the last time refuses so: those that come first are 1 to 3, and 24 for an unfit session.
-fn turned(room: &[u8; Bus::ROOM], id: u32, data: &[u8], last: Refusal) -> u8
-    ensures { result ≡ cond (eqb (frame_refusal id «data».now) 0) (cond (fit (session_of (sender_of id) (sessions_in room.now))) (number_of last) 24) (frame_refusal id «data».now) }
+fn turned(room: &[u8; Bus::ROOM], id: u32, data: &[u8], last: Refusal) -> Result<(), Refusal>
+    ensures { result ≡ answered (cond (eqb (frame_refusal id «data».now) 0) (cond (fit (session_of (sender_of id) (sessions_in room.now))) (number_of last) 24) (frame_refusal id «data».now)) tt }
 {
+    // Stays: with `?` the answers didn't close (tried `search`, and `frame_let` on what the branch says).
     if let Err(refusal) = joining::frame_refusal(id, data) {
-        return refusal.number();
+        return Err(refusal);
     }
     if Bus::fit(room, (id % 256) as u8) {
-        return last.number();
+        return Err(last);
     }
-    Refusal::Unfit.number()
+    Err(Refusal::Unfit)
 }

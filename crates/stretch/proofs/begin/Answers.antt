@@ -6,7 +6,7 @@ use Prim.Native.Nat.{ℕ, ◌+◌, ◌-◌}
 use native.Mathlib.Omega.{arith}
 use lib.ListN.{take, drop}
 use Rattle.wire.specs.Bytes.{part}
-use Rattle.stretch.proofs.Times.{sixteen, untimed_begins, timed_begins}
+use Rattle.stretch.proofs.Times.{sixteen, untimed_begins, refused_begins, timed_begins}
 use borrow.Author.Rules.{rules}
 use Rattle.stretch.proofs.begin.Goals as goal
 
@@ -23,7 +23,8 @@ returns-then-tag-ne-TIMED c =
 pub slice_bounds-meet-end : goal.slice_bounds-meet-end
 slice_bounds-meet-end c = let e = sixteen c.if-tag-ne-TIMED.false in search rules
 
-pub returns : goal.returns
-returns c =
-    let a = c.args in
-    timed_begins c.args.room.now c.args.times.now c.args.i c.args.bytes.now c.args.last c.if-tag-ne-TIMED.false c.requires.1 _ (value_is c.args.i c.args.bytes.now) c.meet-met.ensures
+pub returns-in-Err : goal.returns-in-Err
+returns-in-Err c = refused_begins c.args.room.now c.args.times.now c.args.i c.args.bytes.now c.args.last c.if-tag-ne-TIMED.false c.requires.1 _ (value_is c.args.i c.args.bytes.now) (rw c.in-Err.is at c.meet-met.ensures)
+
+pub returns-in-Ok : goal.returns-in-Ok
+returns-in-Ok c = timed_begins c.args.room.now c.args.times.now c.args.i c.args.bytes.now c.args.last c.if-tag-ne-TIMED.false c.requires.1 _ (value_is c.args.i c.args.bytes.now) (rw c.in-Ok.is at c.meet-met.ensures)

@@ -130,22 +130,22 @@ begin-begun-requires c =
     let small : length c.args.out.now < 2 ^ 64 = search rules in
     ((framed small c.loop-gauges.invariant.0 c.goes_on.ensures c.loop-gauges-test.true c.is_frame.ensures c.if-not-is_frame.false).there, c.loop-gauges.invariant.0.room, due_other _ _ c.loop-gauges.invariant.1)
 
-pub overflow_add-i-then-begun-ne0 : goal.overflow_add-i-then-begun-ne0
-overflow_add-i-then-begun-ne0 c =
+pub overflow_add-i-in-Some : goal.overflow_add-i-in-Some
+overflow_add-i-in-Some c =
     let short : length c.args.bytes.now < 2 ^ 64 = search rules in
     let small : length c.args.out.now < 2 ^ 64 = search rules in
     omega (arith, short, ends_there small c.loop-gauges.invariant.0 c.goes_on.ensures c.loop-gauges-test.true c.is_frame.ensures c.if-not-is_frame.false c.begin-begun.ensures)
 
-pub loop-gauges-smaller-then-begun-ne0 : goal.loop-gauges-smaller-then-begun-ne0
-loop-gauges-smaller-then-begun-ne0 c =
+pub loop-gauges-smaller-in-Some : goal.loop-gauges-smaller-in-Some
+loop-gauges-smaller-in-Some c =
     let small : length c.args.out.now < 2 ^ 64 = search rules in
     smaller small c.loop-gauges.invariant.0 c.goes_on.ensures c.loop-gauges-test.true c.is_frame.ensures c.if-not-is_frame.false c.begin-begun.ensures
 
-pub loop-gauges-preserved-then-begun-ne0 : goal.loop-gauges-preserved-then-begun-ne0
-loop-gauges-preserved-then-begun-ne0 c =
+pub loop-gauges-preserved-in-Some : goal.loop-gauges-preserved-in-Some
+loop-gauges-preserved-in-Some c =
     let small : length c.args.out.now < 2 ^ 64 = search rules in (
       stands_none _ _ _ _ small c.loop-gauges.invariant.0 c.goes_on.ensures c.loop-gauges-test.true refl c.next_item-items.ensures (sym c.is_frame.ensures ∙ c.if-not-is_frame.false)
-          refl (hears_stopped c.begin-begun.ensures c.if-begun-ne0.true) refl (c.put_refusal-at.ensures.value, c.put_refusal-at.ensures.out_after) c.begin-begun.ensures.ends,
+          refl (hears_stopped c.begin-begun.ensures c.in-Some.is c.number.ensures) refl (c.put_refusal-at.ensures.value, c.put_refusal-at.ensures.out_after) c.begin-begun.ensures.ends,
       due-next _ _ c.begin-begun.ensures c.loop-gauges.invariant.1,
     )
 
@@ -170,7 +170,7 @@ pub loop-gauges-preserved-then-brought-eq0 : goal.loop-gauges-preserved-then-bro
 loop-gauges-preserved-then-brought-eq0 c =
     let small : length c.args.out.now < 2 ^ 64 = search rules in (
       stands_none _ _ _ _ small c.loop-gauges.invariant.0 c.goes_on.ensures c.loop-gauges-test.true refl c.next_item-items.ensures (sym c.is_frame.ensures ∙ c.if-not-is_frame.false)
-          refl (hears_then c.begin-begun.ensures c.if-begun-ne0.false (same_frame small c.loop-gauges.invariant.0 c.goes_on.ensures c.loop-gauges-test.true c.is_frame.ensures c.if-not-is_frame.false c.begin-begun.ensures) c.hear-brought.ensures) c.if-brought-eq0.true (c.put_refusal-at-in-loop-gauges.ensures.value, c.put_refusal-at-in-loop-gauges.ensures.out_after) c.begin-begun.ensures.ends,
+          refl (hears_then c.begin-begun.ensures c.in_default.is (same_frame small c.loop-gauges.invariant.0 c.goes_on.ensures c.loop-gauges-test.true c.is_frame.ensures c.if-not-is_frame.false c.begin-begun.ensures) c.hear-brought.ensures) c.if-brought-eq0.true (c.put_refusal-at-in-loop-gauges.ensures.value, c.put_refusal-at-in-loop-gauges.ensures.out_after) c.begin-begun.ensures.ends,
       due-next _ _ c.begin-begun.ensures c.loop-gauges.invariant.1,
     )
 
@@ -178,7 +178,7 @@ pub loop-slot-init : goal.loop-slot-init
 loop-slot-init c =
     let small : length c.args.out.now < 2 ^ 64 = search rules in
     turns-begin _ _ _ _ small c.loop-gauges.invariant.0 c.goes_on.ensures c.loop-gauges-test.true refl c.next_item-items.ensures (sym c.is_frame.ensures ∙ c.if-not-is_frame.false)
-    refl (hears_then c.begin-begun.ensures c.if-begun-ne0.false (same_frame small c.loop-gauges.invariant.0 c.goes_on.ensures c.loop-gauges-test.true c.is_frame.ensures c.if-not-is_frame.false c.begin-begun.ensures) c.hear-brought.ensures) c.place-place.ensures c.put_row-filled.ensures (c.put_refusal-at-in-loop-gauges.ensures.value, c.put_refusal-at-in-loop-gauges.ensures.out_after)
+    refl (hears_then c.begin-begun.ensures c.in_default.is (same_frame small c.loop-gauges.invariant.0 c.goes_on.ensures c.loop-gauges-test.true c.is_frame.ensures c.if-not-is_frame.false c.begin-begun.ensures) c.hear-brought.ensures) c.place-place.ensures c.put_row-filled.ensures (c.put_refusal-at-in-loop-gauges.ensures.value, c.put_refusal-at-in-loop-gauges.ensures.out_after)
 
 pub loop-gauges-smaller : goal.loop-gauges-smaller
 loop-gauges-smaller c =
@@ -189,7 +189,7 @@ pub loop-gauges-preserved : goal.loop-gauges-preserved
 loop-gauges-preserved c =
     let small : length c.args.out.now < 2 ^ 64 = search rules in (
       stands_enters _ _ _ _ small c.loop-gauges.invariant.0 c.goes_on.ensures c.loop-gauges-test.true refl c.next_item-items.ensures (sym c.is_frame.ensures ∙ c.if-not-is_frame.false)
-          refl (hears_then c.begin-begun.ensures c.if-begun-ne0.false (same_frame small c.loop-gauges.invariant.0 c.goes_on.ensures c.loop-gauges-test.true c.is_frame.ensures c.if-not-is_frame.false c.begin-begun.ensures) c.hear-brought.ensures) c.if-brought-eq0.false c.place-place.ensures c.put_row-filled.ensures (c.put_refusal-at-in-loop-gauges.ensures.value, c.put_refusal-at-in-loop-gauges.ensures.out_after) c.begin-begun.ensures.ends c.loop-slot.invariant (omega arith),
+          refl (hears_then c.begin-begun.ensures c.in_default.is (same_frame small c.loop-gauges.invariant.0 c.goes_on.ensures c.loop-gauges-test.true c.is_frame.ensures c.if-not-is_frame.false c.begin-begun.ensures) c.hear-brought.ensures) c.if-brought-eq0.false c.place-place.ensures c.put_row-filled.ensures (c.put_refusal-at-in-loop-gauges.ensures.value, c.put_refusal-at-in-loop-gauges.ensures.out_after) c.begin-begun.ensures.ends c.loop-slot.invariant (omega arith),
       due-next _ _ c.begin-begun.ensures c.loop-gauges.invariant.1,
     )
 

@@ -3,16 +3,9 @@
 use mathlib.Core.Path.{sym}
 use borrow.Author.Tests.{le-ltb}
 use Rattle.bus.proofs.Places.{room_of_sessions}
-use Rattle.times.proofs.Lent.{met-passes, met-stops}
 use Rattle.times.proofs.Times.meet_in.Goals as goal
 
 pub returns-then-k-ge-SENDERS : goal.returns-then-k-ge-SENDERS
 returns-then-k-ge-SENDERS c =
     let has = le-ltb _ 254 c.if-k-ge-SENDERS.true in
-    record { refuses = rw has; found = rw has; sessions = rw has (sym (room_of_sessions 254 c.args.room.now c.requires)); times = rw has }
-
-pub returns-then-refusal-eq0 : goal.returns-then-refusal-eq0
-returns-then-refusal-eq0 c = met-passes c.args.room.now c.args.self.now c.args.time c.args.id c.args.«data».now c.if-k-ge-SENDERS.false c.stopped-refusal.ensures.value c.stopped-refusal.ensures.room_after c.if-refusal-eq0.true
-
-pub returns-else-refusal-eq0 : goal.returns-else-refusal-eq0
-returns-else-refusal-eq0 c = met-stops c.args.room.now c.args.self.now c.args.time c.args.id c.args.«data».now c.if-k-ge-SENDERS.false c.stopped-refusal.ensures.value c.stopped-refusal.ensures.room_after c.if-refusal-eq0.false
+    record { answers = rw has; sessions = rw has (sym (room_of_sessions 254 c.args.room.now c.requires)); times = rw has }

@@ -4,15 +4,19 @@ use mathlib.Core.Path.{sym, ◌∙◌}
 use Rattle.times.proofs.Lent.{met-refused, met-taken}
 use Rattle.times.proofs.Times.timed.Goals as goal
 
-pub returns-then-met-ne0 : goal.returns-then-met-ne0
-returns-then-met-ne0 c = met-refused c.args.room.now c.args.self.now c.args.time c.args.id c.args.«data».now c.requires c.meet-met.ensures c.if-met-ne0.true
+pub returns-in-Err : goal.returns-in-Err
+returns-in-Err c =
+    let m = rw c.in-Err.is at c.meet.ensures in
+    rw c.number.ensures (met-refused c.args.room.now c.args.self.now c.args.time c.args.id c.args.«data».now c.requires m)
 
 pub returns-then-kept : goal.returns-then-kept
 returns-then-kept c =
+    let m = rw c.in-Ok.is at c.meet.ensures in
     let k = sym c.kept.ensures ∙ c.if-kept.true in
-    met-taken c.args.room.now c.args.self.now c.args.time c.args.id c.args.«data».now c.requires c.meet-met.ensures c.if-met-ne0.false c.take-answer.ensures.value c.take-answer.ensures.room_after (rw k)
+    met-taken c.args.room.now c.args.self.now c.args.time c.args.id c.args.«data».now c.requires m c.take-answer.ensures.value c.take-answer.ensures.room_after (rw k)
 
 pub returns : goal.returns
 returns c =
+    let m = rw c.in-Ok.is at c.meet.ensures in
     let k = sym c.kept.ensures ∙ c.if-kept.false in
-    met-taken c.args.room.now c.args.self.now c.args.time c.args.id c.args.«data».now c.requires c.meet-met.ensures c.if-met-ne0.false c.take-answer.ensures.value c.take-answer.ensures.room_after (rw k c.put.ensures)
+    met-taken c.args.room.now c.args.self.now c.args.time c.args.id c.args.«data».now c.requires m c.take-answer.ensures.value c.take-answer.ensures.room_after (rw k c.put.ensures)
