@@ -24,11 +24,10 @@ put_in-len-requires c = (pass_few c.requires.0 c.loop-row.invariant.1, c.require
 
 pub loop-row-preserved : goal.loop-row-preserved
 loop-row-preserved c =
-    let w = rows_in c.args.rows.now in
-    (
+    let w = rows_in c.args.rows.now in (
       omega arith,
       pass_puts c.requires.0 c.loop-row.invariant.1 w (c.loop-row.row - 1) (row_down w (standing w c.args.low) c.loop-row.row c.args.high (omega arith) c.loop-row.auto.row) c.score_from.ensures c.in-Some.is c.admits.ensures c.if-not-admits.false
-      c.put_in-len.ensures c.bar_in-bar-in-loop-row.ensures c.least-least-in-loop-row.type_inv c.least-least-in-loop-row.ensures,
+          c.put_in-len.ensures c.bar_in-bar-in-loop-row.ensures c.least-least-in-loop-row.type_inv c.least-least-in-loop-row.ensures,
     )
 
 pub returns : goal.returns
