@@ -24,17 +24,16 @@ pub fn hex(line: &[u8], n: u8) -> u32 {
     read(lines::word(line, n), 16, u32::MAX)
 }
 
-// Stores the words from `from` on, each a byte in hexadecimal digits; how many there are, as far as the room goes.
+// Stores the words from `from` on, each a byte in hexadecimal digits, of which those past the room are left out; how many there are.
 pub fn bytes(line: &[u8], from: u8, room: &mut [u8]) -> usize {
-    let words = lines::tail(line, from)
-        .split(u8::is_ascii_whitespace)
-        .filter(|word| !word.is_empty());
-    let mut n = 0;
-    for (k, (byte, word)) in room.iter_mut().zip(words).enumerate() {
-        *byte = read(word, 16, u8::MAX);
-        n = k + 1;
+    for n in from..u8::MAX {
+        let place = usize::from(n - from);
+        if lines::word(line, n).is_empty() {
+            return place;
+        }
+        wire::put(room, place, (hex(line, n) % 256) as u8);
     }
-    n
+    usize::from(u8::MAX - from)
 }
 
 // The number in a word, of at most `most`.
