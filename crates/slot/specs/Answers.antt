@@ -1,5 +1,5 @@
 -- What the code answers of what Asking.antt and Turn.antt say in numbers.
-use Rattle.std.specs.Prelude.{ℕ, cond, Option, None, Some, Result}
+use Rattle.std.specs.Prelude.{cond, None, Some, Result}
 use Rattle.refusal.specs.declared.Refusal.{Refusal}
 use Rattle.refusal.specs.Answers.{answered}
 use Rattle.question.specs.declared.Searched.{Searched}

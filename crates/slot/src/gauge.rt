@@ -46,19 +46,7 @@ impl Gauge {
     pub fn of_slots(slots: [Question; Gauge::SLOTS]) -> [Gauge; Gauge::SLOTS]
         ensures { result ≡ map gauge_of slots }
     {
-        let rule = Rule::none();
-        let weights = rule.weights;
-        let none = Gauge {
-            weights,
-            least: 0,
-            low: 0,
-        };
-        // Stays: `slots.map(..)` takes the array by value, which copies 32 questions on each entry of a report.
-        let mut gauges = [none; Gauge::SLOTS];
-        for i in 0..Gauge::SLOTS {
-            gauges[i] = Gauge::of(slots[i]);
-        }
-        gauges
+        slots.map(Gauge::of)
     }
 
     // How many slots there are up to the last one that has a k or a line.
