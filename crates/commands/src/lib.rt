@@ -17,6 +17,7 @@ ghost use Rattle.report.specs.Payload.{given};
 
 use bench::Bench;
 use items::{Item, Setting};
+use refusal::Refusal;
 use report::Report;
 use values::{Edition, Values};
 
@@ -112,7 +113,7 @@ pub enum Command {
 #[derive(Clone, Copy)]
 pub enum Trouble {
     Wrong(Fault),
-    Refused(u8),
+    Refused(Refusal),
 }
 
 // What came of a line, which is how many bytes its items take, and the time for the lines behind it.
@@ -421,7 +422,7 @@ fn put_report(room: &mut [u8], time: Option<u32>, s: Sending, note: &[u8]) -> Re
             let size = put_frames(room, time, &frames, n / Bench::FRAME);
             Ok(size)
         }
-        Err(refusal) => Err(Trouble::Refused(refusal.number())),
+        Err(refusal) => Err(Trouble::Refused(refusal)),
     }
 }
 
