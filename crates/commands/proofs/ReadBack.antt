@@ -1,7 +1,7 @@
 -- A log reads what is written for a line as what the line stands for: every number fits its bytes, and every frame has 8 data bytes.
 -- Assumes nothing.
 use mathlib.Core.Path.{◌≡◌, refl}
-use mathlib.Core.Bool.{Bool, true, false, cond, not, ◌||◌}
+use mathlib.Core.Bool.{Bool, true, false, cond}
 use mathlib.Core.List.{List, [], ◌∷◌, ◌++◌, map}
 use Prim.Native.Nat.{ℕ, zero, suc, ◌+◌, ◌≤◌, ◌<◌}
 use native.Mathlib.Omega.{arith}
@@ -14,7 +14,6 @@ use Rattle.laws.proofs.Tests.{either}
 use Rattle.std.proofs.Common.{Option, Some, None, ok_or, Result, Ok, Err}
 use Rattle.items.specs.declared.Setting.{Setting}
 use Rattle.items.specs.declared.Item.{Item}
-use Rattle.items.specs.declared.Item.TheVariants as item
 use Rattle.items.specs.Run.{Meant, run_bytes, read_items}
 use Rattle.items.proofs.Reading.{Fits}
 use Rattle.items.proofs.Runs.{AllFit, reads_back}

@@ -1,7 +1,7 @@
 -- What a line's words are at most, and what isn't given in it.
 -- Assumes nothing.
 use mathlib.Core.Path.{◌≡◌, refl, subst}
-use mathlib.Core.Bool.{Bool, true, false, cond, not, ◌&&◌, ◌||◌}
+use mathlib.Core.Bool.{Bool, true, false, cond, not, ◌||◌}
 use mathlib.Core.List.{List, [], ◌∷◌}
 use Prim.Native.Nat.{ℕ, suc, ◌≤◌, ◌<◌}
 use native.Mathlib.Omega.{arith}
@@ -10,7 +10,7 @@ use lib.Dec.{eqb}
 use lib.ListN.{length}
 use lib.IntN.{ℤ, pos}
 use lib.Signed.{mag}
-use Rattle.std.proofs.Common.{Option, Some, None, is_some, ok_or, Result, Ok, Err}
+use Rattle.std.proofs.Common.{Option, Some, None, is_some, ok_or, Result, Ok}
 use Rattle.laws.proofs.Tests.{and_both}
 use Rattle.lines.specs.Words.{run_length, trimmed, behind_word, tail_at, word_at}
 use Rattle.lines.specs.Numbers.{number_in, short_in}

@@ -102,10 +102,6 @@ all_needed room sender r note {n} = go (ltb 253 sender) (fault r note) (leb (roo
 abbrev pub took : ℕ → Result ℕ Trouble
 took n = Ok n
 
--- Or a refusal by its number.
-abbrev pub refused_by : ℕ → Result ℕ Trouble
-refused_by k = Err (trouble.Refused k)
-
 module _ (t : Option ℕ) (s : Sending) (note : List ℕ) where
   abbrev with_note : Option (List ℕ)
   with_note = given s.noted note
@@ -121,7 +117,7 @@ module _ (t : Option ℕ) (s : Sending) (note : List ℕ) where
     pub within : n ≤ 168
     pub whole : n ≡ 12 * (n / 12)
     pub items : map (item_of_frame t) (frames_in (n / 12) left) ≡ report_items t s note
-    pub taken : eqb (report_refusal s note) 0 ≡ true
+    pub taken : send_answer 168 s.sender s.report with_note ≡ Ok n
 
   pub items_sent : (room : List ℕ) {left : List ℕ} (n : ℕ) → length room ≡ 168 → send_answer (length room) s.sender s.report with_note ≡ Ok n
       → left ≡ sent room s.sender s.report with_note → Sent n left
@@ -139,7 +135,7 @@ module _ (t : Option ℕ) (s : Sending) (note : List ℕ) where
         within = omega (arith, facts.1);
         whole = omega arith;
         items = rw (q, count, l) (ap (map (item_of_frame t)) (frames_back s.sender facts.0 p (drop needed room)));
-        taken = q;
+        taken = b;
       }
 
   pub items_counted : {n : ℕ} {left : List ℕ} → Sent n left → ◌≡◌ {A = Result ℕ Trouble} (Ok (length (cut t (n / 12) left))) (report_answer t s note)
@@ -148,9 +144,9 @@ module _ (t : Option ℕ) (s : Sending) (note : List ℕ) where
 
   -- Or it refused the report.
   pub items_refused : (room : ℕ) (e : Refusal) → room ≡ 168 → send_answer room s.sender s.report with_note ≡ Err e
-      → (◌≡◌ {A = Result ℕ Trouble} (Err (trouble.Refused (number_of e))) (report_answer t s note)) × (report_items t s note ≡ [])
+      → (◌≡◌ {A = Result ℕ Trouble} (Err (trouble.Refused e)) (report_answer t s note)) × (report_items t s note ≡ [])
   unfolding send_refusal report_refusal report_items report_answer
   items_refused room e h a =
       let b : send_answer 168 s.sender s.report with_note ≡ Err e = rw h at a in
       let q : eqb (number_of e) 0 ≡ false = ne_eqb (number_of e) 0 (λ z. omega (arith, number_above e)) in
-      (rw (b, q), rw (b, q))
+      (rw b, rw (b, q))

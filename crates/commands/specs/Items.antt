@@ -5,7 +5,8 @@ use Rattle.items.specs.declared.Item.TheVariants as item
 use Rattle.items.specs.Run.{Meant, run_bytes}
 use Rattle.report.specs.Payload.{payload, given}
 use Rattle.joining.specs.Frame.{Frame}
-use Rattle.bench.specs.Bench.{frames, send_refusal}
+use Rattle.refusal.specs.declared.Refusal.{Refusal}
+use Rattle.bench.specs.Bench.{frames, send_refusal, send_answer}
 use Rattle.commands.specs.declared.Sending.{Sending}
 use Rattle.commands.specs.declared.Command.{Command}
 use Rattle.commands.specs.declared.Command.TheVariants as command
@@ -24,7 +25,7 @@ frame_item (Some t) id = item.Timed t id
 abbrev pub item_of_frame : Option ℕ → Frame → Meant
 item_of_frame t f = record { item = frame_item t f.identifier; data_bytes = f.data_bytes }
 
--- The bench sender's refusal of a report, 3, 12 or 19; 0 for none. Its room is as large as any report's frames.
+-- The number of the bench sender's refusal of a report, 3, 12 or 19; 0 for none. Its room is as large as any report's frames.
 unfoldable pub report_refusal : Sending → List ℕ → ℕ
 report_refusal s note = send_refusal 168 s.sender s.report (given s.noted note)
 
@@ -33,9 +34,14 @@ unfoldable pub report_items : Option ℕ → Sending → List ℕ → List Meant
 report_items t s note =
     cond (eqb (report_refusal s note) 0) (map (item_of_frame t) (frames s.sender (payload s.report (given s.noted note)))) []
 
+-- So many bytes, or the trouble that a refusal is.
+abbrev pub bytes_or_trouble : ℕ → Result ℕ Refusal → Result ℕ Trouble
+bytes_or_trouble n (Ok room) = Ok n
+bytes_or_trouble n (Err e) = Err (trouble.Refused e)
+
+-- How many bytes the items of a report's frames take, or the bench sender's refusal.
 unfoldable pub report_answer : Option ℕ → Sending → List ℕ → Result ℕ Trouble
-report_answer t s note =
-    cond (eqb (report_refusal s note) 0) (Ok (length (run_bytes (report_items t s note)))) (Err (trouble.Refused (report_refusal s note)))
+report_answer t s note = bytes_or_trouble (length (run_bytes (report_items t s note))) (send_answer 168 s.sender s.report (given s.noted note))
 
 -- The items that a command stands for. One that sets the time has none.
 abbrev pub items_of : Option ℕ → Command → List ℕ → List Meant

@@ -17,6 +17,7 @@ ghost use Rattle.report.specs.Payload.{given};
 
 use bench::Bench;
 use items::{Item, Setting};
+use refusal::Refusal;
 use report::Report;
 use values::{Edition, Values};
 
@@ -42,6 +43,7 @@ impl Kind {
     pub fn of(word: &[u8]) -> Kind
         ensures { result ≡ kind_of word.now }
     {
+        // Stays: `match word { b"window" => .. }` was tried; it tests byte after byte, and 22 goals of its arms stayed open.
         if word.is_empty() || wire::byte(word, 0) == b'#' {
             Kind::Nothing
         } else if lines::same(word, b"window") {
@@ -112,7 +114,7 @@ pub enum Command {
 #[derive(Clone, Copy)]
 pub enum Trouble {
     Wrong(Fault),
-    Refused(u8),
+    Refused(Refusal),
 }
 
 // What came of a line, which is how many bytes its items take, and the time for the lines behind it.
@@ -421,7 +423,7 @@ fn put_report(room: &mut [u8], time: Option<u32>, s: Sending, note: &[u8]) -> Re
             let size = put_frames(room, time, &frames, n / Bench::FRAME);
             Ok(size)
         }
-        Err(refusal) => Err(Trouble::Refused(refusal.number())),
+        Err(refusal) => Err(Trouble::Refused(refusal)),
     }
 }
 

@@ -7,6 +7,7 @@ mod faults;
 use commands::{Command, Kind, Trouble};
 use faults::Expected;
 use input::{Input, ReadFailed};
+use refusal::Refusal;
 use std::fmt;
 use std::io::Read;
 
@@ -80,9 +81,9 @@ fn send(
             let expected = Expected(fault);
             let _ = println!(err; "line {number}: {expected}");
         }
-        Err(Trouble::Refused(code)) => {
-            let refusal = refusal(code, Kind::of(lines::word(text, 0)));
-            let _ = println!(err; "line {number}: {refusal}");
+        Err(Trouble::Refused(refusal)) => {
+            let refused = refused(refusal, Kind::of(lines::word(text, 0)));
+            let _ = println!(err; "line {number}: {refused}");
         }
     }
     Ok(outcome.time)
@@ -93,11 +94,11 @@ fn write(out: &impl Print, items: &[u8]) -> Result<(), Stop> {
 }
 
 // What the bench sender refuses: 3, 12 or 19.
-fn refusal(code: u8, kind: Kind) -> &'static str {
-    match (code, kind) {
-        (3, _) => "SENDER is over 253",
-        (12, Kind::Heated | Kind::HeatedNoted) => "LOSS, SHAKE or HEAT is over 4095",
-        (12, _) => "LOSS or SHAKE is over 4095",
+fn refused(refusal: Refusal, kind: Kind) -> &'static str {
+    match (refusal, kind) {
+        (Refusal::NoSuchSender, _) => "SENDER is over 253",
+        (Refusal::ValueOutOfRange, Kind::Heated | Kind::HeatedNoted) => "LOSS, SHAKE or HEAT is over 4095",
+        (Refusal::ValueOutOfRange, _) => "LOSS or SHAKE is over 4095",
         _ => "the note is longer than 64 bytes",
     }
 }

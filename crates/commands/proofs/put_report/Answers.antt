@@ -4,7 +4,7 @@ use mathlib.Core.Path.{refl, sym, ap, ◌∙◌}
 use Prim.Native.Nat.{ℕ}
 use lib.ListN.{replicate, length-replicate}
 use Rattle.items.specs.Run.{run_bytes}
-use Rattle.commands.proofs.Writing.{took, refused_by, items_sent, items_counted, items_refused}
+use Rattle.commands.proofs.Writing.{took, items_sent, items_counted, items_refused}
 use native.Mathlib.Omega.{arith}
 use Rattle.commands.proofs.put_report.Goals as goal
 
@@ -19,4 +19,4 @@ returns-in-Ok c =
 pub returns-in-Err : goal.returns-in-Err
 unfolding run_bytes
 returns-in-Err c =
-    let refused = items_refused c.args.time c.args.s c.args.note.now 168 c.in-Err.refusal refl (rw c.note_of.ensures at (sym c.send.ensures.value ∙ c.in-Err.is)) in record { value = ap refused_by c.number.ensures ∙ refused.0; room_after = rw refused.1 }
+    let refused = items_refused c.args.time c.args.s c.args.note.now 168 c.in-Err.refusal refl (rw c.note_of.ensures at (sym c.send.ensures.value ∙ c.in-Err.is)) in record { value = refused.0; room_after = rw refused.1 }
