@@ -97,7 +97,8 @@ fn write(out: &impl Print, items: &[u8]) -> Result<(), Stop> {
 fn refused(refusal: Refusal, kind: Kind) -> &'static str {
     match (refusal, kind) {
         (Refusal::NoSuchSender, _) => "SENDER is over 253",
-        (Refusal::ValueOutOfRange, Kind::Heated | Kind::HeatedNoted) => "LOSS, SHAKE or HEAT is over 4095",
+        (Refusal::ValueOutOfRange, Kind::Heated | Kind::HeatedNoted) =>
+            "LOSS, SHAKE or HEAT is over 4095",
         (Refusal::ValueOutOfRange, _) => "LOSS or SHAKE is over 4095",
         _ => "the note is longer than 64 bytes",
     }
