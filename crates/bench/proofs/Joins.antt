@@ -12,8 +12,8 @@ use lib.Seq.{sets, sets-eq, take_all, take-nil, drop_at, drop-append-add, take-a
 use Rattle.wire.specs.Bytes.{number, bytes, part}
 use Rattle.report.specs.Payload.{read_payload}
 use Rattle.joining.specs.declared.Session.{Session}
-use Rattle.joining.specs.declared.Answer.{Answer}
-use Rattle.joining.specs.declared.Answer.TheVariants.{Kept}
+use Rattle.joining.specs.Answers.{Answer}
+use Rattle.std.specs.Prelude.{None, Ok}
 use Rattle.joining.specs.declared.Taken.{Taken}
 use Rattle.joining.specs.Frame.{sender_of, destination_of, format_of, zero_bits_of, malformed, foreign, frame_checked, frame_refusal}
 use Rattle.joining.specs.Joining.{packets, carries, opened, is_closed, is_open, fit, stored, yields, sound, announcement_checked, announcement_refusal, announce, packet, take_frame}
@@ -67,7 +67,7 @@ module _ (sender : ℕ) (known : sender ≤ 253) (format : ℕ) (d : List ℕ) (
   reached s h = rw (taken, h, in_format)
 
 -- An announcement of a size that ours can have opens the session with it.
-announce-opens : (s : Session) (n : ℕ) → carries n ≡ true → announce s (announcement n) ≡ record { answer = Kept; session = opened n }
+announce-opens : (s : Session) (n : ℕ) → carries n ≡ true → announce s (announcement n) ≡ record { answer = Ok None; session = opened n }
 unfolding announce announcement_refusal announcement_checked announcement sound bytes number
 announce-opens s n h =
     let range = carried_range n h in
@@ -106,7 +106,7 @@ module _ (sender : ℕ) (known : sender ≤ 253) (p : List ℕ) (ours : carries 
       rw (ours, eq-eqb (packets (length p)) (packets (length p)) refl, lt-ltb 0 (j + 1) (omega arith), le-leb (j + 1) (packets (length p)) (omega arith))
       (or-true (is_closed (midway j)))
 
-  packet_kept : (j : ℕ) → j + 1 < packets (length p) → packet (midway j) (packet_data p (j + 1)) ≡ record { answer = Kept; session = midway (j + 1) }
+  packet_kept : (j : ℕ) → j + 1 < packets (length p) → packet (midway j) (packet_data p (j + 1)) ≡ record { answer = Ok None; session = midway (j + 1) }
   unfolding packet midway midway_in packet_data
   packet_kept j h =
       let range = carried_range (length p) ours in
@@ -119,7 +119,7 @@ module _ (sender : ℕ) (known : sender ≤ 253) (p : List ℕ) (ours : carries 
       let whole : take (7 * (j + 1)) p ≡ p = take_all (7 * (j + 1)) p (omega arith) in
       rw (ne_eqb (length p) 0 (λ e. omega arith), eq-eqb (j + 1) (j + 1) refl, le-ltb (j + 1) (packets (length p)) (omega arith), midway_stores 89 p j range.1 (omega arith), whole, take-append_seam p)
 
-  announcement-step : (s : Session) → fit s ≡ true → solo_step s (opening sender p) ≡ record { answer = Kept; session = midway 0 }
+  announcement-step : (s : Session) → fit s ≡ true → solo_step s (opening sender p) ≡ record { answer = Ok None; session = midway 0 }
   unfolding midway midway_in
   announcement-step s h =
       reached sender known 236 (announcement (length p)) refl (lit≤ tt) (length-announcement (length p)) s h ∙ announce-opens s (length p) ours
@@ -130,7 +130,7 @@ module _ (sender : ℕ) (known : sender ≤ 253) (p : List ℕ) (ours : carries 
 
   -- The packets after the first j, from the session as those left it.
   packets_run : (n j : ℕ) → j + suc n ≡ packets (length p)
-      → (solo_answers (midway j) (packets_from sender p (j + 1) (suc n)) ≡ replicate n Kept ++ (yields (read_payload p) ∷ []))
+      → (solo_answers (midway j) (packets_from sender p (j + 1) (suc n)) ≡ replicate n (Ok None) ++ (yields (read_payload p) ∷ []))
       × (solo_session (midway j) (packets_from sender p (j + 1) (suc n)) ≡ ended)
   unfolding solo_answers solo_session packets_from
   packets_run zero j h =
@@ -140,13 +140,13 @@ module _ (sender : ℕ) (known : sender ≤ 253) (p : List ℕ) (ours : carries 
       let e = packet-step j (omega arith) ∙ packet_kept j (omega arith) in
       let rest = packets_from sender p (j + 1 + 1) (suc n) in
       let run = packets_run n (j + 1) (omega arith) in (
-        ap (λ (t : Taken). t.answer ∷ solo_answers t.session rest) e ∙ ap (λ (l : List Answer). Kept ∷ l) run.0,
+        ap (λ (t : Taken). t.answer ∷ solo_answers t.session rest) e ∙ ap (λ (l : List Answer). Ok None ∷ l) run.0,
         ap (λ (t : Taken). solo_session t.session rest) e ∙ run.1,
       )
 
   -- The frames of such a payload, taken by any fit session: each is kept, and the last one reads that payload, whole.
   pub joins : (s : Session) → fit s ≡ true
-      → (solo_answers s (frames sender p) ≡ replicate (packets (length p)) Kept ++ (yields (read_payload p) ∷ []))
+      → (solo_answers s (frames sender p) ≡ replicate (packets (length p)) (Ok None) ++ (yields (read_payload p) ∷ []))
       × (solo_session s (frames sender p) ≡ record { bytes = padded 89 p; size = 0; count = 0; next = 0 })
   unfolding solo_answers solo_session frames ended
   joins s h =
@@ -156,6 +156,6 @@ module _ (sender : ℕ) (known : sender ≤ 253) (p : List ℕ) (ours : carries 
       let e = announcement-step s h in
       let run = packets_run n 0 (omega arith) in
       rw all (
-        ap (λ (t : Taken). t.answer ∷ solo_answers t.session (packets_from sender p 1 (suc n))) e ∙ ap (λ (l : List Answer). Kept ∷ l) run.0,
+        ap (λ (t : Taken). t.answer ∷ solo_answers t.session (packets_from sender p 1 (suc n))) e ∙ ap (λ (l : List Answer). Ok None ∷ l) run.0,
         ap (λ (t : Taken). solo_session t.session (packets_from sender p 1 (suc n))) e ∙ run.1,
       )

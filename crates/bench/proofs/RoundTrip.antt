@@ -20,7 +20,6 @@ use Rattle.report.specs.Payload.{payload, plain_size, note_fits, size, edition_i
 use Rattle.report.proofs.Places.{plain_from, plain_to, size-payload}
 use Rattle.report.proofs.RoundTrip.{Permitted, write_read, same_note}
 use Rattle.joining.specs.declared.Session.{Session}
-use Rattle.joining.specs.declared.Answer.TheVariants.{Kept, Complete}
 use Rattle.joining.specs.Frame.{Frame, sender_of}
 use Rattle.joining.specs.Joining.{packets, carries, fit, size_held, payload_held}
 use Rattle.bench.specs.Bench.{identifier, carrier, opening, packets_from, frames, frame_bytes, frames_in, room_for, send_refusal, send_answer, sent}
@@ -58,14 +57,14 @@ held r note fits =
 -- The round trip: what the sender writes for a report that may be sent is kept frame by frame by any fit session, and its
 -- last packet yields that report. No frame is refused.
 module _ (sender : ℕ) (known : sender ≤ 253) (r : Report) (note : Option (List ℕ)) (may : Permitted r note) (s : Session) (ready : fit s ≡ true) where
-  run : (solo_answers s (frames sender (payload r note)) ≡ replicate (packets (size r.values.edition note)) Kept ++ (Complete r ∷ []))
+  run : (solo_answers s (frames sender (payload r note)) ≡ replicate (packets (size r.values.edition note)) (Ok None) ++ (Ok (Some r) ∷ []))
       × (solo_session s (frames sender (payload r note)) ≡ record { bytes = padded 89 (payload r note); size = 0; count = 0; next = 0 })
   run =
       let long = size-payload r note in
       let j = joins sender known (payload r note) (rw long (payload-carries r.values.edition note may.short)) s ready in
       (rw (long, write_read r note may) at j.0, j.1)
 
-  pub same-report : solo_answers s (frames sender (payload r note)) ≡ replicate (packets (size r.values.edition note)) Kept ++ (Complete r ∷ [])
+  pub same-report : solo_answers s (frames sender (payload r note)) ≡ replicate (packets (size r.values.edition note)) (Ok None) ++ (Ok (Some r) ∷ [])
   same-report = run.0
 
   -- The session is closed, its bytes are the payload and 255 behind it, ...
@@ -84,7 +83,7 @@ module _ (sender : ℕ) (known : sender ≤ 253) (r : Report) (note : Option (Li
 module _ (sender : ℕ) (known : sender ≤ 253) (r : Report) (note : Option (List ℕ)) (may : Permitted r note)
     (ss : List Session) (all : length ss ≡ 254) (ready : fit (session_of sender ss) ≡ true)
     (fs : List Frame) (own : own_frames sender fs ≡ frames sender (payload r note)) where
-  pub mixed_report : own_answers sender fs (answers_to_all ss fs) ≡ replicate (packets (size r.values.edition note)) Kept ++ (Complete r ∷ [])
+  pub mixed_report : own_answers sender fs (answers_to_all ss fs) ≡ replicate (packets (size r.values.edition note)) (Ok None) ++ (Ok (Some r) ∷ [])
   mixed_report = (mixing sender (omega arith) ss fs all).1 ∙ rw own (same-report sender known r note may (session_of sender ss) ready)
 
   pub mixed_payload : payload_held (session_of sender (sessions_after_all ss fs)).bytes ≡ payload r note
@@ -160,7 +159,7 @@ module _ (room : List ℕ) (sender : ℕ) (r : Report) (note : Option (List ℕ)
       rw (takes, one) (frames_back sender (sendable room sender r note own takes).0 (payload r note) _)
 
   pub sent-yields : (s : Session) → fit s ≡ true
-      → solo_answers s (frames_in (1 + packets (size r.values.edition note)) (sent room sender r note)) ≡ replicate (packets (size r.values.edition note)) Kept ++ (Complete r ∷ [])
+      → solo_answers s (frames_in (1 + packets (size r.values.edition note)) (sent room sender r note)) ≡ replicate (packets (size r.values.edition note)) (Ok None) ++ (Ok (Some r) ∷ [])
   sent-yields s ready =
       let may = sendable room sender r note own takes in
       rw sent-frames (same-report sender may.0 r note may.1 s ready)

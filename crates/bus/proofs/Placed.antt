@@ -13,9 +13,10 @@ use Rattle.std.specs.Prelude.{Ok, Err}
 use Rattle.refusal.specs.declared.Refusal.{Refusal}
 use Rattle.refusal.specs.Numbers.{number_of}
 use Rattle.refusal.proofs.Numbers.{number_above}
+use Rattle.refusal.proofs.Answers.{refusal_back}
 use Rattle.joining.specs.declared.Session.{Session}
-use Rattle.joining.specs.declared.Answer.{Answer}
-use Rattle.joining.specs.declared.Answer.TheVariants.{Refused}
+use Rattle.joining.specs.Answers.{Answer}
+use Rattle.refusal.specs.Answers.{refusal_of}
 use Rattle.joining.specs.declared.Taken.{Taken}
 use Rattle.joining.specs.Frame.{Frame, sender_of, frame_checked, frame_refusal}
 use Rattle.joining.specs.Joining.{place, is_closed, fit, closed, stored, refused, take_frame}
@@ -62,7 +63,7 @@ module _ (room : List ℕ) (id : ℕ) (d : List ℕ) (long : length room ≡ 233
   own = get_or sessions (sender_of id) nobody
 
   passed_over_lem : (b : Bool) → (frame_refusal id d ≡ 0 → ⊥)
-      → (Refused (frame_refusal id d) ≡ cond b (take_frame own id d).answer (Refused (frame_refusal id d)))
+      → (Err (refusal_of (frame_refusal id d)) ≡ cond b (take_frame own id d).answer (Err (refusal_of (frame_refusal id d))))
       × (room ≡ room_of (cond b (set sessions (sender_of id) (take_frame own id d).session) sessions))
   passed_over_lem true h =
       let t = passed_by own h in (
@@ -74,13 +75,15 @@ module _ (room : List ℕ) (id : ℕ) (d : List ℕ) (long : length room ≡ 233
       )
   passed_over_lem false h = (refl, sym (room_of_sessions 254 room long))
 
-  pub unheard : {n : ℕ} → n ≡ frame_refusal id d → (n ≡ 0 → ⊥) → (Refused n ≡ answer_to sessions frame) × (room ≡ room_of (sessions_after sessions frame))
+  pub unheard : {n : ℕ} → n ≡ frame_refusal id d → (n ≡ 0 → ⊥) → (Err (refusal_of n) ≡ answer_to sessions frame) × (room ≡ room_of (sessions_after sessions frame))
   unheard e h =
       let p = passed_over_lem (ltb (sender_of id) 254) (λ z. h (e ∙ z)) in
-      (ap Refused e ∙ p.0, p.1)
+      (ap (λ m. Err (refusal_of m)) e ∙ p.0, p.1)
 
-  pub stopped_at : (r : Refusal) → Err r ≡ frame_checked id d → (Refused (number_of r) ≡ answer_to sessions frame) × (room ≡ room_of (sessions_after sessions frame))
-  stopped_at r e = unheard (sym (frame_stopped id d e)) (λ z. absurd (omega (arith, z, number_above r)))
+  pub stopped_at : (r : Refusal) → Err r ≡ frame_checked id d → (Err r ≡ answer_to sessions frame) × (room ≡ room_of (sessions_after sessions frame))
+  stopped_at r e =
+      let both = unheard (sym (frame_stopped id d e)) (λ z. absurd (omega (arith, z, number_above r))) in
+      (sym (ap (λ f. Err f) (refusal_back r)) ∙ both.0, both.1)
 
   pub heard : {r : Answer} {q : List ℕ} → frame_refusal id d ≡ 0 → r ≡ (take_frame (session_in (drop (92 * sender_of id) room)) id d).answer
       → q ≡ (take (92 * sender_of id) room ++ session_bytes (take_frame (session_in (drop (92 * sender_of id) room)) id d).session) ++ drop (92 * sender_of id + 92) room

@@ -6,8 +6,8 @@ use Prim.Native.Nat.{ℕ, ◌<◌}
 use lib.ListN.{length, get_or}
 use Rattle.report.specs.declared.Report.{Report}
 use Rattle.joining.specs.declared.Session.{Session}
-use Rattle.joining.specs.declared.Answer.{Answer}
-use Rattle.joining.specs.declared.Answer.TheVariants.{Complete}
+use Rattle.joining.specs.Answers.{Answer}
+use Rattle.std.specs.Prelude.{Some, Ok}
 use Rattle.joining.specs.Frame.{Frame, sender_of}
 use Rattle.joining.specs.Run.{fresh_sessions, session_of, sessions_after, answer_to, sessions_after_all, answers_to_all, solo_session, solo_answers, own_frames, own_answers, OfSender, Sent}
 use Rattle.joining.proofs.Mixing.{mixing}
@@ -42,7 +42,7 @@ mixing_lent k known room fs l =
 
 -- And no report is made up, where all sessions that stand there are fresh.
 pub no_made_up_report_lent : (room : List ℕ) → length room ≡ room_bytes → sessions_in room ≡ fresh_sessions
-    → (fs : List Frame) (f : Frame) (gs : List Frame) (d : Answer) (r : Report) → get_or (room_answers room (fs ++ (f ∷ gs))) (length fs) d ≡ Complete r
+    → (fs : List Frame) (f : Frame) (gs : List Frame) (d : Answer) (r : Report) → get_or (room_answers room (fs ++ (f ∷ gs))) (length fs) d ≡ Ok (Some r)
     → (sent : Sent (own_frames (sender_of f.identifier) fs) f r) × OfSender (sender_of f.identifier) (sent.announced ∷ sent.middle)
 no_made_up_report_lent room l fresh fs f gs d r h =
     no_made_up_report fs f gs d r

@@ -1,7 +1,7 @@
 -- All sessions in one array of bytes that a caller lends: 92 bytes for each sender, in their order.
 use Rattle.std.specs.Prelude.{ℕ, zero, suc, ◌+◌, List, [], ◌∷◌, ◌++◌, get_or, take, drop}
 use Rattle.joining.specs.declared.Session.{Session}
-use Rattle.joining.specs.declared.Answer.{Answer}
+use Rattle.joining.specs.Answers.{Answer}
 use Rattle.joining.specs.Frame.{Frame}
 use Rattle.report.specs.Payload.{largest_payload}
 use Rattle.joining.specs.Run.{senders, sessions_after, answer_to}

@@ -121,9 +121,7 @@ fn take_in(room: &mut [u8], id: u32, data: &[u8]) -> Answer
     ensures value { result ≡ answer_to (sessions_in room.old) (record { identifier = id; data_bytes = «data».now }) }
     ensures room_after { room.new ≡ room_of (sessions_after (sessions_in room.old) (record { identifier = id; data_bytes = «data».now })) }
 {
-    if let Err(refusal) = joining::frame_refusal(id, data) {
-        return Answer::Refused(refusal.number());
-    }
+    joining::frame_refusal(id, data)?;
     advance_in(room, Bus::PLACE * ((id % 256) as usize), id, data)
 }
 
@@ -185,7 +183,7 @@ fn advance_at(place: &mut [u8], id: u32, data: &[u8]) -> Answer
     ensures place_after { place.new ≡ session_bytes (take_frame (session_in place.old) id «data».now).session }
 {
     if !joining::numbers_fit(place[Bus::SIZE], place[Bus::COUNT], place[Bus::NEXT]) {
-        return Answer::Refused(Refusal::Unfit.number());
+        return Err(Refusal::Unfit);
     }
     if id / 65536 % 256 == Frame::ANNOUNCEMENT {
         announced_at(place, data)
@@ -222,10 +220,10 @@ fn announced_at(place: &mut [u8], data: &[u8]) -> Answer
         if refusal != Refusal::NotAnAnnouncement {
             close_at(place);
         }
-        return Answer::Refused(refusal.number());
+        return Err(refusal);
     }
     open_at(place, wire::read16(data, 1));
-    Answer::Kept
+    Ok(None)
 }
 
 // Opens the session for a payload of this size, replacing what was under way.
@@ -257,16 +255,16 @@ fn packet_at(place: &mut [u8], data: &[u8]) -> Answer
     let count = place[Bus::COUNT];
     let next = place[Bus::NEXT];
     if size == 0 {
-        return Answer::Refused(Refusal::NotOpen.number());
+        return Err(Refusal::NotOpen);
     }
     if wire::byte(data, 0) != next {
         close_at(place);
-        return Answer::Refused(Refusal::OutOfSequence.number());
+        return Err(Refusal::OutOfSequence);
     }
     joining::store(place, size, next - 1, data);
     if next < count {
         put_numbers(place, size, count, next + 1);
-        return Answer::Kept;
+        return Ok(None);
     }
     finish_at(place, size)
 }

@@ -86,9 +86,9 @@ impl Senders {
         let [sender, ..] = heard.id.to_le_bytes();
         let size = usize::from(wire::byte(self.place(sender), Bus::SIZE));
         match self.take(heard) {
-            Answer::Refused(code) => refused(out, code),
-            Answer::Kept => put(out, 0, b"kept"),
-            Answer::Complete(report) => {
+            Err(refusal) => refused(out, refusal.number()),
+            Ok(None) => put(out, 0, b"kept"),
+            Ok(Some(report)) => {
                 put_report(report, wire::front(self.place(sender), size), out)
             }
         }

@@ -3,7 +3,7 @@
 use mathlib.Core.Path.{◌≡◌, refl}
 use mathlib.Core.Bool.{cond}
 use mathlib.Core.List.{List}
-use Prim.Native.Nat.{ℕ}
+use Prim.Native.Nat.{ℕ, zero, suc, ◌≤◌}
 use native.Mathlib.Omega.{arith}
 use borrow.Author.Tests.{ne_eqb}
 use lib.Dec.{eqb}
@@ -14,10 +14,11 @@ use Rattle.std.specs.Result.{result_and}
 use Rattle.refusal.specs.Numbers.{number_of, number_in}
 use Rattle.refusal.proofs.Numbers.{number_above}
 use Rattle.report.specs.Answers.{reading_fields}
-use Rattle.joining.specs.declared.Answer.TheVariants.{Refused, Kept, Complete}
+use Rattle.std.specs.Prelude.{Some, None}
+use Rattle.refusal.specs.Answers.{refusal_of}
 use Rattle.joining.specs.Frame.{sender_of, frame_checked, frame_refusal, sender_in}
 use Rattle.joining.specs.Joining.{yields}
-use Rattle.joining.specs.Answers.{answer_fields, sender_fields}
+use Rattle.joining.specs.Answers.{Answer, answer_fields, sender_fields}
 
 -- `Frame::sender` has the number of `frame_refusal`, and where that isn't 0 the sender is 0.
 pub sender_fields_lem : (id : ℕ) (d : List ℕ)
@@ -36,13 +37,32 @@ last_packet (Ok r) = refl
 last_packet (Err e) = refl
 
 -- A refusal and a kept frame are no report, ...
-pub refuses : {r : Report} (n : ℕ) → Refused n ≡ Complete r → ⊥
-refuses n e = let z : ◌≡◌ {A = ℕ} 0 1 = cc in omega arith
+pub errs : {r : Report} (n : Refusal) → ◌≡◌ {A = Answer} (Err n) (Ok (Some r)) → ⊥
+errs n e = let z : ◌≡◌ {A = ℕ} 0 1 = cc in omega arith
 
-pub keeps : {r : Report} → Kept ≡ Complete r → ⊥
+pub refuses : {r : Report} (n : ℕ) → ◌≡◌ {A = Answer} (Err (refusal_of n)) (Ok (Some r)) → ⊥
+refuses n e = errs (refusal_of n) e
+
+pub keeps : {r : Report} → ◌≡◌ {A = Answer} (Ok None) (Ok (Some r)) → ⊥
 keeps e = let z : ◌≡◌ {A = ℕ} 0 1 = cc in omega arith
 
 -- ... and one that a payload yields is the one that was read from it.
-pub accepts : (r : Report) (y : Result Report Refusal) → yields y ≡ Complete r → y ≡ Ok r
+pub accepts : (r : Report) (y : Result Report Refusal) → yields y ≡ Ok (Some r) → y ≡ Ok r
 accepts r (Ok q) e = cc
-accepts r (Err n) e = absurd (refuses (number_of n) e)
+accepts r (Err n) e = absurd (errs n e)
+
+-- The refusal of a number from 1 to 10 has that number.
+pub number_back : (n : ℕ) → 1 ≤ n → n ≤ 10 → number_of (refusal_of n) ≡ n
+unfolding refusal_of
+number_back zero l u = absurd (omega arith)
+number_back (suc zero) l u = refl
+number_back (suc (suc zero)) l u = refl
+number_back (suc (suc (suc zero))) l u = refl
+number_back (suc (suc (suc (suc zero)))) l u = refl
+number_back (suc (suc (suc (suc (suc zero))))) l u = refl
+number_back (suc (suc (suc (suc (suc (suc zero)))))) l u = refl
+number_back (suc (suc (suc (suc (suc (suc (suc zero))))))) l u = refl
+number_back (suc (suc (suc (suc (suc (suc (suc (suc zero)))))))) l u = refl
+number_back (suc (suc (suc (suc (suc (suc (suc (suc (suc zero))))))))) l u = refl
+number_back (suc (suc (suc (suc (suc (suc (suc (suc (suc (suc zero)))))))))) l u = refl
+number_back (suc (suc (suc (suc (suc (suc (suc (suc (suc (suc (suc n))))))))))) l u = absurd (omega arith)

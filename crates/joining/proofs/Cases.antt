@@ -10,7 +10,7 @@ use lib.ListN.{get_or}
 use lib.Dec.{lit≤, ltb, eqb}
 use Rattle.wire.specs.Bytes.{number, part}
 use Rattle.joining.specs.declared.Session.{Session}
-use Rattle.joining.specs.declared.Answer.TheVariants.{Kept}
+use Rattle.std.specs.Prelude.{None, Ok}
 use Rattle.joining.specs.Frame.{Frame, destination_of, zero_bits_of, frame_refusal, is_announcement, is_packet, foreign}
 use Rattle.joining.specs.Joining.{carries, fit, closed, opened, stored, advanced, finishes, refused, size_in, sound, announcement_checked, announcement_refusal, announce, packet, take_frame}
 use Rattle.joining.specs.Run.{solo_step, is_passed_over, Announces, Numbered}
@@ -22,9 +22,9 @@ pub data Case (s : Session) (f : Frame) : Type 0 where
   shut : (n : ℕ) → is_passed_over f ≡ false → solo_step s f ≡ refused n (closed s) → Case s f
   stray : is_passed_over f ≡ false → s.size ≡ 0 → solo_step s f ≡ refused 8 s → Case s f
   good : is_passed_over f ≡ false → carries (size_in f.data_bytes) ≡ true → Announces (size_in f.data_bytes) f
-      → solo_step s f ≡ record { answer = Kept; session = opened (size_in f.data_bytes) } → Case s f
+      → solo_step s f ≡ record { answer = Ok None; session = opened (size_in f.data_bytes) } → Case s f
   next : is_passed_over f ≡ false → (s.size ≡ 0 → ⊥) → Numbered s.next f → s.next < s.count
-      → solo_step s f ≡ record { answer = Kept; session = advanced s f.data_bytes } → Case s f
+      → solo_step s f ≡ record { answer = Ok None; session = advanced s f.data_bytes } → Case s f
   last : is_passed_over f ≡ false → (s.size ≡ 0 → ⊥) → Numbered s.next f → s.count ≤ s.next
       → solo_step s f ≡ finishes (stored s f.data_bytes) s.size → Case s f
 
@@ -60,7 +60,7 @@ module _ (f : Frame) where
 
   -- The tests that a good announcement passes.
   opening : fine ≡ true → is_announcement f.identifier ≡ true → first ≡ true → sound f.data_bytes ≡ true → group ≡ true → carries (size_in f.data_bytes) ≡ true
-      → (s : Session) → fit s ≡ true → solo_step s f ≡ record { answer = Kept; session = opened (size_in f.data_bytes) }
+      → (s : Session) → fit s ≡ true → solo_step s f ≡ record { answer = Ok None; session = opened (size_in f.data_bytes) }
   unfolding announce announcement_refusal announcement_checked
   opening well a e₄ e₅ e₆ e₇ s fits = as_announcement well s fits a ∙ rw (e₄, e₅, e₆, e₇)
 

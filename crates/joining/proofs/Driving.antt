@@ -5,7 +5,7 @@ use mathlib.Core.List.{List, [], ◌∷◌, ◌++◌}
 use Prim.Native.Nat.{suc}
 use lib.ListN.{length}
 use Rattle.joining.specs.declared.Session.{Session}
-use Rattle.joining.specs.declared.Answer.{Answer}
+use Rattle.joining.specs.Answers.{Answer}
 use Rattle.joining.specs.Frame.{Frame}
 use Rattle.joining.specs.Run.{sessions_after, answer_to, sessions_after_all, answers_to_all}
 

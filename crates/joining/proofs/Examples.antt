@@ -10,10 +10,10 @@ use Rattle.wire.specs.Bytes.{number, bytes, head, field}
 use Rattle.values.specs.Range.{in_range}
 use Rattle.values.specs.declared.Edition.TheVariants.{First, Second}
 use Rattle.report.specs.declared.Report.{Report}
-use Rattle.refusal.specs.declared.Refusal.TheVariants.{NotAPayload}
+use Rattle.refusal.specs.declared.Refusal.TheVariants.{NotAPayload, OutOfSequence}
 use Rattle.report.specs.Payload.{payload, read_payload, is_payload, in_order, note_fits, note_in, edition_in, report_in}
 use Rattle.joining.specs.declared.Session.{Session}
-use Rattle.joining.specs.declared.Answer.TheVariants.{Refused, Kept}
+use Rattle.refusal.specs.Answers.{refusal_of}
 use Rattle.joining.specs.declared.Taken.{Taken}
 use Rattle.joining.specs.Frame.{Frame, frame_checked, frame_refusal, malformed, foreign}
 use Rattle.joining.specs.Joining.{fit, is_closed, is_open, carries, closed, opened, refused, sound, announcement_checked, announcement_refusal, announce, packet, take_frame}
@@ -58,9 +58,9 @@ pub record Examples : Type 0 where
   -- P3: a size that no payload of ours has, refusal 7.
   pub p3 : (s : Session) → fit s ≡ true → solo_step s (sized 18 0 3) ≡ refused 7 (closed s)
   -- P4: the same packet twice, refusal 9.
-  pub p4 : (s : Session) → fit s ≡ true → solo_answers s (sized 17 0 3 ∷ first ∷ first ∷ []) ≡ Kept ∷ Kept ∷ Refused 9 ∷ []
+  pub p4 : (s : Session) → fit s ≡ true → solo_answers s (sized 17 0 3 ∷ first ∷ first ∷ []) ≡ Ok None ∷ Ok None ∷ Err OutOfSequence ∷ []
   -- The edges of the size: 89 opens the session, 90 is refused 7.
-  pub size89 : (s : Session) → fit s ≡ true → solo_step s (sized 89 0 13) ≡ record { answer = Kept; session = opened 89 }
+  pub size89 : (s : Session) → fit s ≡ true → solo_step s (sized 89 0 13) ≡ record { answer = Ok None; session = opened 89 }
   pub size90 : (s : Session) → fit s ≡ true → solo_step s (sized 90 0 13) ≡ refused 7 (closed s)
   -- Rule 17.2: a payload of each edition, without a note and with one, byte for byte.
   pub first-bytes : payload (report 100 200 7) None ≡ numbers []
@@ -81,12 +81,12 @@ pub record Examples : Type 0 where
   pub loss4095 : read_payload (payload (report 4095 0 0) None) ≡ Ok (report 4095 0 0)
   pub loss4096 : read_payload (payload (report 4096 0 0) None) ≡ Err NotAPayload
 
-opens17 : (s : Session) → fit s ≡ true → solo_step s (sized 17 0 3) ≡ record { answer = Kept; session = opened 17 }
+opens17 : (s : Session) → fit s ≡ true → solo_step s (sized 17 0 3) ≡ record { answer = Ok None; session = opened 17 }
 unfolding number take_frame frame_refusal frame_checked malformed foreign announce announcement_refusal announcement_checked sound carries
 opens17 s fits = rw fits
 
 pub examples : Examples
-unfolding payload field head bytes number read_payload is_payload in_order in_range note_fits note_in edition_in report_in solo_answers take_frame frame_refusal frame_checked malformed foreign announce announcement_refusal announcement_checked packet sound carries fit is_closed is_open
+unfolding payload field head bytes number read_payload is_payload in_order in_range note_fits note_in edition_in report_in solo_answers take_frame frame_refusal frame_checked malformed foreign announce announcement_refusal announcement_checked packet sound carries fit is_closed is_open refusal_of
 examples =
     record {
       p2 = λ s fits. rw fits;

@@ -22,7 +22,7 @@ use Rattle.report.specs.Payload.{plain_size, edition_in, plain_in, read_payload}
 use Rattle.report.proofs.Places.{plain_from, plain_to, Shown, order_shows}
 use Rattle.report.proofs.Reader.{accepted, order_of}
 use Rattle.joining.specs.declared.Session.{Session}
-use Rattle.joining.specs.declared.Answer.TheVariants.{Complete}
+use Rattle.std.specs.Prelude.{Some}
 use Rattle.joining.specs.Frame.{Frame}
 use Rattle.joining.specs.Joining.{fit, place, stored, size_held, payload_held, fresh_session}
 use Rattle.joining.specs.Run.{solo_step, solo_session, fresh_sessions, session_of, sessions_after_all, own_frames}
@@ -138,7 +138,7 @@ module _ (b : List ℕ) (size : ℕ) (long : length b ≡ 89) (within : size ≤
       s.rest
 
 -- Where a frame completes a report, the session's bytes hold the payload that it was read from, so its note is that report's.
-pub held_payload : (s : Session) (f : Frame) (r : Report) → fit s ≡ true → Clean s → (solo_step s f).answer ≡ Complete r
+pub held_payload : (s : Session) (f : Frame) (r : Report) → fit s ≡ true → Clean s → (solo_step s f).answer ≡ Ok (Some r)
     → (payload_held (solo_step s f).session.bytes ≡ take s.size (stored s f.data_bytes)) × (read_payload (payload_held (solo_step s f).session.bytes) ≡ Ok r)
 unfolding payload_held
 held_payload s f r fits c h = go (cases s f fits)

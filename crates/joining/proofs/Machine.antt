@@ -14,21 +14,39 @@ use denote.Laws.{Is, Makes, shows}
 use denote.Memory.{cell_at, part_at, part_of}
 use denote.Steps.{owned}
 use denote.Enum.Laws as EL
+use denote.Enum.Declared.{Declared}
+use denote.RattleType.{RattleType}
 use denote.Struct.Steps.{spelt}
 use denote.Struct.Laws as LL
-use Rattle.joining.specs.declared.Answer.{Answer}
+use Rattle.joining.specs.Answers.{Answer}
 use Rattle.joining.specs.declared.Session.{Session}
 use Rattle.joining.specs.declared.Taken.{Taken}
-use Rattle.joining.specs.contracts.Answer as R
-use Rattle.joining.proofs.Answer.TheLaws as R'
+use Rattle.std.specs.contracts.option.Option as O
+use Rattle.std.proofs.option.Option.TheLaws as O'
+use Rattle.std.specs.contracts.result.Result as R
+use Rattle.std.proofs.result.Result.TheLaws as R'
+use Rattle.report.specs.contracts.Report as P
+use Rattle.report.proofs.Report.TheLaws as P'
+use Rattle.refusal.specs.contracts.Refusal as F
+use Rattle.refusal.proofs.Refusal.TheLaws as F'
 use Rattle.joining.specs.contracts.Session as S
 use Rattle.joining.proofs.Session.TheLaws as S'
 use Rattle.joining.specs.contracts.Taken as T
 use Rattle.joining.proofs.Taken.TheLaws as T'
 
+-- The row of an answer, and its laws.
+abbrev answer_type : Declared
+answer_type = R.the_type (O.the_row P.the_row) F.the_row
+
+abbrev answer_row : RattleType
+answer_row = R.the_row (O.the_row P.the_row) F.the_row
+
+abbrev answer_laws : EL.Laws answer_type
+answer_laws = R'.the_laws (O.the_row P.the_row) F.the_row (O'.the_row_laws P.the_row P'.the_row_laws) F'.the_row_laws (O'.the_told P.the_row P'.the_row_laws P'.the_told) F'.the_told
+
 -- The machine values.
 abbrev pub answer_val : Answer → Val
-answer_val = EL.val R.the_type R'.the_laws
+answer_val = EL.val answer_type answer_laws
 
 abbrev pub session_val : Session → Val
 session_val = LL.val S.the_type S'.the_laws
@@ -38,7 +56,7 @@ taken_val = LL.val T.the_type T'.the_laws
 
 -- That a machine value is its own: what the type's relation says of it.
 abbrev pub IsAnswer : Answer → Type 0
-IsAnswer a = Is R.the_row a (answer_val a ∷ [])
+IsAnswer a = Is answer_row a (answer_val a ∷ [])
 
 abbrev pub IsSession : Session → Type 0
 IsSession h = Is S.the_row h (session_val h ∷ [])
@@ -53,13 +71,13 @@ answer_of_lem r {us} is = (LL.owed T.the_type T'.the_laws r us is).0
 pub session_of_lem : (r : Taken) {us : List Val} → Is T.the_row r us → IsSession r.session
 session_of_lem r {us} is = (LL.owed T.the_type T'.the_laws r us is).1.0
 
-pub taken_of : (r : Taken) {us : List Val} → Is R.the_row r.answer us → IsSession r.session → IsTaken r
-taken_of r {us} a s = LL.owes T.the_type T'.the_laws r (subst (Is R.the_row r.answer) (EL.tells R.the_type R'.the_laws r.answer us a) a, (s, tt))
+pub taken_of : (r : Taken) {us : List Val} → Is answer_row r.answer us → IsSession r.session → IsTaken r
+taken_of r {us} a s = LL.owes T.the_type T'.the_laws r (subst (Is answer_row r.answer) (EL.tells answer_type answer_laws r.answer us a) a, (s, tt))
 
 module _ {M : Type 1} {𝓤 : Ura M} (𝓛 : Logic 𝓤) where
   -- Each of the three owns nothing but facts.
-  pub makes_answer : Makes 𝓛 R.the_row (Is R.the_row)
-  makes_answer = EL.makes R.the_type R'.the_plain 𝓛
+  pub makes_answer : Makes 𝓛 answer_row (Is answer_row)
+  makes_answer = EL.makes answer_type (R'.the_plain (O.the_row P.the_row) F.the_row (O'.the_row_plain P.the_row P'.the_row_plain) F'.the_row_plain) 𝓛
 
   pub makes_session : Makes 𝓛 S.the_row (Is S.the_row)
   makes_session = LL.makes S.the_type S'.the_plain 𝓛

@@ -15,8 +15,9 @@ use Rattle.report.specs.Payload.{read_payload, report_in}
 use Rattle.report.specs.declared.Report.{Report}
 use Rattle.report.proofs.Reader.{accepted}
 use Rattle.joining.specs.declared.Session.{Session}
-use Rattle.joining.specs.declared.Answer.{Answer}
-use Rattle.joining.specs.declared.Answer.TheVariants.{Refused, Complete}
+use Rattle.joining.specs.Answers.{Answer}
+use Rattle.std.specs.Prelude.{Some, Ok, Err}
+use Rattle.refusal.specs.Answers.{refusal_of}
 use Rattle.joining.specs.Frame.{Frame, sender_of, frame_refusal}
 use Rattle.joining.specs.Joining.{packets, fresh_session, is_closed, fit, opened, place, stored, advanced}
 use Rattle.joining.specs.Run.{fresh_sessions, session_of, sessions_after, answer_to, sessions_after_all, answers_to_all, solo_step, solo_session, own_frames, OfSender, is_passed_over, heard, Announces, Numbered, InSequence, joined, Sent}
@@ -183,7 +184,7 @@ solo_traced s (f ∷ fs) h fits t =
     more false = sym (append_assoc h (f ∷ []) (heard fs))
 
 -- A sender's answer is a report at the last packet only.
-complete : (s : Session) (own : List Frame) (f : Frame) (r : Report) → fit s ≡ true → Traced s (heard own) → (solo_step s f).answer ≡ Complete r → Sent own f r
+complete : (s : Session) (own : List Frame) (f : Frame) (r : Report) → fit s ≡ true → Traced s (heard own) → (solo_step s f).answer ≡ Ok (Some r) → Sent own f r
 complete s own f r fits t done = go (cases s f fits)
   where
     go : Case s f → Sent own f r
@@ -208,7 +209,7 @@ complete s own f r fits t done = go (cases s f fits)
         }
 
 -- One sender's frames fs at a closed session, and then f: where f yields a report, the announcement and all packets that it was read from are among them.
-pub sent_alone : (s : Session) (fs : List Frame) (f : Frame) (r : Report) → is_closed s ≡ true → (solo_step (solo_session s fs) f).answer ≡ Complete r → Sent fs f r
+pub sent_alone : (s : Session) (fs : List Frame) (f : Frame) (r : Report) → is_closed s ≡ true → (solo_step (solo_session s fs) f).answer ≡ Ok (Some r) → Sent fs f r
 unfolding fit is_closed
 sent_alone s fs f r c =
     let fits : fit s ≡ true = rw c in
@@ -238,11 +239,11 @@ behind_of k [] gs h = h
 behind_of k (f ∷ fs) gs h = behind_of k fs gs h.1
 
 -- A frame that isn't refused 3 is of a sender that has a session.
-known_sender : (ss : List Session) (f : Frame) (r : Report) → answer_to ss f ≡ Complete r → sender_of f.identifier < 254
+known_sender : (ss : List Session) (f : Frame) (r : Report) → answer_to ss f ≡ Ok (Some r) → sender_of f.identifier < 254
 known_sender ss f r = go (ltb (sender_of f.identifier) 254) refl
   where
     go : (b : Bool) → ltb (sender_of f.identifier) 254 ≡ b
-        → cond b (solo_step (session_of (sender_of f.identifier) ss) f).answer (Refused (frame_refusal f.identifier f.data_bytes)) ≡ Complete r
+        → cond b (solo_step (session_of (sender_of f.identifier) ss) f).answer (Err (refusal_of (frame_refusal f.identifier f.data_bytes))) ≡ Ok (Some r)
         → sender_of f.identifier < 254
     go true e h = ltb-true _ _ e
     go false e h = absurd (refuses _ h)
@@ -253,7 +254,7 @@ fresh-closed = refl
 
 -- The whole bus, all sessions fresh: where f yields a report after the frames fs of whatever senders, then f's own sender sent the announcement and,
 -- since then, exactly the packets that the report was read from, in sequence.
-pub sent_by_one : (fs : List Frame) (f : Frame) (r : Report) → answer_to (sessions_after_all fresh_sessions fs) f ≡ Complete r
+pub sent_by_one : (fs : List Frame) (f : Frame) (r : Report) → answer_to (sessions_after_all fresh_sessions fs) f ≡ Ok (Some r)
     → (sent : Sent (own_frames (sender_of f.identifier) fs) f r) × OfSender (sender_of f.identifier) (sent.announced ∷ sent.middle)
 sent_by_one fs f r h =
     let k : ℕ = sender_of f.identifier in
@@ -272,7 +273,7 @@ answer_at ss [] f gs d = refl
 answer_at ss (g ∷ fs) f gs d = answer_at (sessions_after ss g) fs f gs d
 
 -- No made-up report: whatever was sent before and after by whom, where a run answers f with a report, f's own sender sent all that it was read from.
-pub no_made_up_report : (fs : List Frame) (f : Frame) (gs : List Frame) (d : Answer) (r : Report) → get_or (answers_to_all fresh_sessions (fs ++ (f ∷ gs))) (length fs) d ≡ Complete r
+pub no_made_up_report : (fs : List Frame) (f : Frame) (gs : List Frame) (d : Answer) (r : Report) → get_or (answers_to_all fresh_sessions (fs ++ (f ∷ gs))) (length fs) d ≡ Ok (Some r)
     → (sent : Sent (own_frames (sender_of f.identifier) fs) f r) × OfSender (sender_of f.identifier) (sent.announced ∷ sent.middle)
 no_made_up_report fs f gs d r h = sent_by_one fs f r (sym (answer_at fresh_sessions fs f gs d) ∙ h)
 

@@ -10,7 +10,7 @@ use lib.ListN.{length, set, length-set}
 use lib.Seq.{get_or-set_same, get_or-set_other, set-get_or}
 use lib.Dec.{ltb, eqb}
 use Rattle.joining.specs.declared.Session.{Session}
-use Rattle.joining.specs.declared.Answer.{Answer}
+use Rattle.joining.specs.Answers.{Answer}
 use Rattle.joining.specs.Frame.{Frame, sender_of, frame_refusal}
 use Rattle.joining.specs.Joining.{take_frame}
 use Rattle.joining.specs.Run.{nobody, session_of, sessions_after, answer_to, sessions_after_all, answers_to_all, solo_step, solo_session, solo_answers, own_frames, own_answers}

@@ -14,7 +14,7 @@ use Rattle.refusal.specs.declared.Refusal.TheVariants.{NotAnAnnouncement, BadSiz
 use Rattle.refusal.specs.Numbers.{number_of, number_in}
 use Rattle.wire.specs.Bytes.{number, part}
 use Rattle.joining.specs.declared.Session.{Session}
-use Rattle.joining.specs.declared.Answer.TheVariants.{Kept}
+use Rattle.std.specs.Prelude.{None}
 use Rattle.refusal.specs.Answers.{refusal_of}
 use Rattle.refusal.proofs.Numbers.{number_above}
 use Rattle.refusal.proofs.Answers.{refusal_back}
@@ -38,7 +38,7 @@ is_4 r e = sym (refusal_back r) ∙ ap refusal_of e ∙ refusal_back NotAnAnnoun
 
 -- An announcement that is not refused opens the session; refusal 4 leaves it, the others close it.
 module _ (s : Session) (d : List ℕ) where
-  pub opens : announcement_refusal d ≡ 0 → announce s d ≡ record { answer = Kept; session = opened (size_in d) }
+  pub opens : announcement_refusal d ≡ 0 → announce s d ≡ record { answer = Ok None; session = opened (size_in d) }
   unfolding announce
   opens e = rw (eq-eqb _ _ e)
 
@@ -89,7 +89,7 @@ module _ (s : Session) (d : List ℕ) where
     unfolding packet
     stray n = rw (ne_eqb _ _ o, ← e, ne_eqb _ _ n)
 
-    pub kept : b ≡ s.next → s.next < s.count → packet s d ≡ record { answer = Kept; session = advanced s d }
+    pub kept : b ≡ s.next → s.next < s.count → packet s d ≡ record { answer = Ok None; session = advanced s d }
     unfolding packet
     kept n l = rw (ne_eqb _ _ o, ← e, eq-eqb _ _ n, lt-ltb _ _ l)
 

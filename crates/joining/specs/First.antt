@@ -4,8 +4,8 @@ use Rattle.std.specs.Prelude.{ℕ, Bool, cond, not, ◌&&◌, ◌||◌, List, []
 use Rattle.wire.specs.Bytes.{number, part}
 use Rattle.report.specs.First.{read_first}
 use Rattle.joining.specs.declared.Session.{Session}
-use Rattle.joining.specs.declared.Answer.{Answer}
-use Rattle.joining.specs.declared.Answer.TheVariants.{Kept}
+use Rattle.joining.specs.Answers.{Answer}
+use Rattle.std.specs.Prelude.{None, Ok}
 use Rattle.joining.specs.declared.Taken.{Taken}
 use Rattle.joining.specs.Frame.{Frame, frame_refusal, is_announcement}
 use Rattle.joining.specs.Joining.{packets, is_closed, closed, stored, advanced, yields, refused, size_in, sound}
@@ -27,13 +27,13 @@ announce_first s d =
     (cond (not (sound d)) (refused 5 (closed s))
     (cond (not (eqb (number (part 5 3 d)) 65300)) (refused 6 (closed s))
     (cond (not (carries_first (size_in d))) (refused 7 (closed s))
-    (record { answer = Kept; session = opened_first (size_in d) }))))
+    (record { answer = Ok None; session = opened_first (size_in d) }))))
 
 unfoldable pub packet_first : Session → List ℕ → Taken
 packet_first s d =
     cond (eqb s.size 0) (refused 8 s)
     (cond (not (eqb (get_or d 0 0) s.next)) (refused 9 (closed s))
-    (cond (ltb s.next s.count) (record { answer = Kept; session = advanced s d })
+    (cond (ltb s.next s.count) (record { answer = Ok None; session = advanced s d })
     (record { answer = yields (read_first (take s.size (stored s d))); session = closed (advanced s d) })))
 
 unfoldable pub take_first : Session → Frame → Taken

@@ -8,8 +8,9 @@ use Rattle.refusal.specs.declared.Refusal.{Refusal}
 use Rattle.refusal.specs.declared.Refusal.TheVariants.{NotAnAnnouncement, BadSize, OtherGroup, OtherSize}
 use Rattle.refusal.specs.Numbers.{number_of, number_in}
 use Rattle.joining.specs.declared.Session.{Session}
-use Rattle.joining.specs.declared.Answer.{Answer}
-use Rattle.joining.specs.declared.Answer.TheVariants.{Refused, Kept, Complete}
+use Rattle.joining.specs.Answers.{Answer}
+use Rattle.std.specs.Prelude.{Some, None}
+use Rattle.refusal.specs.Answers.{refusal_of}
 use Rattle.joining.specs.declared.Taken.{Taken}
 use Rattle.joining.specs.Frame.{frame_refusal, is_announcement}
 
@@ -57,8 +58,8 @@ advanced s d = record { bytes = stored s d; size = s.size; count = s.count; next
 
 -- The reader's answer as the frame's: a report, or refusal 10.
 abbrev pub yields : Result Report Refusal → Answer
-yields (Ok r) = Complete r
-yields (Err e) = Refused (number_of e)
+yields (Ok r) = Ok (Some r)
+yields (Err e) = Err e
 
 -- Rule 3.6: the last packet closes the session, and its payload is read from the bytes as they then stand.
 abbrev pub finishes : List ℕ → ℕ → Taken
@@ -69,7 +70,7 @@ finishes bs size =
     }
 
 abbrev pub refused : ℕ → Session → Taken
-refused n s = record { answer = Refused n; session = s }
+refused n s = record { answer = Err (refusal_of n); session = s }
 
 -- Rule 2.4: the size that an announcement's data say.
 abbrev pub size_in : List ℕ → ℕ
@@ -94,7 +95,7 @@ announcement_refusal d = number_in (announcement_checked d)
 -- Rule 3.4: an announcement that isn't refused opens the session, also one that was open; refusal 4 changes nothing, the others close the session.
 unfoldable pub announce : Session → List ℕ → Taken
 announce s d =
-    cond (eqb (announcement_refusal d) 0) (record { answer = Kept; session = opened (size_in d) })
+    cond (eqb (announcement_refusal d) 0) (record { answer = Ok None; session = opened (size_in d) })
     (refused (announcement_refusal d) (cond (eqb (announcement_refusal d) 4) s (closed s)))
 
 -- A data packet: refusal 8 where the session is closed, 9 where another packet is next; or the packet is kept, or the last one ends the session.
@@ -102,7 +103,7 @@ unfoldable pub packet : Session → List ℕ → Taken
 packet s d =
     cond (eqb s.size 0) (refused 8 s)
     (cond (not (eqb (get_or d 0 0) s.next)) (refused 9 (closed s))
-    (cond (ltb s.next s.count) (record { answer = Kept; session = advanced s d })
+    (cond (ltb s.next s.count) (record { answer = Ok None; session = advanced s d })
     (finishes (stored s d) s.size)))
 
 -- A frame, with its refusals in the order of rule 9.4: 1, 2, 3, 24, then those of announcements or of data packets.

@@ -4,8 +4,9 @@ use Rattle.report.specs.Payload.{read_payload}
 use Rattle.report.specs.declared.Report.{Report}
 use Rattle.std.specs.Prelude.{Ok}
 use Rattle.joining.specs.declared.Session.{Session}
-use Rattle.joining.specs.declared.Answer.{Answer}
-use Rattle.joining.specs.declared.Answer.TheVariants.{Refused, Kept}
+use Rattle.joining.specs.Answers.{Answer}
+use Rattle.std.specs.Prelude.{None, Err}
+use Rattle.refusal.specs.Answers.{refusal_of}
 use Rattle.joining.specs.declared.Taken.{Taken}
 use Rattle.joining.specs.Frame.{Frame, sender_of, frame_refusal, is_announcement, is_packet}
 use Rattle.joining.specs.Joining.{packets, fit, fresh_session, opened, size_in, take_frame}
@@ -37,7 +38,7 @@ abbrev pub answer_to : List Session → Frame → Answer
 answer_to ss f =
     cond (ltb (sender_of f.identifier) senders)
     (take_frame (session_of (sender_of f.identifier) ss) f.identifier f.data_bytes).answer
-    (Refused (frame_refusal f.identifier f.data_bytes))
+    (Err (refusal_of (frame_refusal f.identifier f.data_bytes)))
 
 -- A run of frames: the sessions at its end, and the answers in order.
 unfoldable pub sessions_after_all : List Session → List Frame → List Session
@@ -92,7 +93,7 @@ heard (f ∷ fs) = cond (is_passed_over f) (heard fs) (f ∷ heard fs)
 pub record Announces (size : ℕ) (f : Frame) : Type 0 where
   pub announcement : is_announcement f.identifier ≡ true
   pub says : size_in f.data_bytes ≡ size
-  pub opens : (s : Session) → fit s ≡ true → solo_step s f ≡ record { answer = Kept; session = opened size }
+  pub opens : (s : Session) → fit s ≡ true → solo_step s f ≡ record { answer = Ok None; session = opened size }
 
 -- Rule 2.5: a data packet of this sequence number.
 pub record Numbered (i : ℕ) (f : Frame) : Type 0 where

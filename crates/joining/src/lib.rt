@@ -1,13 +1,11 @@
 // Frames of the bus joined into reports: a session for each sender, by the broadcast rules of SAE J1939-21.
 #![tactic(auto)]
 
-ghost use Rattle.std.specs.Prelude.{◌≡◌, true, [], ◌-◌, ◌*◌, take, drop};
+ghost use Rattle.std.specs.Prelude.{◌≡◌, true, [], Err, ◌-◌, ◌*◌, take, drop};
 ghost use Rattle.std.proofs.lemmas.List.Edits.{sets};
 ghost use Rattle.report.specs.Payload.{read_payload};
-ghost use Rattle.refusal.specs.Numbers.{number_of};
 ghost use Rattle.joining.specs.Frame.{foreign, frame_checked, sender_in};
 ghost use Rattle.joining.specs.Joining.{packets, carries, fresh_session, fit, yields, sound, announcement_checked, announce, packet, take_frame, size_held, payload_held};
-ghost use Rattle.joining.specs.declared.Answer.TheVariants.{Refused};
 ghost use Rattle.joining.specs.Inner.{session_with, beside};
 
 mod lent;
@@ -15,14 +13,9 @@ mod lent;
 use refusal::Refusal;
 use report::{Note, Payload, Report};
 
-// What a frame is answered: the refusal's number; kept, as it opened a session or was its next packet; or the report that
-// its last packet completed.
-#[derive(Clone, Copy)]
-pub enum Answer {
-    Refused(u8),
-    Kept,
-    Complete(Report),
-}
+// What a frame is answered: its refusal; no report yet, as it was kept: it opened a session or was its next packet; or the report
+// that its last packet completed.
+pub type Answer = Result<Option<Report>, Refusal>;
 
 // What one sender has sent of a report: the payload's bytes so far, its size and packet count, and the packet that is due.
 // All three numbers are 0 where no report is under way.
@@ -251,10 +244,10 @@ fn stepped(
 
 // A refusal, and the numbers that it leaves.
 fn refused(refusal: Refusal, size: u8, count: u8, next: u8) -> Step
-    ensures { result ≡ record { answer = Refused (number_of refusal); size = size; count = count; next = next } }
+    ensures { result ≡ record { answer = Err refusal; size = size; count = count; next = next } }
 {
     Step {
-        answer: Answer::Refused(refusal.number()),
+        answer: Err(refusal),
         size,
         count,
         next,
@@ -271,7 +264,7 @@ fn announced(bytes: &mut [u8; Payload::LARGEST], size: u8, count: u8, next: u8, 
             let whole = wire::read16(data, 1);
             *bytes = [255u8; Payload::LARGEST];
             Step {
-                answer: Answer::Kept,
+                answer: Ok(None),
                 size: whole as u8,
                 count: packets(whole) as u8,
                 next: 1,
@@ -299,7 +292,7 @@ fn packet(bytes: &mut [u8; Payload::LARGEST], size: u8, count: u8, next: u8, dat
     store(bytes, size, next - 1, data);
     if next < count {
         return Step {
-            answer: Answer::Kept,
+            answer: Ok(None),
             size,
             count,
             next: next + 1,
@@ -333,16 +326,12 @@ pub fn store(bytes: &mut [u8], size: u8, sent: u8, data: &[u8])
 pub fn answered(payload: &[u8]) -> Answer
     ensures { result ≡ yields (read_payload payload.now) }
 {
-    match Payload::read(payload) {
-        Ok(report) => {
-            let values = report.values;
-            Answer::Complete(Report {
-                values,
-                own: report.own,
-            })
-        }
-        Err(refusal) => Answer::Refused(refusal.number()),
-    }
+    let report = Payload::read(payload)?;
+    let values = report.values;
+    Ok(Some(Report {
+        values,
+        own: report.own,
+    }))
 }
 
 // The size of the payload that a finished session's bytes hold.

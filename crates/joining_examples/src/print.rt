@@ -8,9 +8,9 @@ use values::Edition;
 pub fn answer(rt: &impl Print, a: Answer) {
     text(rt, b"\n ");
     match a {
-        Answer::Refused(n) => refused(rt, n),
-        Answer::Kept => text(rt, b" kept"),
-        Answer::Complete(r) => report(rt, r),
+        Err(refusal) => refused(rt, refusal.number()),
+        Ok(None) => text(rt, b" kept"),
+        Ok(Some(r)) => report(rt, r),
     }
 }
 

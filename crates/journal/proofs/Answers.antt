@@ -18,8 +18,8 @@ use Rattle.board.specs.Work.{enter_refusal, enter_work}
 use Rattle.board.specs.declared.Board.{Board}
 use Rattle.board.specs.Work.{Entered}
 use Rattle.report.specs.declared.Report.{Report}
-use Rattle.joining.specs.declared.Answer.{Answer}
-use Rattle.joining.specs.declared.Answer.TheVariants.{Refused, Kept, Complete}
+use Rattle.joining.specs.Answers.{Answer}
+use Rattle.std.specs.Prelude.{Some, None, Ok, Err}
 use Rattle.times.specs.Run.{Timed, fresh_stations, timed_answer, stations_after_all, timed_answers}
 use Rattle.times.proofs.Driving.{timed_answers_more}
 use Rattle.text.proofs.Decimal.{below_or}
@@ -32,9 +32,9 @@ none_yet = take-nil 1000000
 
 completed_more : (l : List Answer) (a : Answer) → completed (l ++ a ∷ []) ≡ completed l ++ completed (a ∷ [])
 completed_more [] a = refl
-completed_more (Refused n ∷ l) a = completed_more l a
-completed_more (Kept ∷ l) a = completed_more l a
-completed_more (Complete r ∷ l) a = ap (λ (vs : List Values). r.values ∷ vs) (completed_more l a)
+completed_more (Err e ∷ l) a = completed_more l a
+completed_more (Ok None ∷ l) a = completed_more l a
+completed_more (Ok (Some r) ∷ l) a = ap (λ (vs : List Values). r.values ∷ vs) (completed_more l a)
 
 take_more : {A : Type 0} (n : ℕ) (l : List A) (x : A) → take n (l ++ x ∷ []) ≡ cond (ltb (length (take n l)) n) (take n l ++ x ∷ []) (take n l)
 take_more n l x =
@@ -60,10 +60,10 @@ module _ (fs : List Timed) (f : Timed) where
   unfolding entered_by
   nothing_more a e z = with_answer a e ∙ ap (take 1000000) (ap (λ l. completed (timed_answers fresh_stations fs) ++ l) z ∙ append-nil (completed (timed_answers fresh_stations fs)))
 
-  pub one_more : (r : Report) → answer ≡ Complete r
+  pub one_more : (r : Report) → answer ≡ Ok (Some r)
       → entered_by (fs ++ f ∷ []) ≡ cond (ltb (length (entered_by fs)) 1000000) (entered_by fs ++ r.values ∷ []) (entered_by fs)
   unfolding entered_by
-  one_more r e = with_answer (Complete r) e ∙ take_more 1000000 (completed (timed_answers fresh_stations fs)) r.values
+  one_more r e = with_answer (Ok (Some r)) e ∙ take_more 1000000 (completed (timed_answers fresh_stations fs)) r.values
 
 pub enter-refusal : (b : Board) (v : Values) → (enter_work b v).refusal ≡ enter_refusal b.window.counts v
 unfolding enter_work

@@ -3,12 +3,15 @@
 use mathlib.Core.Path.{◌≡◌, sym, ap, ◌∙◌}
 use mathlib.Core.List.{List}
 use Prim.Native.Nat.{ℕ, ◌≤◌, ◌<◌}
+use native.Mathlib.Omega.{arith}
 use borrow.Author.Tests.{lt-ltb, le-ltb}
 use lib.ListN.{set}
 use Rattle.joining.specs.Frame.{sender_of, frame_refusal}
 use Rattle.joining.specs.Joining.{take_frame}
 use Rattle.joining.specs.Run.{session_of}
 use Rattle.joining.specs.declared.Taken.{Taken}
+use Rattle.joining.proofs.Frames.{frame_refusals, unheard_refused}
+use Rattle.joining.proofs.Answers.{number_back}
 use Rattle.times.specs.declared.Heard.{Heard}
 use Rattle.times.specs.declared.Last.{Last}
 use Rattle.times.specs.Timed.{timed_frame, last_of}
@@ -19,7 +22,9 @@ use Rattle.journal.specs.Log.{stations_of, with_stations, refused, answer_item, 
 
 pub unheard : (log : Log) (f : Timed) → 254 ≤ sender f → {n : ℕ} → n ≡ frame_refusal f.frame.identifier f.frame.data_bytes → refused log n ≡ frame_item log f
 unfolding frame_item
-unheard log f h e = rw e (sym (rw (le-ltb (sender f) 254 h)))
+unheard log f h e =
+    let g = f.frame in
+    rw e (sym (rw (le-ltb (sender f) 254 h, number_back _ (unheard_refused g.identifier g.data_bytes h) (omega (arith, frame_refusals g.identifier g.data_bytes)))))
 
 -- What is left behind it, step by step: without a time the times stay, ...
 module _ (log : Log) (id : ℕ) (ds : List ℕ) (there : sender_of id < 254) {left : Log} where

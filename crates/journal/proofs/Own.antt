@@ -45,8 +45,9 @@ use Rattle.board.proofs.Demands.{reached_fit}
 use Rattle.board.proofs.Fit.{fit-set, fit-remove, fit-enter}
 use Rattle.board.proofs.Known.{set_known, remove_known, enter_known}
 use Rattle.report.specs.declared.Report.{Report}
-use Rattle.joining.specs.declared.Answer.{Answer}
-use Rattle.joining.specs.declared.Answer.TheVariants.{Refused, Kept, Complete}
+use Rattle.joining.specs.Answers.{Answer}
+use Rattle.std.specs.Prelude.{Some, None, Ok, Err}
+use Rattle.refusal.specs.Numbers.{number_of}
 use Rattle.times.specs.Run.{Timed, Stations, fresh_stations, stations_after, timed_answer, timed_at, untimed_at, stations_after_all}
 use Rattle.times.proofs.Driving.{stations_more}
 use Rattle.times.proofs.Steps.{Named}
@@ -185,7 +186,7 @@ module _ (b : Board) {n : ℕ} {past : List Values} (reached : board.Reached n p
     remove_board slot = subst (λ (r : Removed). Boarded fs r.board) (remove_known b fits slot) (window (board.remove reached slot) (fit-remove b (kept reached) fits slot) same)
 
     -- A completed report enters as the frames' next one.
-    enter_board : (f : Timed) (r : Report) → answer fs f ≡ Complete r → in_range r.values ≡ true → Boarded (fs ++ f ∷ []) (enter_work b r.values).board
+    enter_board : (f : Timed) (r : Report) → answer fs f ≡ Ok (Some r) → in_range r.values ≡ true → Boarded (fs ++ f ∷ []) (enter_work b r.values).board
     enter_board f r e may =
         let v : Values = r.values in
         let known = enter_known b fits v in
@@ -291,10 +292,10 @@ named (inr e) = inr (inl e)
 module _ (fs : List Timed) (f : Timed) (log : Log) (heard : stations_of log ≡ stations_after_all fresh_stations (fs ++ f ∷ [])) {n : ℕ} {past : List Values} (reached : board.Reached n past log.board)
     (fits : fit_board log.board ≡ true) (same : past ≡ entered_by fs) where
   answered_does : (a : Answer) → answer fs f ≡ a → Named a → Does (fs ++ f ∷ []) log.items (answer_item log a)
-  answered_does (Refused m) e h =
-      record { own = record { board_is = window reached fits (same ∙ sym (nothing_more fs f (Refused m) e refl)); heard = heard }; prints = refusal m (named h) refl }
-  answered_does Kept e h = record { own = record { board_is = window reached fits (same ∙ sym (nothing_more fs f Kept e refl)); heard = heard }; prints = nothing refl }
-  answered_does (Complete r) e h =
+  answered_does (Err m) e h =
+      record { own = record { board_is = window reached fits (same ∙ sym (nothing_more fs f (Err m) e refl)); heard = heard }; prints = refusal (number_of m) (named h) refl }
+  answered_does (Ok None) e h = record { own = record { board_is = window reached fits (same ∙ sym (nothing_more fs f (Ok None) e refl)); heard = heard }; prints = nothing refl }
+  answered_does (Ok (Some r)) e h =
       enter_does (fs ++ f ∷ []) log heard (kept reached).many r.values (enter_board log.board reached fits fs same f r e h)
 
 frame_does : (fs : List Timed) (log : Log) → stations_of log ≡ stations_after_all fresh_stations fs → {n : ℕ} {past : List Values} → board.Reached n past log.board → fit_board log.board ≡ true

@@ -30,7 +30,7 @@ use Rattle.board.proofs.Demands.{demand_2, reached_holds}
 use Rattle.board.proofs.Kept.{kept}
 use Rattle.joining.specs.Frame.{Frame}
 use Rattle.joining.specs.Run.{fresh_sessions, sessions_after_all, answers_to_all}
-use Rattle.joining.specs.declared.Answer.{Answer}
+use Rattle.joining.specs.Answers.{Answer}
 use Rattle.times.specs.Timed.{fresh_times}
 use Rattle.times.specs.Run.{Stations, station_of, fresh_stations, stations_after_all, timed_answers, untimed}
 use Rattle.times.proofs.Steps.{Fit}

@@ -15,7 +15,7 @@ use Rattle.board.specs.Work.{Entered}
 use Rattle.board.proofs.Refusals.{zero_is}
 use Rattle.board.proofs.Demands.{Exactly, set_exact, enter_exact}
 use Rattle.report.specs.declared.Report.{Report}
-use Rattle.joining.specs.declared.Answer.TheVariants.{Complete}
+use Rattle.std.specs.Prelude.{Some, Ok}
 use Rattle.times.specs.Run.{Timed, stations_after, timed_answer}
 use Rattle.text.specs.Text.{s_line}
 use Rattle.journal.specs.declared.Log.{Log}
@@ -57,7 +57,7 @@ module _ {log : Log} (reached : Reached log) (there : log.board.window.counts.si
   -- ---- entering
 
   -- A frame, of tag 18 or 21 (`frame_done`, `timed_done`), that completes a report which enters.
-  module _ (tag : ℕ) (f : Timed) (is : item_done log tag v ≡ frame_item (with_item log) f) (r : Report) (completes : timed_answer (stations_of log) f ≡ Complete r)
+  module _ (tag : ℕ) (f : Timed) (is : item_done log tag v ≡ frame_item (with_item log) f) (r : Report) (completes : timed_answer (stations_of log) f ≡ Ok (Some r))
       (taken : enter_refusal b.window.counts r.values ≡ 0) where
     -- What the board's call answers to the report.
     abbrev entered : Entered

@@ -15,8 +15,9 @@ use Rattle.ranking.specs.Cells.{rule_of, tied_by}
 use Rattle.board.specs.declared.Board.{Board}
 use Rattle.board.specs.Work.{fresh_board, set_work, remove_work, read_work, enter_work}
 use Rattle.joining.specs.Run.{fresh_sessions}
-use Rattle.joining.specs.declared.Answer.{Answer}
-use Rattle.joining.specs.declared.Answer.TheVariants.{Refused, Kept, Complete}
+use Rattle.joining.specs.Answers.{Answer}
+use Rattle.std.specs.Prelude.{Ok, Err}
+use Rattle.refusal.specs.Numbers.{number_of}
 use Rattle.times.specs.Timed.{fresh_times}
 use Rattle.times.specs.Run.{Timed, Stations, stations_after, timed_answer, timed_at, untimed_at}
 use Rattle.text.specs.Text.{s_line, r_line, q_line, entries_of, behind}
@@ -137,9 +138,9 @@ enter_item log v =
 
 -- What a frame's answer brings: a refusal is printed, a report enters.
 abbrev pub answer_item : Log → Answer → Outcome
-answer_item log (Refused n) = refused log n
-answer_item log Kept = no_text log
-answer_item log (Complete r) = enter_item log r.values
+answer_item log (Err e) = refused log (number_of e)
+answer_item log (Ok None) = no_text log
+answer_item log (Ok (Some r)) = enter_item log r.values
 
 -- The frame in the value of tag 18 (rule 10.2), and in that of tag 21, where its time stands before it (rule 15.1).
 abbrev pub frame_in : List ℕ → Timed

@@ -9,8 +9,8 @@ use Rattle.slot.specs.Turn.{number_named}
 use Rattle.window.specs.Rows.{report_limit}
 use Rattle.text.specs.Text.{Entry}
 use Rattle.times.specs.Run.{Timed, fresh_stations, timed_answers, timed_at, untimed_at}
-use Rattle.joining.specs.declared.Answer.{Answer}
-use Rattle.joining.specs.declared.Answer.TheVariants.{Refused, Kept, Complete}
+use Rattle.joining.specs.Answers.{Answer}
+use Rattle.std.specs.Prelude.{Some, None, Ok, Err}
 use Rattle.journal.specs.declared.Log.{Log}
 use Rattle.journal.specs.Log.{fresh_log, with_item, item_refusal, item_done}
 
@@ -43,9 +43,9 @@ frames_of (item {log} r tag v) = frames_of r ++ frame_of log tag v
 -- The reports that answers bring, in their order.
 abbrev pub completed : List Answer → List Values
 completed [] = []
-completed (Refused n ∷ l) = completed l
-completed (Kept ∷ l) = completed l
-completed (Complete r ∷ l) = r.values ∷ completed l
+completed (Err e ∷ l) = completed l
+completed (Ok None ∷ l) = completed l
+completed (Ok (Some r) ∷ l) = r.values ∷ completed l
 
 -- Rules 5.2 and 5.3: every report that a frame completes is entered, as long as any can.
 unfoldable pub entered_by : List Timed → List Values

@@ -254,9 +254,9 @@ impl Log {
         ensures { Stores (answer_item self answer) out.old at result.log result.at out.new }
     {
         match answer {
-            Answer::Refused(n) => self.refused(n, out, at),
-            Answer::Kept => Done { log: self, at },
-            Answer::Complete(r) => self.enter_item(r.values, out, at),
+            Err(refusal) => self.refused(refusal.number(), out, at),
+            Ok(None) => Done { log: self, at },
+            Ok(Some(report)) => self.enter_item(report.values, out, at),
         }
     }
 

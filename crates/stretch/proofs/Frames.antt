@@ -35,8 +35,8 @@ use Rattle.board.specs.Work.{outgoing, turned, enter_refusal, enter_work, arriva
 use Rattle.board.proofs.Refusals.{enterable}
 use Rattle.board.proofs.Filling.{as_row, row_report}
 use Rattle.times.specs.Run.{Timed, Stations, stations_after, timed_answer}
-use Rattle.joining.specs.declared.Answer.{Answer}
-use Rattle.joining.specs.declared.Answer.TheVariants.{Refused, Kept, Complete}
+use Rattle.joining.specs.Answers.{Answer}
+use Rattle.std.specs.Prelude.{Some, None, Ok, Err}
 use Rattle.text.specs.Text.{r_line}
 use Rattle.journal.specs.declared.Log.{Log}
 use Rattle.journal.specs.Log.{next_item, stations_of, with_item, with_board, refused, unless, s_lines, enter_item, answer_item, frame_item, item_done}
@@ -99,12 +99,12 @@ module _ (log : Log) where
   -- No report enters: the line of a refusal, or nothing.
   pub brought-none : (a : Answer) → (gives a).number ≡ 0 → answer_item log a ≡ record { text = cond (gives a).refused (r_line log.items (gives a).code) []; log = log }
   unfolding arrival
-  brought-none (Refused n) e = refl
-  brought-none Kept e = refl
-  brought-none (Complete r) e = go (tested (eqb (enter_refusal w.counts r.values) 0)) e
+  brought-none (Err n) e = refl
+  brought-none (Ok None) e = refl
+  brought-none (Ok (Some r)) e = go (tested (eqb (enter_refusal w.counts r.values) 0)) e
     where
-      go : Tested (eqb (enter_refusal w.counts r.values) 0) → (gives (Complete r)).number ≡ 0
-          → answer_item log (Complete r) ≡ record { text = cond (gives (Complete r)).refused (r_line log.items (gives (Complete r)).code) []; log = log }
+      go : Tested (eqb (enter_refusal w.counts r.values) 0) → (gives (Ok (Some r))).number ≡ 0
+          → answer_item log (Ok (Some r)) ≡ record { text = cond (gives (Ok (Some r))).refused (r_line log.items (gives (Ok (Some r))).code) []; log = log }
       go (passed t) z = absurd (omega (arith, rw t at z))
       go (failed t) z = rw t (rw t (enter-refused r.values (λ e. clash (eq-eqb (enter_refusal w.counts r.values) 0 e) t)))
 
@@ -119,15 +119,15 @@ module _ (log : Log) where
 
   pub brought_some : (a : Answer) → ((gives a).number ≡ 0 → ⊥) → Enters a
   unfolding arrival
-  brought_some (Refused n) e = absurd (e refl)
-  brought_some Kept e = absurd (e refl)
-  brought_some (Complete r) e = go (tested (eqb (enter_refusal w.counts r.values) 0)) e
+  brought_some (Err n) e = absurd (e refl)
+  brought_some (Ok None) e = absurd (e refl)
+  brought_some (Ok (Some r)) e = go (tested (eqb (enter_refusal w.counts r.values) 0)) e
     where
-      go : Tested (eqb (enter_refusal w.counts r.values) 0) → ((gives (Complete r)).number ≡ 0 → ⊥) → Enters (Complete r)
+      go : Tested (eqb (enter_refusal w.counts r.values) 0) → ((gives (Ok (Some r))).number ≡ 0 → ⊥) → Enters (Ok (Some r))
       go (passed t) z =
           let free = eqb-true (enter_refusal w.counts r.values) 0 t in
-          let row : (gives (Complete r)).row ≡ as_row (w.counts.entered + 1) r.values = rw t in
-          let whole : values (gives (Complete r)) ≡ r.values = ap values_at row ∙ row_values (w.counts.entered + 1) r.values (enterable w.counts r.values free).permitted in
+          let row : (gives (Ok (Some r))).row ≡ as_row (w.counts.entered + 1) r.values = rw t in
+          let whole : values (gives (Ok (Some r))) ≡ r.values = ap values_at row ∙ row_values (w.counts.entered + 1) r.values (enterable w.counts r.values free).permitted in
           record {
             silent = rw t;
             next = rw t;

@@ -23,7 +23,7 @@ use Rattle.slot.specs.Gauges.{no_question, gauge_of, is_quiet, is_idle, in_use}
 use Rattle.slot.specs.Turn as one
 use Rattle.slot.proofs.Gauges.{quiet_untouched}
 use Rattle.bus.specs.Room.{room_bytes, sessions_in}
-use Rattle.joining.specs.declared.Answer.{Answer}
+use Rattle.joining.specs.Answers.{Answer}
 use Rattle.times.specs.declared.Times.{Times}
 use Rattle.times.specs.Run.{Stations, stations_in, stations_after, timed_answer}
 use Rattle.times.proofs.Lent.{next_room}

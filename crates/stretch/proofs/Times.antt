@@ -15,7 +15,6 @@ use lib.ListN.{length, take, drop}
 use lib.Seq.{drop-drop}
 use Rattle.wire.specs.Bytes.{number, part}
 use Rattle.window.specs.declared.Counts.{Counts}
-use Rattle.joining.specs.declared.Answer.TheVariants.{Refused}
 use Rattle.joining.specs.Frame.{Frame, sender_of}
 use Rattle.bus.specs.Room.{room_bytes}
 use Rattle.times.specs.declared.Last.{Last}
@@ -97,7 +96,7 @@ module _ (room : List ℕ) (times : Times) (i : ℕ) (bytes : List ℕ) (last : 
         (record {
           ends = omega (arith, sixteen tag_is);
           due = inr refl;
-          stops = λ x n. subst (λ (y : Refusal). Takes lent (timed_in v) (Refused (number_of y)) q ts) (the_same n) (met-refused room times (number (part 0 4 v)) (number (part 4 4 v)) (part 8 8 v) long met);
+          stops = λ x n. subst (λ (y : Refusal). Takes lent (timed_in v) (Err y) q ts) (the_same n) (met-refused room times (number (part 0 4 v)) (number (part 4 4 v)) (part 8 8 v) long met);
           goes_on = λ z. absurd (none_some (sym z));
         })
 
@@ -123,7 +122,7 @@ module _ (room : List ℕ) (times : Times) (i : ℕ) (bytes : List ℕ) (last : 
 
 module _ {b : Stations} {f : Timed} {end : ℕ} {last g : Begun} {room : List ℕ} {left : Times} (begins : Begins b f end last g room left) {c : Counts} where
   pub hears_stopped : {e : Refusal} {n : ℕ} → g.refusal ≡ Some e → n ≡ number_of e → Hears b f c (not_brought true n) room left
-  hears_stopped {e} h is = rw is (record { answer = Refused (number_of e); takes = begins.stops e h; brings = refl })
+  hears_stopped {e} h is = rw is (record { answer = Err e; takes = begins.stops e h; brings = refl })
 
   pub hears_then : g.refusal ≡ None → {h : Frame} {r : Brought} {room₁ : List ℕ} {left₁ : Times} → h ≡ f.frame → HearsAt (stations_in room left) g h c r room₁ left₁ → Hears b f c r room₁ left₁
   hears_then z {h} {r} {room₁} {left₁} e heard =

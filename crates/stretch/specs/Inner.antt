@@ -12,8 +12,8 @@ use Rattle.text.specs.Text.{behind}
 use Rattle.journal.specs.declared.Log.{Log}
 use Rattle.refusal.specs.declared.Refusal.{Refusal}
 use Rattle.refusal.specs.Numbers.{number_of}
-use Rattle.joining.specs.declared.Answer.{Answer}
-use Rattle.joining.specs.declared.Answer.TheVariants.{Refused, Kept, Complete}
+use Rattle.joining.specs.Answers.{Answer}
+use Rattle.std.specs.Prelude.{Ok, Err}
 use Rattle.bus.specs.Room.{sessions_in, room_of}
 use Rattle.joining.specs.Frame.{Frame, sender_of}
 use Rattle.joining.specs.Run.{sessions_after, answer_to}
@@ -46,9 +46,9 @@ not_brought refused code = record { refused = refused; code = code; number = 0; 
 
 -- What a frame's answer brings to a window: the line of a refusal, or a report that enters.
 abbrev pub brought : Answer → Counts → Brought
-brought (Refused n) c = not_brought true n
-brought Kept c = not_brought false 0
-brought (Complete r) c =
+brought (Err e) c = not_brought true (number_of e)
+brought (Ok None) c = not_brought false 0
+brought (Ok (Some r)) c =
     let a = arrival c r.values in
     record {
       refused = not (eqb a.refusal 0);
@@ -92,7 +92,7 @@ Elsewhere place (Some m) = m.0 ≡ place → ⊥
 pub record Begins (b : Stations) (f : Timed) (end : ℕ) (last r : Begun) (room : List ℕ) (left : Times) : Type 0 where
   pub ends : r.place + 15 ≡ end
   pub due : ((m : Last) × (r.last ≡ Some (r.place, m))) ⊎ (r.last ≡ last.last)
-  pub stops : (e : Refusal) → r.refusal ≡ Some e → Takes b f (Refused (number_of e)) room left
+  pub stops : (e : Refusal) → r.refusal ≡ Some e → Takes b f (Err e) room left
   pub goes_on : r.refusal ≡ None → (a : Answer) (room₁ : List ℕ) (left₁ : Times) → a ≡ answer_to (sessions_in room) f.frame → room₁ ≡ room_of (sessions_after (sessions_in room) f.frame)
       → left₁ ≡ times_by r a f.frame.identifier left → Takes b f a room₁ left₁
 

@@ -301,13 +301,13 @@ fn brings(times: &mut Times, begun: Begun, id: u32, answer: Answer, counts: Coun
     ensures times_after { times.new ≡ times_by begun answer id times.old }
 {
     match answer {
-        Answer::Refused(n) => {
+        Err(refusal) => {
             put_back(times, begun, id);
-            not_brought(true, n)
+            not_brought(true, refusal.number())
         }
-        Answer::Kept => not_brought(false, 0),
-        Answer::Complete(r) => {
-            let values = r.values;
+        Ok(None) => not_brought(false, 0),
+        Ok(Some(report)) => {
+            let values = report.values;
             let mut row = Row {
                 loss: values.loss,
                 shake: values.shake,

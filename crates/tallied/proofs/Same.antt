@@ -21,8 +21,8 @@ use Rattle.items.specs.declared.Item.{Item}
 use Rattle.items.specs.declared.Item.TheVariants.{Window, Set, Remove, Show, SetHeat, SetTies, Unknown}
 use Rattle.items.specs.declared.Item.TheVariants as kind
 use Rattle.items.specs.Items.{data_of, item_in}
-use Rattle.joining.specs.declared.Answer.{Answer}
-use Rattle.joining.specs.declared.Answer.TheVariants.{Refused, Kept, Complete}
+use Rattle.joining.specs.Answers.{Answer}
+use Rattle.std.specs.Prelude.{Ok, Err}
 use Rattle.times.specs.Run.{Timed, sender, stations_after, timed_answer, timed_at, untimed_at}
 use Rattle.text.specs.Text.{s_line, q_line, entries_of}
 use Rattle.slot.specs.Asking.{Shown}
@@ -158,9 +158,9 @@ module _ (log : Log) (g : Ledger) (m : Made g) {n : ℕ} {past : List FromSender
   heard = with_stations (with_board log g.board) (stations_after (stations_of log) f)
 
   answer_matches : sender f < 254 → (a : Answer) → Matches (answer_item heard a) (answer_said log.items g (sender f) a)
-  answer_matches there_is (Refused c) = record { same_text = refl; same_board = refl; made = m }
-  answer_matches there_is Kept = record { same_text = refl; same_board = refl; made = m }
-  answer_matches there_is (Complete p) = enter_matches (with_stations log (stations_after (stations_of log) f)) g m r fit (sender f) there_is p.values
+  answer_matches there_is (Err c) = record { same_text = refl; same_board = refl; made = m }
+  answer_matches there_is (Ok None) = record { same_text = refl; same_board = refl; made = m }
+  answer_matches there_is (Ok (Some p)) = enter_matches (with_stations log (stations_after (stations_of log) f)) g m r fit (sender f) there_is p.values
 
   frame_matches : Matches (frame_item (with_board log g.board) f) (frame_said log.items g (stations_of log) f)
   unfolding frame_item frame_said

@@ -8,8 +8,9 @@ use Rattle.items.specs.declared.Item.{Item}
 use Rattle.items.specs.declared.Item.TheVariants.{Window, Set, Remove, Show, SetHeat, SetTies, Unknown}
 use Rattle.items.specs.declared.Item.TheVariants as kind
 use Rattle.items.specs.Items.{data_of, item_in}
-use Rattle.joining.specs.declared.Answer.{Answer}
-use Rattle.joining.specs.declared.Answer.TheVariants.{Refused, Kept, Complete}
+use Rattle.joining.specs.Answers.{Answer}
+use Rattle.std.specs.Prelude.{Ok, Err}
+use Rattle.refusal.specs.Numbers.{number_of}
 use Rattle.times.specs.Run.{Timed, Stations, sender, timed_answer, timed_at, untimed_at}
 use Rattle.text.specs.Text.{s_line, r_line, q_line, entries_of}
 use Rattle.ledger.specs.declared.Ledger.{Ledger}
@@ -59,9 +60,9 @@ enter_said item g sender v =
 
 -- What a frame's answer brings; a report enters with the frame's sender (rule 19.1).
 abbrev pub answer_said : ℕ → Ledger → ℕ → Answer → Spoken
-answer_said item g sender (Refused n) = refused item g n
-answer_said item g sender Kept = silent g
-answer_said item g sender (Complete r) = enter_said item g sender r.values
+answer_said item g sender (Err e) = refused item g (number_of e)
+answer_said item g sender (Ok None) = silent g
+answer_said item g sender (Ok (Some r)) = enter_said item g sender r.values
 
 unfoldable pub frame_said : ℕ → Ledger → Stations → Timed → Spoken
 frame_said item g b f = answer_said item g (sender f) (timed_answer b f)

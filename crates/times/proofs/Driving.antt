@@ -2,7 +2,7 @@
 -- Assumes nothing.
 use mathlib.Core.Path.{◌≡◌, refl, ap}
 use mathlib.Core.List.{List, [], ◌∷◌, ◌++◌}
-use Rattle.joining.specs.declared.Answer.{Answer}
+use Rattle.joining.specs.Answers.{Answer}
 use Rattle.times.specs.Run.{Timed, Stations, stations_after, timed_answer, stations_after_all, timed_answers}
 
 pub stations_more : (b : Stations) (fs : List Timed) (f : Timed) → stations_after_all b (fs ++ (f ∷ [])) ≡ stations_after (stations_after_all b fs) f

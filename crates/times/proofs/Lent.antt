@@ -7,7 +7,7 @@ use Rattle.refusal.specs.declared.Refusal.{Refusal}
 use Rattle.refusal.specs.declared.Refusal.TheVariants.{Unfit, BeforeLastTime}
 use Rattle.refusal.specs.Numbers.{number_of, number_in}
 use Rattle.refusal.specs.Answers.{refusal_of, answered}
-use Rattle.refusal.proofs.Answers.{taken_number, taken_is, taken, refused_number, refused_is, refused_alike, known}
+use Rattle.refusal.proofs.Answers.{taken_number, taken_is, taken, refused_number, refused_is, refused_alike, known, refusal_back}
 use mathlib.Core.List.{List}
 use Prim.Native.Nat.{ℕ, ◌<◌}
 use borrow.Author.Tests.{lt-ltb, ltb-true, eqb-false}
@@ -16,8 +16,7 @@ use lib.ListN.{length, set}
 use lib.Seq.{set-get_or, set-set, get_or-set_same}
 use Rattle.laws.proofs.Tests.{either}
 use Rattle.joining.specs.declared.Session.{Session}
-use Rattle.joining.specs.declared.Answer.{Answer}
-use Rattle.joining.specs.declared.Answer.TheVariants.{Refused}
+use Rattle.joining.specs.Answers.{Answer}
 use Rattle.joining.specs.Frame.{Frame, sender_of, frame_checked, frame_refusal}
 use Rattle.joining.specs.Joining.{fit, take_frame}
 use Rattle.joining.specs.Run.{nobody, session_of, sessions_after, answer_to}
@@ -142,7 +141,7 @@ module _ (room : List ℕ) (times : Times) (t id : ℕ) (d : List ℕ) where
   -- What `Times::meet` answered and left, in bytes that are a room.
   module _ (long : length room ≡ 23368) {q : List ℕ} {ts : Times} where
     -- The last time refuses the frame.
-    pub met-refused : {r : Refusal} → Meets lent t id d (Err r) q ts → Takes lent timed (Refused (number_of r)) q ts
+    pub met-refused : {r : Refusal} → Meets lent t id d (Err r) q ts → Takes lent timed (Err r) q ts
     met-refused {r} m = go (ltb (sender_of id) 254) (passes own.last t) refl refl
       where
         n : ℕ
@@ -154,7 +153,7 @@ module _ (room : List ℕ) (times : Times) (t id : ℕ) (d : List ℕ) where
         given : n ≡ 0 → ⊥
         given = refused_number n last_met m.answers
 
-        go : (x y : Bool) → ltb (sender_of id) 254 ≡ x → passes own.last t ≡ y → Takes lent timed (Refused (number_of r)) q ts
+        go : (x y : Bool) → ltb (sender_of id) 254 ≡ x → passes own.last t ≡ y → Takes lent timed (Err r) q ts
         go false y e f = absurd (given (rw e))
         go true true e f = absurd (given (rw (e, f)))
         go true false e f =
@@ -163,7 +162,7 @@ module _ (room : List ℕ) (times : Times) (t id : ℕ) (d : List ℕ) where
             let is : n ≡ stops own t id d = rw e in
             let code : number_of r ≡ stops own t id d = ap number_of (refused_is n last_met m.answers ∙ ap refusal_of is) ∙ stops_known own t id d (λ z. given (is ∙ z)) in
             record {
-              answers = ap Refused code ∙ rw e (ap (λ (o : Heard). o.answer) step);
+              answers = sym (ap (λ m. Err m) (refusal_back r)) ∙ ap (λ m. Err (refusal_of m)) code ∙ rw e (ap (λ (o : Heard). o.answer) step);
               sessions = m.sessions ∙ ap (λ (c : Stations). room_of c.sessions) met;
               times = m.times ∙ ap (λ (c : Stations). c.times) met;
             }
@@ -196,7 +195,7 @@ module _ (room : List ℕ) (times : Times) (t id : ℕ) (d : List ℕ) where
         go : (x y : Bool) → ltb (sender_of id) 254 ≡ x → passes own.last t ≡ y → Takes lent timed r q₁ ts₁
         go false y e g =
             let same : q ≡ room = m.sessions ∙ rw e (room_of_sessions 254 room long) in
-            let refused : r ≡ Refused (frame_refusal id d) = a ∙ rw e in
+            let refused : r ≡ Err (refusal_of (frame_refusal id d)) = a ∙ rw e in
             record {
               answers = refused ∙ rw e;
               sessions = b ∙ rw e (ap (λ (x : List ℕ). room_of (sessions_in x)) same);

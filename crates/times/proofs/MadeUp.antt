@@ -13,13 +13,16 @@ use lib.ListN.{length, get_or, take}
 use Rattle.report.specs.Payload.{read_payload}
 use Rattle.report.specs.declared.Report.{Report}
 use Rattle.joining.specs.declared.Session.{Session}
-use Rattle.joining.specs.declared.Answer.{Answer}
-use Rattle.joining.specs.declared.Answer.TheVariants.{Refused, Kept, Complete}
+use Rattle.joining.specs.Answers.{Answer}
+use Rattle.std.specs.Prelude.{Ok, Err}
+use Rattle.refusal.specs.declared.Refusal.TheVariants.{BeforeLastTime}
+use Rattle.refusal.specs.Answers.{refusal_of}
+use Rattle.refusal.proofs.Answers.{known}
 use Rattle.joining.specs.declared.Taken.{Taken}
 use Rattle.joining.specs.Frame.{Frame, frame_refusal}
 use Rattle.joining.specs.Joining.{fit, closed, opened, advanced, stored}
 use Rattle.joining.specs.Run.{solo_step, Announces, Numbered, InSequence, joined}
-use Rattle.joining.proofs.Answers.{refuses, keeps, accepts}
+use Rattle.joining.proofs.Answers.{refuses, keeps, accepts, number_back}
 use Rattle.joining.proofs.Cases.{Case, passed, shut, stray, good, next, last, cases}
 use Rattle.joining.proofs.Reached.{fit_open}
 use Rattle.joining.proofs.MadeUp.{Opening, starts, goes_on, in_order_lem, all-packets, ended}
@@ -49,7 +52,7 @@ spaced_more (x ∷ []) t u h a b = (h.0, h.1, (a, b, tt))
 spaced_more (x ∷ y ∷ us) t u h a b = (h.0, h.1, spaced_more (y ∷ us) t u h.2 a b)
 
 -- A kept frame more, in time.
-grown : (ts : List ℕ) (l : Last) (o : Option ℕ) → Spaced ts → Newest ts l → NearBy o l → Spaced (ts ++ time_in o) × Newest (ts ++ time_in o) (last_by o Kept l)
+grown : (ts : List ℕ) (l : Last) (o : Option ℕ) → Spaced ts → Newest ts l → NearBy o l → Spaced (ts ++ time_in o) × Newest (ts ++ time_in o) (last_by o (Ok None) l)
 grown ts l None s n near = rw append-nil (s, n)
 grown ts l (Some t) s (inl e) near = rw e (tt, inr (record { before = []; newest = t; is = refl; kept = refl }))
 grown ts l (Some t) s (inr e) near =
@@ -59,7 +62,7 @@ grown ts l (Some t) s (inr e) near =
       inr (record { before = ts; newest = t; is = refl; kept = refl }),
     )
 
-alone : (l : Last) (o : Option ℕ) → Spaced (time_in o ++ []) × Newest (time_in o ++ []) (last_by o Kept l)
+alone : (l : Last) (o : Option ℕ) → Spaced (time_in o ++ []) × Newest (time_in o ++ []) (last_by o (Ok None) l)
 alone l None = (tt, inl refl)
 alone l (Some t) = (tt, inr (record { before = []; newest = t; is = refl; kept = refl }))
 
@@ -78,7 +81,7 @@ unfolding frames_of
 length-frames [] = refl
 length-frames (f ∷ fs) = ap suc (length-frames fs)
 
-refused_by : (o : Option ℕ) (n : ℕ) (l : Last) → last_by o (Refused n) l ≡ l
+refused_by : (o : Option ℕ) (n : ℕ) (l : Last) → last_by o (Err (refusal_of n)) l ≡ l
 refused_by None n l = refl
 refused_by (Some t) n l = refl
 
@@ -104,7 +107,7 @@ holding : {s : Session} {l : Last} {h : List Timed} → Traced s l h → (s.size
 holding (inl z) o = absurd (o z)
 holding (inr t) o = t
 
-begins : (n : ℕ) (l : Last) (h : List Timed) (f : Timed) → Announces n f.frame → Trail (opened n) (last_by f.time Kept l) (h ++ (f ∷ []))
+begins : (n : ℕ) (l : Last) (h : List Timed) (f : Timed) → Announces n f.frame → Trail (opened n) (last_by f.time (Ok None) l) (h ++ (f ∷ []))
 unfolding frames_of times_of starts
 begins n l h f a =
     let t = alone l f.time in
@@ -130,7 +133,7 @@ module _ (x : Session) (l : Last) (h : List Timed) (f : Timed) (fits : fit x ≡
   frames_then w = ap (λ (fs : List Frame). fs ++ (f.frame ∷ [])) w.rest ∙ sym (frames_last w.middle f)
 
   go_on : (o : x.size ≡ 0 → ⊥) → Numbered x.next f.frame → x.next < x.count
-      → Trail (advanced x f.frame.data_bytes) (last_by f.time Kept l) (h ++ (f ∷ []))
+      → Trail (advanced x f.frame.data_bytes) (last_by f.time (Ok None) l) (h ++ (f ∷ []))
   unfolding goes_on
   go_on o n m =
       let w = holding t o in
@@ -155,7 +158,7 @@ module _ (x : Session) (l : Last) (h : List Timed) (f : Timed) (fits : fit x ≡
   taken-traced = go (cases x f.frame fits)
     where
       go : Case x f.frame → Traced u.session (last_by f.time u.answer l) (cond (passed_over u.answer) h (h ++ (f ∷ [])))
-      go (passed n a b p e) = rw (e, refused_by f.time n l, le-leb n 4 b) t
+      go (passed n a b p e) = rw (e, refused_by f.time n l, number_back n a (omega arith), le-leb n 4 b) t
       go (shut n p e) = rw e (inl refl)
       go (stray p z e) = rw e (inl z)
       go (good p c a e) = rw e (inr (begins _ l h f a))
@@ -163,7 +166,7 @@ module _ (x : Session) (l : Last) (h : List Timed) (f : Timed) (fits : fit x ≡
       go (last p o n m e) = rw e (inl refl)
 
   -- A report is the answer at the last packet only, of those that the session holds.
-  ends_with : (own : List Timed) (r : Report) → heard_at fresh_station own ≡ h → u.answer ≡ Complete r → SentTimed own f r
+  ends_with : (own : List Timed) (r : Report) → heard_at fresh_station own ≡ h → u.answer ≡ Ok (Some r) → SentTimed own f r
   ends_with own r heard done = go (cases x f.frame fits)
     where
       go : Case x f.frame → SentTimed own f r
@@ -194,9 +197,9 @@ module _ (x : Session) (l : Last) (h : List Timed) (f : Timed) (fits : fit x ≡
 
 -- ---- runs
 
-passed_over_lem : (n : ℕ) → ((1 ≤ n) × (n ≤ 3)) ⊎ (n ≡ 26) → passed_over (Refused n) ≡ true
-passed_over_lem n (inl w) = rw (le-leb n 4 (omega arith))
-passed_over_lem n (inr e) = rw e
+passed_over_lem : (n : ℕ) → ((1 ≤ n) × (n ≤ 3)) ⊎ (n ≡ 26) → passed_over (Err (refusal_of n)) ≡ true
+passed_over_lem n (inl w) = rw (number_back n w.0 (omega arith), le-leb n 4 (omega arith))
+passed_over_lem n (inr e) = rw (e, known BeforeLastTime)
 
 step-traced : (s : Station) (h : List Timed) (f : Timed) → Fit s → Traced s.session s.last h
     → Traced (station_step s f).station.session (station_step s f).station.last (cond (passed_over (station_step s f).answer) h (h ++ (f ∷ [])))
@@ -223,7 +226,7 @@ run_traced s (f ∷ fs) h ok t =
     more false = sym (append_assoc h (f ∷ []) (heard_at then fs))
 
 -- One sender's frames at a fresh session with no time, and then f: where f yields a report, the announcement and all packets that it was read from are among them, and came in time.
-pub sent_alone : (own : List Timed) (f : Timed) (r : Report) → (station_step (station_after_all fresh_station own) f).answer ≡ Complete r → SentTimed own f r
+pub sent_alone : (own : List Timed) (f : Timed) (r : Report) → (station_step (station_after_all fresh_station own) f).answer ≡ Ok (Some r) → SentTimed own f r
 sent_alone own f r done = go (ways s f ok)
   where
     s : Station
@@ -267,17 +270,17 @@ behind_from k [] gs h = h
 behind_from k (f ∷ fs) gs h = behind_from k fs gs h.1
 
 -- A frame that isn't refused 3 is of a sender that has a session.
-known_sender : (b : Stations) (f : Timed) (r : Report) → timed_answer b f ≡ Complete r → sender f < 254
+known_sender : (b : Stations) (f : Timed) (r : Report) → timed_answer b f ≡ Ok (Some r) → sender f < 254
 known_sender b f r = go (ltb (sender f) 254) refl
   where
     go : (t : Bool) → ltb (sender f) 254 ≡ t
-        → cond t (station_step (station_of (sender f) b) f).answer (Refused (frame_refusal f.frame.identifier f.frame.data_bytes)) ≡ Complete r → sender f < 254
+        → cond t (station_step (station_of (sender f) b) f).answer (Err (refusal_of (frame_refusal f.frame.identifier f.frame.data_bytes))) ≡ Ok (Some r) → sender f < 254
     go true e h = ltb-true _ _ e
     go false e h = absurd (refuses _ h)
 
 -- The whole bus, all sessions fresh and no times: where f yields a report after the frames fs of whatever senders, with times or without, then f's own sender sent the
 -- announcement and, since then, exactly the packets that the report was read from, in sequence and in time.
-pub sent_by_one : (fs : List Timed) (f : Timed) (r : Report) → timed_answer (stations_after_all fresh_stations fs) f ≡ Complete r
+pub sent_by_one : (fs : List Timed) (f : Timed) (r : Report) → timed_answer (stations_after_all fresh_stations fs) f ≡ Ok (Some r)
     → (sent : SentTimed (own_timed (sender f) fs) f r) × FromSender (sender f) (sent.announced ∷ sent.middle)
 sent_by_one fs f r h =
     let k : ℕ = sender f in
@@ -295,6 +298,6 @@ answer_at b [] f gs d = refl
 answer_at b (g ∷ fs) f gs d = answer_at (stations_after b g) fs f gs d
 
 -- No made-up report: whatever was sent before and after by whom and when, where a run answers f with a report, f's own sender sent all that it was read from, in time.
-pub no_made_up_report : (fs : List Timed) (f : Timed) (gs : List Timed) (d : Answer) (r : Report) → get_or (timed_answers fresh_stations (fs ++ (f ∷ gs))) (length fs) d ≡ Complete r
+pub no_made_up_report : (fs : List Timed) (f : Timed) (gs : List Timed) (d : Answer) (r : Report) → get_or (timed_answers fresh_stations (fs ++ (f ∷ gs))) (length fs) d ≡ Ok (Some r)
     → (sent : SentTimed (own_timed (sender f) fs) f r) × FromSender (sender f) (sent.announced ∷ sent.middle)
 no_made_up_report fs f gs d r h = sent_by_one fs f r (sym (answer_at fresh_stations fs f gs d) ∙ h)

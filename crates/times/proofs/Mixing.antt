@@ -10,7 +10,7 @@ use borrow.Author.Tests.{lt-ltb, eqb-true, eqb-false}
 use lib.ListN.{length, set, length-set}
 use lib.Seq.{get_or-set_same, get_or-set_other, set-get_or}
 use lib.Dec.{ltb, eqb}
-use Rattle.joining.specs.declared.Answer.{Answer}
+use Rattle.joining.specs.Answers.{Answer}
 use Rattle.joining.specs.Frame.{Frame}
 use Rattle.joining.specs.Run.{nobody, sessions_after, answer_to, sessions_after_all, answers_to_all, own_answers}
 use Rattle.times.specs.declared.Station.{Station}

@@ -12,14 +12,15 @@ use lib.ListN.{length-replicate, get_or-replicate}
 use Rattle.laws.proofs.Tests.{either}
 use Rattle.values.specs.Range.{in_range}
 use Rattle.report.specs.declared.Report.{Report}
-use Rattle.joining.specs.declared.Answer.TheVariants.{Refused, Complete}
+use Rattle.std.specs.Prelude.{Some, Ok, Err}
+use Rattle.refusal.specs.declared.Refusal.TheVariants.{Unfit}
 use Rattle.joining.specs.Joining.{fresh_session}
 use Rattle.joining.proofs.Frames.{frame_refusals, unheard_refused}
 use Rattle.joining.proofs.Reached.{fresh-fit, fresh_of}
 use Rattle.times.specs.declared.Station.{Station}
 use Rattle.times.specs.Timed.{fit_last}
 use Rattle.times.specs.Run.{Timed, sender, station_step, station_after_all, station_of, fresh_station, fresh_stations, timed_answer, stations_after_all, own_timed}
-use Rattle.times.proofs.Steps.{Fit, step_stays_fit, Named, step-named}
+use Rattle.times.proofs.Steps.{Fit, step_stays_fit, Named, low_named, step-named}
 use Rattle.times.proofs.Mixing.{Whole, mixing}
 
 pub fresh-whole : Whole fresh_stations
@@ -54,16 +55,16 @@ reached_named fs f =
     (λ t.
     let low = unheard_refused f.frame.identifier f.frame.data_bytes (ltb-false (sender f) 254 t) in
     let high = frame_refusals f.frame.identifier f.frame.data_bytes in
-    inl (low, omega arith))
+    low_named low (omega arith))
 
 -- ... a report has permitted values, ...
-pub reached_complete : (fs : List Timed) (f : Timed) (r : Report) → timed_answer (stations_after_all fresh_stations fs) f ≡ Complete r → in_range r.values ≡ true
+pub reached_complete : (fs : List Timed) (f : Timed) (r : Report) → timed_answer (stations_after_all fresh_stations fs) f ≡ Ok (Some r) → in_range r.values ≡ true
 reached_complete fs f r e = subst Named e (reached_named fs f)
 
 -- ... and 24 never comes.
-pub never_unfit : (fs : List Timed) (f : Timed) → timed_answer (stations_after_all fresh_stations fs) f ≡ Refused 24 → ⊥
+pub never_unfit : (fs : List Timed) (f : Timed) → timed_answer (stations_after_all fresh_stations fs) f ≡ Err Unfit → ⊥
 never_unfit fs f e = go (subst Named e (reached_named fs f))
   where
-    go : Named (Refused 24) → ⊥
+    go : Named (Err Unfit) → ⊥
     go (inl w) = omega arith
     go (inr w) = omega arith

@@ -13,8 +13,8 @@ use Rattle.report.specs.declared.Report.{Report}
 use Rattle.report.specs.Payload.{payload, size}
 use Rattle.report.proofs.RoundTrip.{Permitted}
 use Rattle.joining.specs.declared.Session.{Session}
-use Rattle.joining.specs.declared.Answer.{Answer}
-use Rattle.joining.specs.declared.Answer.TheVariants.{Kept, Complete}
+use Rattle.joining.specs.Answers.{Answer}
+use Rattle.std.specs.Prelude.{Ok}
 use Rattle.joining.specs.Frame.{Frame, frame_refusal}
 use Rattle.joining.specs.Joining.{packets, fit, take_frame, payload_held}
 use Rattle.joining.specs.Run.{solo_step, solo_session, solo_answers, own_answers}
@@ -114,7 +114,7 @@ module _ (s : Station) (ok : Fit s) (g : Frame) (fs : List Timed) (takes : (x : 
         session = ap (λ (y : Heard). (station_after_all y.station fs).session) e ∙ rest.1;
       }
 
-kept_all : (n : ℕ) (r : Report) → AllKept (replicate n Kept ++ (Complete r ∷ []))
+kept_all : (n : ℕ) (r : Report) → AllKept (replicate n (Ok None) ++ (Ok (Some r) ∷ []))
 kept_all zero r = (refl, tt)
 kept_all (suc n) r = (refl, kept_all n r)
 
@@ -131,7 +131,7 @@ module _ (sender : ℕ) (known : sender ≤ 253) (r : Report) (note : Option (Li
       f.time timely
 
   module _ (fs : List Timed) (these : frames_of fs ≡ frames sender (payload r note)) (timely : Timely s.last fs) where
-    pub same-report : station_answers s fs ≡ replicate (packets (size r.values.edition note)) Kept ++ (Complete r ∷ [])
+    pub same-report : station_answers s fs ≡ replicate (packets (size r.values.edition note)) (Ok None) ++ (Ok (Some r) ∷ [])
     same-report =
         let t = taken_as fs these timely in
         t.answers ∙ ap (solo_answers t.by) these ∙ bench.same-report sender known r note may t.by t.ready
@@ -152,7 +152,7 @@ module _ (sender : ℕ) (known : sender ≤ 253) (r : Report) (note : Option (Li
 module _ (sender : ℕ) (known : sender ≤ 253) (r : Report) (note : Option (List ℕ)) (may : Permitted r note)
     (b : Stations) (all : Whole b) (ready : Fit (station_of sender b))
     (fs : List Timed) (own : frames_of (own_timed sender fs) ≡ frames sender (payload r note)) (timely : Timely (station_of sender b).last (own_timed sender fs)) where
-  pub mixed_report : own_answers sender (frames_of fs) (timed_answers b fs) ≡ replicate (packets (size r.values.edition note)) Kept ++ (Complete r ∷ [])
+  pub mixed_report : own_answers sender (frames_of fs) (timed_answers b fs) ≡ replicate (packets (size r.values.edition note)) (Ok None) ++ (Ok (Some r) ∷ [])
   mixed_report =
       (mixing sender (omega arith) b fs all).1 ∙ same-report sender known r note may (station_of sender b) ready (own_timed sender fs) own timely
 

@@ -18,8 +18,13 @@ use Rattle.report.specs.declared.Report.{Report}
 use Rattle.refusal.specs.declared.Refusal.{Refusal}
 use Rattle.report.proofs.Reader.{range_of}
 use Rattle.joining.specs.declared.Session.{Session}
-use Rattle.joining.specs.declared.Answer.{Answer}
-use Rattle.joining.specs.declared.Answer.TheVariants.{Refused, Kept, Complete}
+use Rattle.joining.specs.Answers.{Answer}
+use Rattle.std.specs.Prelude.{Ok, Err, is_ok}
+use Rattle.refusal.specs.declared.Refusal.TheVariants.{BeforeLastTime}
+use Rattle.refusal.specs.Numbers.{number_of}
+use Rattle.refusal.specs.Answers.{refusal_of}
+use Rattle.refusal.proofs.Answers.{known}
+use Rattle.joining.proofs.Answers.{number_back}
 use Rattle.joining.specs.declared.Taken.{Taken}
 use Rattle.joining.specs.Frame.{Frame, frame_refusal, is_announcement}
 use Rattle.joining.specs.Joining.{fit, is_closed, closed, stored, yields, refused, announcement_refusal, announce, packet, take_frame}
@@ -32,7 +37,7 @@ use Rattle.times.specs.declared.Came.TheVariants.{InTime, Late, Before, Unfit}
 use Rattle.times.specs.declared.Last.{Last}
 use Rattle.times.specs.declared.Station.{Station}
 use Rattle.times.specs.declared.Heard.{Heard}
-use Rattle.times.specs.Timed.{fit_last, is_before, is_late, met_at, turned, last_after, kept_at, timed_frame, passes, stops, meets}
+use Rattle.times.specs.Timed.{fit_last, is_before, is_late, met_at, turned, is_kept, last_after, kept_at, timed_frame, passes, stops, meets}
 use Rattle.times.specs.Run.{Timed, frame_at, station_step}
 use Rattle.times.specs.Inner.{came_at}
 
@@ -52,11 +57,15 @@ met-fit s l t fits = go (is_late l t)
     go true = closed-fit s
     go false = fits
 
+-- What refuses nothing is kept.
+pub kept_ok : (a : Answer) → is_ok a ≡ is_kept a
+kept_ok (Err e) = refl
+kept_ok (Ok a) = refl
+
 pub after-fit : (a : Answer) (t : ℕ) (l : Last) → fit_last l ≡ true → fit_last (last_after a t l) ≡ true
 unfolding fit_last
-after-fit (Refused n) t l h = h
-after-fit Kept t l h = refl
-after-fit (Complete r) t l h = refl
+after-fit (Err n) t l h = h
+after-fit (Ok a) t l h = refl
 
 -- What each way to come says of the tests.
 abbrev pub Tests : Came → Last → ℕ → Type 0
@@ -248,9 +257,12 @@ step_stays_fit s f ok = go (ways s f ok)
 
 -- What an answer can say where nothing is unfit: refusals 1 to 10 or 26, and a report with permitted values.
 abbrev pub Named : Answer → Type 0
-Named (Refused n) = ((1 ≤ n) × (n ≤ 10)) ⊎ (n ≡ 26)
-Named Kept = Unit
-Named (Complete r) = in_range r.values ≡ true
+Named (Err e) = ((1 ≤ number_of e) × (number_of e ≤ 10)) ⊎ (number_of e ≡ 26)
+Named (Ok None) = Unit
+Named (Ok (Some r)) = in_range r.values ≡ true
+
+pub low_named : {n : ℕ} → 1 ≤ n → n ≤ 10 → Named (Err (refusal_of n))
+low_named {n} l u = rw (number_back n l u) (inl (l, u))
 
 pub solo_named : (s : Session) → fit s ≡ true → (id : ℕ) (d : List ℕ) → Named (take_frame s id d).answer
 unfolding take_frame announce packet read_payload
@@ -264,11 +276,11 @@ solo_named s fits id d = go (eqb (frame_refusal id d) 0) refl
         either A (is_announcement id)
         (λ t.
         either A (eqb (announcement_refusal d) 0) (λ e. tt)
-        (λ e. let some = eqb-false (announcement_refusal d) 0 e in inl (omega arith, omega (arith, announcement_refusals d))))
+        (λ e. let some = eqb-false (announcement_refusal d) 0 e in low_named (omega arith) (omega (arith, announcement_refusals d))))
         (λ t.
-        either A (eqb s.size 0) (λ e. inl (omega arith, omega arith))
+        either A (eqb s.size 0) (λ e. low_named (omega arith) (omega arith))
         (λ e.
-        either A (not (eqb (get_or d 0 0) s.next)) (λ f. inl (omega arith, omega arith))
+        either A (not (eqb (get_or d 0 0) s.next)) (λ f. low_named (omega arith) (omega arith))
         (λ f.
         either A (ltb s.next s.count) (λ g. tt)
         (λ g. either (λ (r : Result Report Refusal). Named (yields r)) (is_payload (take s.size (stored s d))) (λ h. range_of (take s.size (stored s d)) h) (λ h. inl (omega arith, omega arith))))))
@@ -277,15 +289,15 @@ solo_named s fits id d = go (eqb (frame_refusal id d) 0) refl
     go false e =
         let low = eqb-false (frame_refusal id d) 0 e in
         let high = frame_refusals id d in
-        inl (omega arith, omega arith)
+        low_named (omega arith) (omega arith)
     go true e = subst A (sym (if_not _ _ (ap not fits))) heard
 
 pub step-named : (s : Station) (f : Timed) → Fit s → Named (station_step s f).answer
 step-named s f ok = go (ways s f ok)
   where
-    named : {n : ℕ} → ((1 ≤ n) × (n ≤ 3)) ⊎ (n ≡ 26) → ((1 ≤ n) × (n ≤ 10)) ⊎ (n ≡ 26)
-    named (inl w) = inl (w.0, omega arith)
-    named (inr e) = inr e
+    named : {n : ℕ} → ((1 ≤ n) × (n ≤ 3)) ⊎ (n ≡ 26) → Named (Err (refusal_of n))
+    named (inl w) = low_named w.0 (omega arith)
+    named (inr e) = rw (e, known BeforeLastTime) (inr refl)
 
     go : Way s f → Named (station_step s f).answer
     go (away n w e) = rw e (named w)

@@ -4,8 +4,9 @@ use Rattle.std.specs.Prelude.{Option, None, Some, Result, Ok}
 use Rattle.report.specs.Payload.{read_payload}
 use Rattle.report.specs.declared.Report.{Report}
 use Rattle.joining.specs.declared.Session.{Session}
-use Rattle.joining.specs.declared.Answer.{Answer}
-use Rattle.joining.specs.declared.Answer.TheVariants.{Refused, Kept, Complete}
+use Rattle.joining.specs.Answers.{Answer}
+use Rattle.std.specs.Prelude.{Err}
+use Rattle.refusal.specs.Answers.{refusal_of}
 use Rattle.joining.specs.Frame.{Frame, sender_of, frame_refusal}
 use Rattle.joining.specs.Joining.{packets, fresh_session}
 use Rattle.joining.specs.Run.{senders, fresh_sessions, session_of, Announces, InSequence, joined}
@@ -14,6 +15,7 @@ use Rattle.times.specs.declared.Last.{Last}
 use Rattle.times.specs.declared.Station.{Station}
 use Rattle.times.specs.declared.Heard.{Heard}
 use Rattle.refusal.specs.declared.Refusal.{Refusal}
+use Rattle.refusal.specs.Numbers.{number_of}
 use Rattle.refusal.specs.Answers.{answered}
 use Rattle.times.specs.declared.Times.{Times}
 use Rattle.times.specs.Timed.{no_time, timed_frame, untimed_frame, stops, meets, last_of, with_last, fresh_times}
@@ -67,7 +69,7 @@ stations_after b f = cond (ltb (sender f) senders) (with_station b (sender f) (s
 -- What a frame is answered; those of senders 254 and 255 belong to no session.
 abbrev pub timed_answer : Stations → Timed → Answer
 timed_answer b f =
-    cond (ltb (sender f) senders) (station_step (station_of (sender f) b) f).answer (Refused (frame_refusal f.frame.identifier f.frame.data_bytes))
+    cond (ltb (sender f) senders) (station_step (station_of (sender f) b) f).answer (Err (refusal_of (frame_refusal f.frame.identifier f.frame.data_bytes)))
 
 -- What stands in the bytes and times that a caller lends, and the frame that it hands in, with a time or without.
 abbrev pub stations_in : List ℕ → Times → Stations
@@ -124,9 +126,8 @@ own_timed k (f ∷ fs) = cond (eqb (sender f) k) (f ∷ own_timed k fs) (own_tim
 
 -- Refusals 1 to 4 and 26.
 abbrev pub passed_over : Answer → Bool
-passed_over (Refused n) = leb n 4 || eqb n 26
-passed_over Kept = false
-passed_over (Complete r) = false
+passed_over (Err e) = leb (number_of e) 4 || eqb (number_of e) 26
+passed_over (Ok a) = false
 
 -- One sender's other frames, in their order.
 unfoldable pub heard_at : Station → List Timed → List Timed

@@ -1,8 +1,9 @@
 -- A sender's last kept time, and what a frame with a time does to its session and to that time (docs/RULES.md, section 15).
 use Rattle.std.specs.Prelude.{ℕ, ◌-◌, Bool, true, false, cond, not, ◌&&◌, ◌||◌, List, get_or, set, replicate, ltb, eqb}
 use Rattle.joining.specs.declared.Session.{Session}
-use Rattle.joining.specs.declared.Answer.{Answer}
-use Rattle.joining.specs.declared.Answer.TheVariants.{Refused, Kept, Complete}
+use Rattle.joining.specs.Answers.{Answer}
+use Rattle.std.specs.Prelude.{Some, None, Ok, Err}
+use Rattle.refusal.specs.Answers.{refusal_of}
 use Rattle.joining.specs.declared.Taken.{Taken}
 use Rattle.joining.specs.Frame.{frame_refusal}
 use Rattle.joining.specs.Joining.{fit, closed, take_frame}
@@ -40,13 +41,12 @@ met_at s l t = cond (is_late l t) (closed s) s
 
 -- A refusal that changes nothing.
 abbrev pub turned : ℕ → Station → Heard
-turned n s = record { answer = Refused n; station = s }
+turned n s = record { answer = Err (refusal_of n); station = s }
 
 -- Rule 15.4: every frame that isn't refused is kept, also one that completes a report: it sets the time. A refused one never does.
 abbrev pub is_kept : Answer → Bool
-is_kept (Refused n) = false
-is_kept Kept = true
-is_kept (Complete r) = true
+is_kept (Err e) = false
+is_kept (Ok a) = true
 
 abbrev pub last_after : Answer → ℕ → Last → Last
 last_after a t l = cond (is_kept a) (time_of t) l

@@ -167,7 +167,7 @@ impl Station {
         ensures { result ≡ turned (number_of refusal) self }
     {
         Heard {
-            answer: Answer::Refused(refusal.number()),
+            answer: Err(refusal),
             station: self,
         }
     }
@@ -195,7 +195,7 @@ impl Last {
     fn after(self, answer: Answer, time: u32) -> Last
         ensures { result ≡ last_after answer time self }
     {
-        if kept(answer) {
+        if answer.is_ok() {
             return Last {
                 known: true,
                 at: time,
@@ -228,12 +228,9 @@ impl Times {
         requires { length room.old ≡ room_bytes }
         ensures { Takes (stations_in room.old self.old) (timed_at time id «data».now) result room.new self.new }
     {
-        let last = match self.meet(room, time, id, data) {
-            Err(refusal) => return Answer::Refused(refusal.number()),
-            Ok(last) => last,
-        };
+        let last = self.meet(room, time, id, data)?;
         let answer = Bus::take(room, id, data);
-        if kept(answer) {
+        if answer.is_ok() {
             return answer;
         }
         self.put((id % 256) as u8, last);
@@ -319,17 +316,6 @@ fn compared(known: bool, last: u32, time: u32) -> Came
         return Came::Unfit;
     }
     Came::InTime
-}
-
-// Whether an answer refuses nothing.
-fn kept(answer: Answer) -> bool
-    ensures { result ≡ is_kept answer }
-{
-    match answer {
-        Answer::Refused(_) => false,
-        Answer::Kept => true,
-        Answer::Complete(_) => true,
-    }
 }
 
 // Closes the session of a frame that came too late, unless 1 to 3 or 24 refuse it: they stand before, and no time does.

@@ -8,15 +8,17 @@ use Rattle.bus.proofs.Places.{whole}
 use Rattle.joining.proofs.Steps.{fit_numbers, unfit, announcing, carrying}
 use Rattle.bus.proofs.Placed.{step}
 use mathlib.Core.Path.{ap}
-use Rattle.joining.specs.declared.Answer.TheVariants.{Refused}
+use Rattle.std.specs.Prelude.{Err}
 use mathlib.Core.Bool.{not}
+use Rattle.refusal.specs.declared.Refusal.TheVariants.{Unfit}
+use Rattle.refusal.proofs.Answers.{refusal_back}
 use Rattle.bus.proofs.advance_at.Goals as goal
 
 pub returns-then-not-numbers_fit : goal.returns-then-not-numbers_fit
 returns-then-not-numbers_fit c =
     let p = c.args.place.now in
     let d = c.args.«data».now in
-    let both = step (unfit (session_in p) c.args.id d c.requires.data_value (sym (fit_numbers (session_in p)) ∙ sym c.numbers_fit.ensures ∙ not-true _ (ap not c.if-not-numbers_fit.true))) (ap Refused c.number.ensures) (sym (whole p c.requires.place_len)) in
+    let both = step (unfit (session_in p) c.args.id d c.requires.data_value (sym (fit_numbers (session_in p)) ∙ sym c.numbers_fit.ensures ∙ not-true _ (ap not c.if-not-numbers_fit.true))) (ap (λ f. Err f) (sym (refusal_back Unfit))) (sym (whole p c.requires.place_len)) in
     record { value = both.0; place_after = both.1 }
 
 pub packet_at-requires : goal.packet_at-requires

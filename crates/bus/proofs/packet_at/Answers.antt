@@ -1,7 +1,7 @@
 -- `bus::packet_at` meets its contract: at each `return` the tests that led there say which case of `packet` holds, and the bytes are that session's.
 -- Assumes nothing.
 use mathlib.Core.Path.{refl, sym, ◌∙◌, ap}
-use Rattle.joining.specs.declared.Answer.TheVariants.{Refused}
+use Rattle.std.specs.Prelude.{Err}
 use mathlib.Core.List.{List, [], ◌∷◌, ◌++◌}
 use Prim.Native.Nat.{ℕ, ◌+◌}
 use native.Mathlib.Omega.{arith}
@@ -11,20 +11,22 @@ use Rattle.joining.proofs.Reached.{fit_open}
 use Rattle.bus.proofs.Places.{whole}
 use Rattle.joining.proofs.Steps.{none_open, stray, kept, last}
 use Rattle.bus.proofs.Placed.{step, stored_at, stored_long}
+use Rattle.refusal.specs.declared.Refusal.TheVariants.{NotOpen, OutOfSequence}
+use Rattle.refusal.proofs.Answers.{refusal_back}
 use Rattle.bus.proofs.packet_at.Goals as goal
 
 pub returns-then-size-eq0 : goal.returns-then-size-eq0
 returns-then-size-eq0 c =
     let p = c.args.place.now in
     let d = c.args.«data».now in
-    let both = step (none_open (session_in p) d c.if-size-eq0.true) (ap Refused c.number.ensures) (sym (whole p c.requires.place_len)) in
+    let both = step (none_open (session_in p) d c.if-size-eq0.true) (ap (λ f. Err f) (sym (refusal_back NotOpen))) (sym (whole p c.requires.place_len)) in
     record { value = both.0; place_after = both.1 }
 
 pub returns-then-byte-next : goal.returns-then-byte-next
 returns-then-byte-next c =
     let p = c.args.place.now in
     let d = c.args.«data».now in
-    let both = step (stray (session_in p) d c.if-size-eq0.false c.byte.ensures c.if-byte-next.true) (ap Refused c.number-then-byte-next.ensures) c.close_at.ensures in
+    let both = step (stray (session_in p) d c.if-size-eq0.false c.byte.ensures c.if-byte-next.true) (ap (λ f. Err f) (sym (refusal_back OutOfSequence))) c.close_at.ensures in
     record { value = both.0; place_after = both.1 }
 
 pub overflow_sub-next : goal.overflow_sub-next

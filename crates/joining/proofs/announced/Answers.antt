@@ -10,6 +10,7 @@ use native.Mathlib.Omega.{arith}
 use Rattle.joining.specs.Inner.{session_with}
 use Rattle.joining.proofs.Fitness.{carried_range}
 use Rattle.joining.proofs.Steps.{announcement_let, announcement_stopped, is_4, opens, stays, closes, good_size}
+use Rattle.refusal.proofs.Answers.{refusal_back}
 use Rattle.joining.proofs.announced.Goals as goal
 
 pub overflow_cast-result : goal.overflow_cast-result
@@ -35,7 +36,7 @@ returns-in-Err c =
     let s = session_with c.args.bytes.now c.args.size c.args.count c.args.next in
     let this = same_true the_type tt c.in-Err.refusal NotAnAnnouncement (sym c.if-eq.ensures) in
     let e = announcement_stopped _ c.in-Err.ensures in
-    rw (stays s a.«data».now (e ∙ ap number_of this)) (record { value = c.refused.ensures ∙ rw this; bytes_after = refl })
+    rw (stays s a.«data».now (e ∙ ap number_of this), refusal_back NotAnAnnouncement) (record { value = c.refused.ensures ∙ rw this; bytes_after = refl })
 
 pub returns-in-Err-2 : goal.returns-in-Err-2
 returns-in-Err-2 c =
@@ -43,5 +44,5 @@ returns-in-Err-2 c =
     let s = session_with c.args.bytes.now c.args.size c.args.count c.args.next in
     let other = same_false the_type c.in-Err.refusal NotAnAnnouncement (sym c.if-eq.ensures) in
     let e = announcement_stopped _ c.in-Err.ensures in
-    rw (closes s a.«data».now (λ z. absurd (omega (arith, z, e, number_above c.in-Err.refusal))) (λ z. other (is_4 c.in-Err.refusal (sym e ∙ z))), e)
+    rw (closes s a.«data».now (λ z. absurd (omega (arith, z, e, number_above c.in-Err.refusal))) (λ z. other (is_4 c.in-Err.refusal (sym e ∙ z))), e, refusal_back c.in-Err.refusal)
     (record { value = c.refused-in-Err-2.ensures; bytes_after = refl })

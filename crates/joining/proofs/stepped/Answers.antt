@@ -8,13 +8,15 @@ use Rattle.joining.proofs.Frames.{frame_let}
 use Rattle.joining.proofs.Steps.{fit_numbers, stopped, unfit, announcing, carrying}
 use mathlib.Core.Path.{ap}
 use mathlib.Core.Bool.{not}
+use Rattle.refusal.specs.declared.Refusal.TheVariants.{Unfit}
+use Rattle.refusal.proofs.Answers.{refusal_back}
 use Rattle.joining.proofs.stepped.Goals as goal
 
 pub returns-in-Err : goal.returns-in-Err
 returns-in-Err c =
     let a = c.args in
     let s = session_with c.args.bytes.now c.args.size c.args.count c.args.next in
-    rw (stopped s c.args.id a.«data».now _ c.in-Err.ensures) (record { value = c.refused.ensures; bytes_after = refl })
+    rw (stopped s c.args.id a.«data».now _ c.in-Err.ensures, refusal_back c.in-Err.refusal) (record { value = c.refused.ensures; bytes_after = refl })
 
 pub returns-then-not-numbers_fit : goal.returns-then-not-numbers_fit
 returns-then-not-numbers_fit c =
@@ -22,7 +24,7 @@ returns-then-not-numbers_fit c =
     let s = session_with c.args.bytes.now c.args.size c.args.count c.args.next in
     let e = frame_let c.args.id a.«data».now c.in_default.ensures in
     let f = sym (fit_numbers s) ∙ sym c.numbers_fit.ensures ∙ not-true _ (ap not c.if-not-numbers_fit.true) in
-    rw (unfit s c.args.id a.«data».now e f) (record { value = c.refused-then-not-numbers_fit.ensures; bytes_after = refl })
+    rw (unfit s c.args.id a.«data».now e f, refusal_back Unfit) (record { value = c.refused-then-not-numbers_fit.ensures; bytes_after = refl })
 
 pub packet-requires : goal.packet-requires
 packet-requires c =

@@ -7,7 +7,7 @@ use native.Mathlib.Omega.{arith}
 use lib.ListN.{take, drop}
 use Rattle.wire.specs.Bytes.{number, part}
 use Rattle.window.specs.declared.Counts.{Counts}
-use Rattle.joining.specs.declared.Answer.{Answer}
+use Rattle.joining.specs.Answers.{Answer}
 use Rattle.joining.specs.Frame.{Frame}
 use Rattle.joining.specs.Run.{sessions_after, answer_to}
 use Rattle.bus.specs.Room.{room_of}
