@@ -88,9 +88,7 @@ impl Senders {
         match self.take(heard) {
             Err(refusal) => refused(out, refusal.number()),
             Ok(None) => put(out, 0, b"kept"),
-            Ok(Some(report)) => {
-                put_report(report, wire::front(self.place(sender), size), out)
-            }
+            Ok(Some(report)) => { put_report(report, wire::front(self.place(sender), size), out) }
         }
     }
 
