@@ -2,12 +2,9 @@
 -- Assumes nothing.
 use mathlib.Core.Path.{◌≡◌, sym, ap, ◌∙◌, subst}
 use mathlib.Core.List.{List, [], ◌++◌, append_assoc, append-nil}
-use Rattle.std.proofs.Common.{Bool, true, false, Option, Result, Ok, Err, IfSome, refl}
-use Rattle.std.proofs.lemmas.Bool.{false≢true, true≢false}
-use Rattle.std.specs.Io.{ReadsAtMost}
-use Rattle.std.specs.Io.KnownBytes.{ReadConsumes, Consumes, Appends, IsAtEnd}
-use Rattle.std.proofs.KnownBytes.{Consumes-nil, Consumes-trans, Consumes-kept, Consumes-whole, Appends-nil, Appends-trans}
-use Rattle.std.specs.Result.{is_err, result_unwrap_or}
+use Rattle.std.proofs.Common.{Option, IfSome}
+use Rattle.std.specs.Io.KnownBytes.{Consumes, Appends, IsAtEnd}
+use Rattle.std.proofs.KnownBytes.{Consumes-nil, Consumes-trans, Consumes-whole, Appends-nil, Appends-trans}
 use Prim.Native.Nat.{ℕ, ◌+◌, ◌-◌, ◌^◌, ◌≤◌, ◌<◌}
 use native.Mathlib.Omega.{arith}
 use lib.ListN.{length, take, drop, take-append-drop}
@@ -106,110 +103,51 @@ none_left space {n} {at} e =
     let nought : n - at ≡ 0 = omega arith in
     ap (λ (k : ℕ). take k (drop at space)) nought
 
--- And nothing came of a read of no byte.
-pub none_came : (space : List ℕ) {n : ℕ} → n ≡ 0 → take (n - 0) space ≡ []
-none_came space e = ap (λ (k : ℕ). take (k - 0) space) e
-
 -- A turn takes no more than was left.
 pub took_within : {log : Log} {w : Waiting} {room : List ℕ} {t : Turn} (n at : ℕ) (space : List ℕ) → Turns log w (take (n - at) (drop at space)) t room → t.taken ≤ n - at
 took_within n at space h = omega (arith, h.within, length-take (n - at) (drop at space))
 
--- What a read into lent bytes answers: how many came, and whether it failed.
-module _ {E : Type 0} {n : ℕ} (r : Result ℕ E) (space : List ℕ) (e : n ≡ result_unwrap_or r 0) where
-  pub read_small : ReadsAtMost r space → n ≤ length space
-  read_small h = rw e (small r h)
-    where
-      small : (r : Result ℕ E) → ReadsAtMost r space → result_unwrap_or r 0 ≤ length space
-      small (Ok k) h = h.0
-      small (Err x) h = omega arith
+-- What came of a read is what is left of it before any of that is taken.
+pub came : (given given' : Option (List ℕ)) (space : List ℕ) (n : ℕ) → Consumes given given' (take n space) → Consumes given given' (take (n - 0) space)
+came given given' space n h =
+    let same : n ≡ n - 0 = omega arith in
+    subst (λ (k : ℕ). Consumes given given' (take k space)) same h
 
-  pub read_so : (given given' : Option (List ℕ)) → ReadConsumes given given' r space → Consumes given given' (take (n - 0) space)
-  read_so given given' h =
-      let same : n - 0 ≡ result_unwrap_or r 0 = omega (arith, e) in
-      subst (λ (k : ℕ). Consumes given given' (take k space)) (sym same) (so r h)
-    where
-      so : (r : Result ℕ E) → ReadConsumes given given' r space → Consumes given given' (take (result_unwrap_or r 0) space)
-      so (Ok k) h = h.0
-      so (Err x) h = Consumes-kept given given given' [] (Consumes-nil given) h
-
-  pub read_end : (given given' : Option (List ℕ)) → ReadConsumes given given' r space → n ≡ 0 → is_err r ≡ false → 0 < length space → IsAtEnd given'
-  read_end given given' h z f some = end r h (sym e ∙ z) f
-    where
-      end : (r : Result ℕ E) → ReadConsumes given given' r space → result_unwrap_or r 0 ≡ 0 → is_err r ≡ false → IsAtEnd given'
-      end (Ok k) h z f = h.1 z some
-      end (Err x) h z f = absurd (true≢false f)
-
-pub running_begun : (given held : Option (List ℕ)) {log : Log} {w : Waiting} {left : List ℕ} (turns : ℕ) → log ≡ fresh_log → w ≡ nothing → left ≡ [] → Running given given held held log w left false turns
+pub running_begun : (given held : Option (List ℕ)) {log : Log} {w : Waiting} {left : List ℕ} → log ≡ fresh_log → w ≡ nothing → left ≡ [] → Running given given held held log w left
 unfolding begun
-running_begun given held turns a b e =
-    record {
-      so_far = begun a b e;
-      read = Consumes-nil given;
-      printed = λ more. Appends-nil held;
-      over = λ f. absurd (false≢true f);
-      none_left = λ f. absurd (false≢true f);
-      at_end = λ f. absurd (false≢true f);
-      all_printed = λ f. absurd (false≢true f);
-    }
+running_begun given held a b e = record { so_far = begun a b e; read = Consumes-nil given; printed = Appends-nil held }
 
-module _ {given₀ given held₀ held : Option (List ℕ)} {log : Log} {w : Waiting} {left : List ℕ} {was : Bool} {turns : ℕ} (r : Running given₀ given held₀ held log w left was turns) (more : 0 < turns) where
-  -- A log that has ended has no turn left.
-  no : was ≡ true → ⊥
-  no f = absurd (omega (arith, r.over f, more))
-
-  -- Bytes came.
-  pub running_read : (given' : Option (List ℕ)) (bytes : List ℕ) (turns' : ℕ) → left ≡ [] → Consumes given given' bytes → Running given₀ given' held₀ held log w bytes was turns'
+module _ {given₀ given held₀ held : Option (List ℕ)} {log : Log} {w : Waiting} {left : List ℕ} (r : Running given₀ given held₀ held log w left) where
+  -- Bytes came, or none.
+  pub running_read : (given' : Option (List ℕ)) (bytes : List ℕ) → left ≡ [] → Consumes given given' bytes → Running given₀ given' held₀ held log w bytes
   unfolding brought
-  running_read given' bytes turns' e h =
+  running_read given' bytes e h =
       record {
         so_far = brought bytes e r.so_far;
         read = Consumes-trans given₀ given given' r.so_far.all bytes r.read h;
-        printed = λ some. r.printed more;
-        over = λ f. absurd (no f);
-        none_left = λ f. absurd (no f);
-        at_end = λ f. absurd (no f);
-        all_printed = λ f. absurd (no f);
-      }
-
-  -- No byte came: the log has ended, or the read failed.
-  pub running_ended : (given' : Option (List ℕ)) (bytes : List ℕ) (last : Bool) → left ≡ [] → Consumes given given' bytes → bytes ≡ [] → (last ≡ true → IsAtEnd given')
-      → Running given₀ given' held₀ held log w bytes last 0
-  unfolding brought
-  running_ended given' bytes last e h none end =
-      record {
-        so_far = brought bytes e r.so_far;
-        read = Consumes-trans given₀ given given' r.so_far.all bytes r.read h;
-        printed = λ some. r.printed more;
-        over = λ f. refl;
-        none_left = λ f. none;
-        at_end = end;
-        all_printed = λ f. r.printed more;
+        printed = r.printed;
       }
 
   -- A turn took some of the bytes, and handed its text over.
-  pub running_took : (held' : Option (List ℕ)) {rest room : List ℕ} {t : Turn} (turns' : ℕ) → Turns log w left t room → rest ≡ drop t.taken left
-      → (0 < turns' → Appends held held' (take t.printed.count room)) → Running given₀ given held₀ held' t.log t.waiting rest was turns'
+  pub running_took : (held' : Option (List ℕ)) {rest room : List ℕ} {t : Turn} → Turns log w left t room → rest ≡ drop t.taken left
+      → Appends held held' (take t.printed.count room) → Running given₀ given held₀ held' t.log t.waiting rest
   unfolding took
-  running_took held' {rest} {room} {t} turns' h e p =
+  running_took held' {rest} {room} {t} h e p =
       record {
         so_far = took h e r.so_far;
         read = r.read;
-        printed = λ some. Appends-trans held₀ held held' r.so_far.said (take t.printed.count room) (r.printed more) (p some);
-        over = λ f. absurd (no f);
-        none_left = λ f. absurd (no f);
-        at_end = λ f. absurd (no f);
-        all_printed = λ f. absurd (no f);
+        printed = Appends-trans held₀ held held' r.so_far.said (take t.printed.count room) r.printed p;
       }
 
 -- At the end, whatever the reader and the writer are, all that was handed over is the text of all that was read.
-pub handed_over : {given₀ given held₀ held : Option (List ℕ)} {log : Log} {w : Waiting} {left room : List ℕ} {last : Bool} {turns : ℕ} {p : Printed}
-    → (r : Running given₀ given held₀ held log w left last turns) → last ≡ true → Ends log w p room → r.so_far.said ++ take p.count room ≡ log_text r.so_far.all
-handed_over r f h = whole h (r.none_left f) r.so_far
+pub handed_over : {given₀ given held₀ held : Option (List ℕ)} {log : Log} {w : Waiting} {left room : List ℕ} {p : Printed}
+    → (r : Running given₀ given held₀ held log w left) → left ≡ [] → Ends log w p room → r.so_far.said ++ take p.count room ≡ log_text r.so_far.all
+handed_over r none h = whole h none r.so_far
 
--- And so, of a reader whose bytes are known, the text of its bytes is what the writer holds more.
-pub all_handed_over : {given₀ given held₀ held : Option (List ℕ)} (held' : Option (List ℕ)) {log : Log} {w : Waiting} {left : List ℕ} (room : List ℕ) {last : Bool} {turns : ℕ} (count : ℕ)
-    → (r : Running given₀ given held₀ held log w left last turns) → last ≡ true → r.so_far.said ++ take count room ≡ log_text r.so_far.all → Appends held held' (take count room)
+-- And so, of a reader whose bytes are known and that has no more, the text of its bytes is what the writer holds more.
+pub all_handed_over : {given₀ given held₀ held : Option (List ℕ)} (held' : Option (List ℕ)) {log : Log} {w : Waiting} {left : List ℕ} (room : List ℕ) (count : ℕ)
+    → (r : Running given₀ given held₀ held log w left) → IsAtEnd given → r.so_far.said ++ take count room ≡ log_text r.so_far.all → Appends held held' (take count room)
     → IfSome given₀ (λ bytes. Appends held₀ held' (log_text bytes))
-all_handed_over {given₀} {given} {held₀} {held} held' room count r f all q =
-    let said = Appends-trans held₀ held held' r.so_far.said (take count room) (r.all_printed f) q in
-    Consumes-whole given₀ given r.so_far.all (λ bytes. Appends held₀ held' (log_text bytes)) r.read (r.at_end f) (subst (Appends held₀ held') all said)
+all_handed_over {given₀} {given} {held₀} {held} held' room count r at_end all q =
+    let said = Appends-trans held₀ held held' r.so_far.said (take count room) r.printed q in
+    Consumes-whole given₀ given r.so_far.all (λ bytes. Appends held₀ held' (log_text bytes)) r.read at_end (subst (Appends held₀ held') all said)

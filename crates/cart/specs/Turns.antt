@@ -1,6 +1,6 @@
 -- A turn of the log program and its end: which bytes are handed over for printing.
-use Rattle.std.specs.Prelude.{ℕ, ◌≤◌, ◌<◌, ◌≡◌, Bool, true, Option, List, [], ◌++◌, length, take}
-use Rattle.std.specs.Io.KnownBytes.{Appends, Consumes, IsAtEnd}
+use Rattle.std.specs.Prelude.{ℕ, ◌≤◌, ◌≡◌, Option, List, ◌++◌, length, take}
+use Rattle.std.specs.Io.KnownBytes.{Appends, Consumes}
 use Rattle.journal.specs.declared.Log.{Log}
 use Rattle.journal.specs.Log.{log_text}
 use Rattle.pieces.specs.declared.Waiting.{Waiting}
@@ -25,13 +25,8 @@ pub record SoFar (log : Log) (w : Waiting) (left : List ℕ) : Type 0 where
   pub split : all ≡ come ++ left
   pub handed : Handed come said log w
 
--- A run so far, where `turns` are left: all bytes that were read are those that the reader gave, and what was handed over is what the writer holds more, unless
--- a write failed, and then no turn is left. The log has ended only where the reader has no more and all was taken.
-pub record Running (given₀ given held₀ held : Option (List ℕ)) (log : Log) (w : Waiting) (left : List ℕ) (ended : Bool) (turns : ℕ) : Type 0 where
+-- A run so far: all bytes that were read are those that the reader gave, and what was handed over is what the writer holds more.
+pub record Running (given₀ given held₀ held : Option (List ℕ)) (log : Log) (w : Waiting) (left : List ℕ) : Type 0 where
   pub so_far : SoFar log w left
   pub read : Consumes given₀ given so_far.all
-  pub printed : 0 < turns → Appends held₀ held so_far.said
-  pub over : ended ≡ true → turns ≡ 0
-  pub none_left : ended ≡ true → left ≡ []
-  pub at_end : ended ≡ true → IsAtEnd given
-  pub all_printed : ended ≡ true → Appends held₀ held so_far.said
+  pub printed : Appends held₀ held so_far.said

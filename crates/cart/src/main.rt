@@ -1,7 +1,7 @@
 // The log program: a log on standard input, its lines on standard output.
 #![tactic(auto)]
 
-ghost use Rattle.std.specs.Prelude.{◌≡◌, ◌<◌, ◌≤◌, length, take, IfSome, true, false};
+ghost use Rattle.std.specs.Prelude.{◌≡◌, length, take, IfSome, true, false};
 ghost use Rattle.std.specs.Io.KnownBytes.{Appends};
 ghost use Rattle.journal.specs.Log.{log_text};
 ghost use Rattle.cart.specs.Turns.{Turns, Ends};
@@ -88,7 +88,7 @@ fn main(rt: HostRuntime) {
 
 // Reads to the end of the log and prints what comes, a piece and a room at a time; whether all of it was read and printed. A read or a write that
 // fails is said, and the log's end is then not printed. The log is handed to a turn and back, and copied nowhere else. A proved loop has to end,
-// so it counts its turns down from a number that no run uses up.
+// so it counts its turns to a number that no run reaches.
 fn run<R: Read, W: Write>(input: &mut R, out: &mut W, err: &impl Print) -> bool
     ensures { result ≡ true → IfSome (R.remaining input.old) (λ bytes. Appends (W.contents out.old) (W.contents out.new) (log_text bytes)) }
 {
@@ -98,19 +98,14 @@ fn run<R: Read, W: Write>(input: &mut R, out: &mut W, err: &impl Print) -> bool
     let mut room = [0u8; 65536];
     let mut n: usize = 0;
     let mut at: usize = 0;
-    let mut ended = false;
-    let mut turns = u64::MAX;
-    while turns > 0 {
-        turns -= 1;
+    for _ in 0..u64::MAX {
         if at == n {
-            let got = input.read(&mut space);
-            let failed = got.is_err();
-            n = got.unwrap_or(0);
+            n = match input.read(&mut space) {
+                Ok(0) => return Printed::end(out, err, log, waiting, &mut room).ok,
+                Ok(read) => read,
+                Err(_) => return unread(err),
+            };
             at = 0;
-            if n == 0 {
-                ended = is_end(err, failed);
-                turns = 0;
-            }
             continue;
         }
         let turn = Turn::of(out, err, log, waiting, &space[at..n], &mut room);
@@ -119,23 +114,19 @@ fn run<R: Read, W: Write>(input: &mut R, out: &mut W, err: &impl Print) -> bool
         log = left;
         waiting = next;
         at += turn.taken;
-        turns = turns_left(turns, turn.taken, turn.printed.ok);
-    }
-    if ended {
-        return Printed::end(out, err, log, waiting, &mut room).ok;
+        if turn.taken == 0 || !turn.printed.ok {
+            return false;
+        }
     }
     false
 }
 
-// Whether a read that brought nothing met the end of the log; where it failed, that is said.
-fn is_end(err: &impl Print, failed: bool) -> bool
-    ensures { result ≡ true → failed ≡ false }
+// Says that a read failed; the run is not whole then.
+fn unread(err: &impl Print) -> bool
+    ensures { result ≡ false }
 {
-    if failed {
-        let _ = err.write_all(b"cart: the input can't be read\n");
-        return false;
-    }
-    true
+    let _ = err.write_all(b"cart: the input can't be read\n");
+    false
 }
 
 // Whether a text could be printed; where not, that is said.
@@ -147,17 +138,4 @@ fn says<W: Write>(out: &mut W, err: &impl Print, text: &[u8]) -> bool
     }
     let _ = err.write_all(b"cart: the output can't be written\n");
     false
-}
-
-// None, where a write failed or no byte was taken.
-fn turns_left(turns: u64, taken: usize, going: bool) -> u64
-    ensures fewer { result ≤ turns }
-    ensures going { 0 < result → going ≡ true }
-{
-    if going {
-        if taken > 0 {
-            return turns;
-        }
-    }
-    0
 }
