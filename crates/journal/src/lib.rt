@@ -3,6 +3,7 @@
 
 ghost use Rattle.std.specs.Prelude.{◌≡◌, ◌<◌, set};
 ghost use Rattle.std.proofs.lemmas.List.Edits.{sets};
+ghost use Rattle.refusal.specs.Numbers.{number_in};
 ghost use Rattle.joining.specs.Frame.{frame_refusal};
 ghost use Rattle.joining.specs.Run.{senders};
 ghost use Rattle.times.specs.Run.{with_station, timed_at, untimed_at};
@@ -15,6 +16,7 @@ use bus::Bus;
 use items::{Item, Setting};
 use joining::{Answer, Session};
 use ranking::{Rule, Weights};
+use refusal::Refusal;
 use slot::Gauge;
 use times::{Station, Times};
 use values::Values;
@@ -36,12 +38,8 @@ pub struct Done {
 }
 
 impl Log {
-    // The log's own refusals.
+    // The refusal of a log that ends inside an item.
     pub const CUT: u8 = 21;
-
-    pub const UNKNOWN: u8 = 22;
-
-    pub const OUT_OF_PLACE: u8 = 23;
 
     // No item yet, no window, every session fresh, and no times.
     pub fn fresh() -> Log
@@ -65,11 +63,10 @@ impl Log {
     {
         let log = self.with_item();
         let item = Item::read(tag, value);
-        let refusal = log.item_refusal(item);
-        if refusal != 0 {
-            return log.refused(refusal, out, at);
+        match log.item_refusal(item) {
+            Ok(()) => log.by_item(item, item.data_in(value), out, at),
+            Err(refusal) => log.refused(refusal.number(), out, at),
         }
-        log.by_item(item, item.data_in(value), out, at)
     }
 
     fn with_item(self) -> Log
@@ -125,18 +122,26 @@ impl Log {
         }
     }
 
-    // Why an item is skipped; 0 for no reason.
-    fn item_refusal(self, item: Item) -> u8
-        ensures { result ≡ item_refusal self item }
+    // Why an item is skipped, if it is.
+    fn item_refusal(self, item: Item) -> Result<(), Refusal>
+        ensures { number_in result ≡ item_refusal self item }
     {
         let board = self.board;
         let window = board.window;
         let counts = window.counts;
         let rows = counts.size;
         match item {
-            Item::Unknown => Log::UNKNOWN,
-            Item::Window(_) => if rows == 0 { 0 } else { Log::OUT_OF_PLACE },
-            _ => if rows == 0 { Log::OUT_OF_PLACE } else { 0 },
+            Item::Unknown => Err(Refusal::UnknownItem),
+            Item::Window(_) => if rows == 0 {
+                Ok(())
+            } else {
+                Err(Refusal::ItemOutOfPlace)
+            },
+            _ => if rows == 0 {
+                Err(Refusal::ItemOutOfPlace)
+            } else {
+                Ok(())
+            },
         }
     }
 
