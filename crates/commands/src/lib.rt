@@ -275,25 +275,25 @@ fn rule(line: &[u8], n: u8) -> Option<u8>
     }
 }
 
-// The weight for heat, which is 0 where it isn't given.
+// The weight for heat, which is 0 where it isn't given: where nothing is behind the first five words, or a tie rule, `early`.
 #[tactic(auto, unfolding(crate::specs::Lines::heat_at))]
-fn heat_weight(line: &[u8]) -> Result<i16, Fault>
+fn heat_weight(line: &[u8], bare: bool, early: Option<u8>) -> Result<i16, Fault>
+    requires { (bare ≡ no_more 5 line.now) × (early ≡ tie_rule_at 5 line.now) }
     ensures { result ≡ heat_at line.now }
 {
-    if no_more(line, 5) || rule(line, 5).is_some() {
+    if bare || early.is_some() {
         Ok(0)
     } else {
         weight(Kind::Question, line, 5)
     }
 }
 
-// The tie rule of a question, which is newest where none is given.
+// The tie rule of a question, which is newest where none is given: `early`, which is word 5, with the line's end behind it, or else word 6.
 #[tactic(auto, unfolding(crate::specs::Lines::ties_at))]
-fn tie_rule(line: &[u8]) -> Option<u8>
+fn tie_rule(line: &[u8], early: Option<u8>, end: bool) -> Option<u8>
+    requires { (early ≡ tie_rule_at 5 line.now) × (end ≡ no_more 6 line.now) }
     ensures { result ≡ ties_at line.now }
 {
-    let early = rule(line, 5);
-    let end = no_more(line, 6);
     match early {
         Some(_) if end => early,
         Some(_) => None,
@@ -302,22 +302,15 @@ fn tie_rule(line: &[u8]) -> Option<u8>
     }
 }
 
-// Whether no tie rule is given.
-#[tactic(auto, unfolding(crate::specs::Lines::no_tie_rule))]
-fn no_rule(line: &[u8]) -> bool
-    ensures { result ≡ no_tie_rule line.now }
-{
-    rule(line, 5).is_none() && no_more(line, 6)
-}
-
 // The item that sets a question: by what is given of a weight for heat and a tie rule.
-#[tactic(auto, unfolding(crate::specs::Lines::question_item))]
-fn question_item(line: &[u8], s: Setting) -> Item
+#[tactic(auto, unfolding(crate::specs::Lines::question_item, crate::specs::Lines::no_tie_rule))]
+fn question_item(line: &[u8], bare: bool, early: Option<u8>, end: bool, s: Setting) -> Item
+    requires { (bare ≡ no_more 5 line.now) × (early ≡ tie_rule_at 5 line.now) × (end ≡ no_more 6 line.now) }
     ensures { result ≡ question_item line.now s }
 {
-    if no_more(line, 5) {
+    if bare {
         Item::Set(s)
-    } else if no_rule(line) {
+    } else if early.is_none() && end {
         Item::SetHeat(s)
     } else {
         Item::SetTies(s)
@@ -333,8 +326,11 @@ fn question_line(line: &[u8]) -> Result<Command, Fault>
     let k = value(kind, line, 2, 255)?;
     let loss = weight(kind, line, 3)?;
     let shake = weight(kind, line, 4)?;
-    let heat = heat_weight(line)?;
-    let ties = tie_rule(line).ok_or(Fault { kind, word: 6 })?;
+    let bare = no_more(line, 5);
+    let early = rule(line, 5);
+    let behind = no_more(line, 6);
+    let heat = heat_weight(line, bare, early)?;
+    let ties = tie_rule(line, early, behind).ok_or(Fault { kind, word: 6 })?;
     end(kind, line, 7)?;
     let setting = Setting {
         slot: slot as u8,
@@ -344,7 +340,7 @@ fn question_line(line: &[u8]) -> Result<Command, Fault>
         heat,
         ties,
     };
-    Ok(Command::Item(question_item(line, setting)))
+    Ok(Command::Item(question_item(line, bare, early, behind, setting)))
 }
 
 // The slot that is all that stands behind a line's first word.

@@ -62,16 +62,16 @@ fn tried(
     id: u32,
     data: &[u8],
 ) -> Session {
-    match lines::word(line, 0) {
-        b"session" => return asked(rt, line),
-        b"frame" => return take(rt, session, id, data),
-        b"advance" => return calls::lend(rt, session, id, data),
-        b"each" => each(rt, id, data),
-        b"payload" => calls::payload(rt, session),
-        b"bus" => calls::fresh(room),
-        b"take" => calls::heard(rt, room, id, data),
-        b"left" => calls::left(rt, room),
-        b"write" => calls::write(rt, line),
+    match wire::byte(line, 0) {
+        b's' => return asked(rt, line),
+        b'f' => return take(rt, session, id, data),
+        b'a' => return calls::lend(rt, session, id, data),
+        b'e' => each(rt, id, data),
+        b'p' => calls::payload(rt, session),
+        b'b' => calls::fresh(room),
+        b't' => calls::heard(rt, room, id, data),
+        b'l' => calls::left(rt, room),
+        b'w' => calls::write(rt, line),
         _ => {}
     }
     session

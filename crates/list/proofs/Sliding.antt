@@ -8,11 +8,10 @@ use native.Mathlib.Nat.{le_of_suc-le-suc, not-suc-le-zero, suc_inj, suc-ne-zero}
 use native.Mathlib.Numerals.{add-one}
 use native.Mathlib.Omega.{arith}
 use lib.IntN.{ℤ, pos}
-use lib.ListN.{length, take, drop, set, replicate, length-append, length-take, length-drop, length-replicate, drop_of_length-le, take-append-drop}
+use lib.ListN.{length, take, drop, get_or, set, replicate, length-append, length-take, length-drop, length-replicate, drop_of_length-le, take-append-drop}
 use lib.Seq.{take-take, take_at, drop_at, length-take-le}
 use borrow.Rule.Slice.PartMut.{put_mid}
-use Rattle.std.specs.List.{copy_within}
-use Rattle.std.proofs.lemmas.List.{drop-take, append_assoc, append-nil}
+use Rattle.std.proofs.lemmas.List.{append-nil}
 use Rattle.std.proofs.lemmas.List.Edits.{paste_all}
 use Rattle.std.proofs.lemmas.Slice.{put_mid-paste}
 use Rattle.search.specs.Best.{placed}
@@ -32,14 +31,22 @@ module _ {A : Type 0} where
   abbrev pub opened : (i last : ℕ) → List A → List A
   opened i last l = take (suc i) l ++ (drop i (take last l) ++ drop (suc last) l)
 
-  -- as a copy within the list leaves it
-  pub opened-copied : (at last : ℕ) (l : List A) → at ≤ last → copy_within l at last (at + 1) ≡ opened at last l
-  opened-copied at last l h =
-      let whole : at + (last - at) ≡ last = omega arith in
-      let past : at + 1 + (last - at) ≡ suc last = omega arith in
-      append_assoc (take (at + 1) l) (take (last - at) (drop at l)) (drop (at + 1 + (last - at)) l)
-      ∙ ap₂ (λ a b. a ++ b) (ap (λ n. take n l) (add-one at))
-      (ap₂ (λ a b. a ++ b) (sym (drop-take at (last - at) l) ∙ ap (λ n. drop at (take n l)) whole) (ap (λ n. drop n l) past))
+  pub opened-none : (m : ℕ) (l : List A) → m < length l → opened m m l ≡ l
+  opened-none m [] h = absurd (not-suc-le-zero h)
+  opened-none zero (y ∷ l) h = refl
+  opened-none (suc m) (y ∷ l) h = ap (λ r. y ∷ r) (opened-none m l (le_of_suc-le-suc h))
+
+  step : (d : A) (i m : ℕ) (l : List A) → i < m → m < length l → set (opened (suc i) m l) (suc i) (get_or (opened (suc i) m l) i d) ≡ opened i m l
+  step d i zero l h g = absurd (not-suc-le-zero h)
+  step d i (suc m) [] h g = absurd (not-suc-le-zero g)
+  step d zero (suc m) (y ∷ []) h g = absurd (not-suc-le-zero (le_of_suc-le-suc g))
+  step d zero (suc m) (y ∷ z ∷ l) h g = refl
+  step d (suc i) (suc m) (y ∷ l) h g = ap (λ r. y ∷ r) (step d i m l (le_of_suc-le-suc h) (le_of_suc-le-suc g))
+
+  -- one place further to the front
+  pub opened_more : (d : A) (i j m : ℕ) (l now : List A) → i ≡ suc j → i ≤ m → m < length l → now ≡ opened i m l → set now i (get_or now j d) ≡ opened j m l
+  opened_more d i j m l now e h g is =
+      ap₂ (λ n s. set s n (get_or s j d)) e (is ∙ ap (λ n. opened n m l) e) ∙ step d j m l (omega arith) g
 
   -- and x at that place
   pub closed : (x : A) (at m : ℕ) (l : List A) → at ≤ m → m < length l → set (opened at m l) at x ≡ slid at m x l

@@ -266,14 +266,22 @@ fn downward<'a, 'b>(
 pub fn numbers_in(names: [u32; Lines::MOST]) -> [u32; Lines::MOST]
     ensures { result ≡ numbers_in names }
 {
-    names.map(|name| Name::number(name))
+    let mut numbers = [0u32; Lines::MOST];
+    for i in 0..Lines::MOST {
+        numbers[i] = Name::number(names[i]);
+    }
+    numbers
 }
 
 // And their editions, as numbers: 0 for the first, one more than the heat for the second.
 pub fn editions_in(names: [u32; Lines::MOST]) -> [u16; Lines::MOST]
     ensures { result ≡ editions_in names }
 {
-    names.map(|name| (name % Name::EDITIONS) as u16)
+    let mut editions = [0u16; Lines::MOST];
+    for i in 0..Lines::MOST {
+        editions[i] = (names[i] % Name::EDITIONS) as u16;
+    }
+    editions
 }
 
 // The bar of the first `len` lines of two arrays, where it is told whether they are a full list.
@@ -311,7 +319,8 @@ fn wipe<'a>(names: &'a mut [u32; Lines::MOST], scores: &'a mut [i32; Lines::MOST
 }
 
 // One entry put in its rank among the first `len` lines of two arrays, once, of which at most `most` are kept: their
-// number then. The lines past them stay.
+// number then. The lines past them stay. It is kept out of the loops over rows, which it makes too large for the compiler to lay out by the rule.
+#[inline(never)]
 fn put_in<'a>(
     rule: Rule,
     names: &'a mut [u32; Lines::MOST],
@@ -387,8 +396,10 @@ fn slide<'a>(
     ensures { (names.new ≡ slid at last name names.old)
         × (scores.new ≡ slid at last score scores.old) }
 {
-    names.copy_within(at..last, at + 1);
-    scores.copy_within(at..last, at + 1);
+    for i in (at..last).rev() {
+        names[i + 1] = names[i];
+        scores[i + 1] = scores[i];
+    }
     names[at] = name;
     scores[at] = score;
 }

@@ -31,15 +31,15 @@ fn every_case(rt: &impl Print, text: &[u8]) {
 fn case(rt: &impl Print, line: &[u8]) {
     let mut space = [0u8; 96];
     text(rt, line);
-    match lines::word(line, 0) {
-        b"write" => write(rt, line),
-        b"huge" => written(rt, &mut space, line, Some(&[0u8; 65536])),
-        b"read" => {
+    match wire::byte(line, 0) {
+        b'w' => write(rt, line),
+        b'h' => written(rt, &mut space, line, Some(&[0u8; 65536])),
+        b'r' => {
             let n = cases::bytes(line, 1, &mut space);
             read(rt, wire::front(&space, n));
         }
-        b"long" => long(rt, line),
-        b"count" => {
+        b'l' => long(rt, line),
+        b'c' => {
             let n = cases::bytes(line, 2, &mut space);
             count(rt, &mut space, n, usize::from(cases::byte(line, 1)));
         }

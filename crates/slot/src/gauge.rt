@@ -69,8 +69,9 @@ fn lowest(question: Question) -> u32
     if question.len < question.k {
         return 0;
     }
+    let names = question.names;
     let mut low = u32::MAX;
-    for name in &question.names[..lines_in(question.len)] {
+    for name in &names[..lines_in(question.len)] {
         low = low.min(*name);
     }
     low

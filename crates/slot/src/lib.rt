@@ -185,8 +185,9 @@ fn has_place(question: Question, score: i32) -> bool
 fn least(question: Question) -> i32
     ensures { result ≡ least_of question }
 {
+    let scores = question.scores;
     match lines_in(question.len).checked_sub(1) {
-        Some(last) => question.scores[last],
+        Some(last) => scores[last],
         None => i32::MAX,
     }
 }
@@ -209,8 +210,9 @@ fn last_name(number: u32) -> u64
 fn lists(question: Question, gone: u32) -> bool
     ensures { result ≡ lists question gone }
 {
+    let names = question.names;
     let limit = last_name(gone);
-    for name in &question.names[..lines_in(question.len)] {
+    for name in &names[..lines_in(question.len)] {
         if u64::from(*name) <= limit {
             return true;
         }

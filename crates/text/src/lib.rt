@@ -153,11 +153,12 @@ fn spell(room: &mut [u8; Text::NUMBER], n: u64) -> &[u8]
 {
     let mut rest = n;
     for i in (0..Text::NUMBER).rev() {
-        room[i] = b'0' + (rest % 10) as u8;
-        rest /= 10;
-        if rest == 0 {
+        if rest < 10 {
+            room[i] = b'0' + rest as u8;
             return &room[i..];
         }
+        room[i] = b'0' + (rest % 10) as u8;
+        rest /= 10;
     }
     room
 }

@@ -97,7 +97,7 @@ module _ (room : List ℕ) (times : Times) (t id : ℕ) (d : List ℕ) where
         go false p = absurd (stops_so own t id d p z)
         go true p =
             let has = lt-ltb (sender_of id) 254 h in
-            record { answers = rw has (taken (stops own t id d) own.last z); sessions = f ∙ rw has; times = rw (has, p) }
+            record { answers = rw has (taken (stops own t id d) own.last z); sessions = f ∙ rw has; times = rw (has, p); stays = λ e. cc }
 
     -- ... or it refuses the frame, and stays.
     pub met-stops : {r : Refusal} → ◌≡◌ {A = Result (Unit {0}) Refusal} (Err r) (answered (stops own t id d) tt) → Meets lent t id d (Err r) q times
@@ -107,7 +107,12 @@ module _ (room : List ℕ) (times : Times) (t id : ℕ) (d : List ℕ) where
         go true p = absurd (refused_number {A = Unit {0}} (stops own t id d) tt e (rw p))
         go false p =
             let has = lt-ltb (sender_of id) 254 h in
-            record { answers = rw has (refused_alike {A = Unit {0}} (stops own t id d) tt own.last e); sessions = f ∙ rw has; times = rw (has, p) (sym same_last) }
+            record {
+              answers = rw has (refused_alike {A = Unit {0}} (stops own t id d) tt own.last e);
+              sessions = f ∙ rw has;
+              times = rw (has, p) (sym same_last);
+              stays = λ e. (f ∙ rw p (ap room_of (set-get_or (sessions_in room) (sender_of id) nobody)), refl);
+            }
 
   -- The untimed rules, at sessions ss that are the lent ones but perhaps for the sender's own, x.
   module _ (h : sender_of id < 254) (ss : List Session) (x : Session) (there : session_of (sender_of id) ss ≡ x)

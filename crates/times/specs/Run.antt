@@ -95,11 +95,12 @@ stations_met b t id d = cond (ltb (sender_of id) senders) (with_station b (sende
 abbrev pub refusal_met : Stations → ℕ → ℕ → List ℕ → ℕ
 refusal_met b t id d = cond (ltb (sender_of id) senders) (stops (station_of (sender_of id) b) t id d) 0
 
--- It answers that refusal, or what the sender's last time was.
+-- It answers that refusal, or what the sender's last time was. Where it refuses, all stands as it was: the last time is what `Times::of` tells then too.
 pub record Meets (b : Stations) (t id : ℕ) (d : List ℕ) (r : Result Last Refusal) (room : List ℕ) (left : Times) : Type 0 where
   pub answers : r ≡ answered (refusal_met b t id d) (cond (ltb (sender_of id) senders) (last_of (sender_of id) b.times) no_time)
   pub sessions : room ≡ room_of (stations_met b t id d).sessions
   pub times : left ≡ (stations_met b t id d).times
+  pub stays : {e : Refusal} → r ≡ Err e → (room ≡ room_of b.sessions) × (left ≡ b.times)
 
 -- A run of frames: what is there at its end, and the answers in order.
 unfoldable pub stations_after_all : Stations → List Timed → Stations

@@ -19,10 +19,8 @@ module _ (l : List ℕ) (i rest n : ℕ) (room : length (decimal rest) ≤ i) (w
   more : 10 ≤ rest → decimal (rest / 10) ++ drop (i - 1) (set l (i - 1) (48 + rest % 10)) ≡ decimal n
   more h = rw (joined (48 + rest % 10)) (sym (append_assoc (decimal (rest / 10)) ((48 + rest % 10) ∷ []) (drop i l)) ∙ rw (decimal_more rest h) at told)
 
-  last : rest < 10 → drop (i - 1) (set l (i - 1) (48 + rest % 10)) ≡ decimal n
-  last h =
-      let digit : rest % 10 ≡ rest = omega arith in
-      rw digit (joined (48 + rest) ∙ rw (decimal_one rest h) at told)
+  last : rest < 10 → drop (i - 1) (set l (i - 1) (48 + rest)) ≡ decimal n
+  last h = joined (48 + rest) ∙ rw (decimal_one rest h) at told
 
 pub loop-i-init : goal.loop-i-init
 loop-i-init c = record { room_left = decimal64_longest c.args.n (search rules); told = rw (drop_of_length-le c.args.room.now {i = 20} (search rules)) (append-nil (decimal c.args.n)) }
@@ -33,7 +31,7 @@ loop-i-preserved c =
     let fewer = length_more l.rest (search rules) in
     record { room_left = omega arith; told = more l.room l.i l.rest c.args.n l.invariant.room_left (search rules) l.invariant.told (search rules) }
 
-pub returns-then-rest-eq0 : goal.returns-then-rest-eq0
-returns-then-rest-eq0 c =
+pub returns-then-rest-lt10 : goal.returns-then-rest-lt10
+returns-then-rest-lt10 c =
     let l = c.loop-i in
     take_all _ _ (omega (arith, length-drop {A = ℕ}, length-set {A = ℕ})) ∙ last l.room l.i l.rest c.args.n l.invariant.room_left (search rules) l.invariant.told (search rules)

@@ -8,4 +8,4 @@ use Rattle.times.proofs.Times.meet_in.Goals as goal
 pub returns-then-k-ge-SENDERS : goal.returns-then-k-ge-SENDERS
 returns-then-k-ge-SENDERS c =
     let has = le-ltb _ 254 c.if-k-ge-SENDERS.true in
-    record { answers = rw has; sessions = rw has (sym (room_of_sessions 254 c.args.room.now c.requires)); times = rw has }
+    record { answers = rw has; sessions = rw has (sym (room_of_sessions 254 c.args.room.now c.requires)); times = rw has; stays = λ e. cc }
